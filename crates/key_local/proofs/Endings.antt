@@ -19,6 +19,7 @@ use Rattle.flash_build.specs.Building.{load_calls}
 use Rattle.edge_traits.specs.Devices.{Device, Counts, ChangesOnly}
 use Rattle.edge_traits.specs.Written.{grown}
 use Rattle.key_inputs.specs.Openings.{Opening}
+use Rattle.key_session.specs.Calls.{session_calls}
 use Rattle.key_words.specs.Words.{Local}
 use Rattle.key_plain.specs.Openings.{PlainInput}
 use Rattle.key_lines.specs.Handing.{Hands, handed}
@@ -34,7 +35,6 @@ use Rattle.key_local.specs.declared.ends.LocalFailure.{LocalFailure}
 use Rattle.key_local.specs.declared.ends.LocalFailure.TheVariants as failure
 use Rattle.key_local.specs.declared.opening.Opened.{Opened}
 use Rattle.key_local.proofs.Keeping.{lines_there}
-use Rattle.key_local.proofs.Scanning.{for_scan}
 
 -- what was given since the flash was made was given since before
 abbrev gives_since : (schema : Schema) (database : Database) (texts : List (List ℕ)) (failed : Bool) (before middle after : LocalSide)
@@ -72,6 +72,10 @@ rose_after before more now later counts rose = of_cases (cases_lt now last_count
     of_cases (inl below) = let is = counts.exact below in omega (arith, is, rose)
     of_cases (inr last) = omega (arith, last, rose)
 
+-- so many calls more
+few_since : (before more now later texts : ℕ) → Counts more before now → later ≤ now + texts → later ≤ before + (more + texts)
+few_since before more now later texts counts few = let most = counts.most in omega (arith, most, few)
+
 lines_since : (catalog : Catalog) (texts : List (List ℕ)) (journal : Journal) (failed : Bool) (before middle after : LocalSide) → middle.sink_faults ≡ before.sink_faults → middle.written ≡ before.written
     → GivesLines catalog texts journal (handed false middle.sink_faults middle.written) (handed failed after.sink_faults after.written)
     → GivesLines catalog texts journal (handed false before.sink_faults before.written) (handed failed after.sink_faults after.written)
@@ -102,13 +106,17 @@ ran_of told schema database texts words end catalog before middle after same ran
       lines = lines_since (catalog_for schema database) texts mine.journal (is_sink end) before middle after sink written mine.lines;
       gives = λ t. gives_since schema database texts (is_sink end) before middle after faults sink written (mine.gives t);
       printed_all = λ t whole. mine.printed_all t whole ∙ ap (λ (held : Option (List ℕ)). grown held (printed schema texts database)) written;
+      few_calls = λ t is_pre unfailed less.
+          let built = subst (λ (c : Catalog). Counts (load_calls c (hidden_of schema database)) before.device.calls middle.device.calls) same counts in
+          few_since before.device.calls (load_calls (catalog_for schema database) (hidden_of schema database)) middle.device.calls after.device.calls (session_calls schema database texts) built
+          (mine.few_calls t is_pre (λ rose. unfailed (subst (λ (count : ℕ). Rose count after.device.faults) faults rose)) less);
       cut = λ t is. mine.cut t is;
       more_calls = λ is.
           let built = subst (λ (c : Catalog). Counts (load_calls c (hidden_of schema database)) before.device.calls middle.device.calls) same counts in
           rose_after before.device.calls (load_calls (catalog_for schema database) (hidden_of schema database)) middle.device.calls after.device.calls built (mine.called is);
-      damage_called = for_scan words.plan (λ goes is.
+      damage_called = λ is.
           let built = subst (λ (c : Catalog). Counts (load_calls c (hidden_of schema database)) before.device.calls middle.device.calls) same counts in
-          rose_after before.device.calls (load_calls (catalog_for schema database) (hidden_of schema database)) middle.device.calls after.device.calls built (goes is)) mine.damage_called;
+          rose_after before.device.calls (load_calls (catalog_for schema database) (hidden_of schema database)) middle.device.calls after.device.calls built (mine.damage_called is);
       undamaged = mine.undamaged;
       damaged = mine.damaged;
       holds = λ t. subst (λ (c : Catalog). Holds after.device.page c (hidden_of schema database)) same

@@ -1,9 +1,9 @@
 -- What a session ran over, from what the key, the link and the journal's file tell.
-use Rattle.std.proofs.Common.{◌≡◌, ◌+◌, ℕ, Bool, true, false, List, [], Option, None, refl, sym, ap, ◌∙◌, subst}
-use Rattle.std.specs.Prelude.{◌%◌}
+use Rattle.std.proofs.Common.{◌≡◌, ◌+◌, ◌≤◌, ◌<◌, ℕ, Bool, true, false, List, [], ◌∷◌, length, Option, None, refl, sym, ap, ◌∙◌, subst}
+use Rattle.std.specs.Prelude.{◌%◌, take}
 use Rattle.std.specs.List.{list_any}
 use Rattle.ghost_model.specs.core.Asks.{asked_of}
-use Rattle.ghost_model.specs.core.Causes.{Rose}
+use Rattle.ghost_model.specs.core.Causes.{Rose, last_count}
 use Rattle.ghost_model.specs.core.Channel.{Catalog, Journal}
 use Rattle.ghost_model.specs.core.NextMove.{Standing, standing_after, IsFinished}
 use Rattle.ghost_model.specs.core.Schema.{Schema}
@@ -13,13 +13,18 @@ use Rattle.ghost_model.specs.laws.SchemaTrees.{IsTree}
 use Rattle.edge_traits.specs.Devices.{Device, ChangesOnly}
 use Rattle.edge_traits.specs.Files.{Files}
 use Rattle.edge_traits.specs.Written.{grown}
-use Rattle.session_laws.specs.Local.{IsLocal, IsUnbroken, LocalSessionsAreServed}
+use Rattle.ghost_model.specs.core.Honest.{IsHonest}
+use Rattle.ghost_model.specs.core.Local.{IsServedBy}
+use Rattle.ghost_model.specs.core.Split.{public_of}
+use Rattle.ghost_model.specs.laws.SessionLaws.{ThisHostIsHonest}
+use Rattle.session_laws.specs.Local.{IsLocal, IsUnbroken, LocalSessionsAreServed, holding_of}
 use Rattle.key_session.specs.Pacing.{KeepsPace}
 use Rattle.key_session.specs.Refusing.{first_code}
 use Rattle.key_session.specs.Running.{blames_flash, is_sink as wrote_none, is_damaged as is_damage}
 use Rattle.key_session.specs.Damages.{IsSlot}
 use Rattle.leakless_plan.specs.declared.plan.Plan.{Plan}
-use Rattle.key_exec.specs.Jobs.{ForScan}
+use Rattle.leakless_plan.specs.declared.plan.Plan.TheVariants.{Pre}
+use Rattle.key_session.specs.Calls.{session_calls}
 use Rattle.key_exec.specs.Laws.{DamageStays, KeepsStatic}
 use Rattle.key_exec.specs.declared.damage.Damage.{Damage}
 use Rattle.key_session.specs.declared.tally.SessionStatus.TheVariants as status
@@ -30,7 +35,6 @@ use Rattle.key_local.specs.Running.{RanOver, KeepsLines}
 use Rattle.key_local.specs.Sessions.{LocalSide, GivesLines, local_side, session_side_in, is_sink, is_damaged}
 use Rattle.key_local.specs.declared.ends.LocalEnd.{LocalEnd}
 use Rattle.key_local.specs.declared.ends.LocalEnd.TheVariants as ends
-use Rattle.key_local.proofs.Scanning.{for_scan}
 use Rattle.key_local.proofs.Statuses.{none_stops, no_code, whole_status, flash_status, damage_found, no_damage}
 
 not_so : (b : Bool) → (b ≡ true → ⊥) → b ≡ false
@@ -95,10 +99,12 @@ pub ran_over : (by : Plan) (pace : List ℕ) (told : Bool) (catalog : Catalog) (
     → GivesLines catalog texts journal (handed false before.sink_faults before.written) (handed (wrote_none tally.status) after.sink_faults after.written)
     → ((damage : Damage) → tally.status ≡ status.Damaged damage → IsSlot by told before.device.page catalog texts damage) → ChangesOnly (static_end catalog) (need catalog) before.device after.device
     → is_sink end ≡ wrote_none tally.status → (end ≡ ends.Ok → tally.status ≡ status.Ok) → (end ≡ ends.Flash → blames_flash tally.status ≡ true)
-    → (blames_flash tally.status ≡ true → Rose before.device.calls after.device.calls) → ForScan by (is_damage tally.status ≡ true → Rose before.device.calls after.device.calls)
+    → (blames_flash tally.status ≡ true → Rose before.device.calls after.device.calls) → (is_damage tally.status ≡ true → Rose before.device.calls after.device.calls)
     → ((damage : Damage) → end ≡ ends.Damaged damage → tally.status ≡ status.Damaged damage)
+    → (told ≡ true → by ≡ Pre → (Rose before.device.faults after.device.faults → ⊥) → after.device.calls < last_count
+    → after.device.calls ≤ before.device.calls + session_calls catalog.schema database texts)
     → RanOver by pace told catalog database texts name end before after
-ran_over by pace told catalog database texts name end tally before after journal served given stays_damaged tree is_local finished paced kept all_kept are_told lines blamed pages sink whole flash called read damaged =
+ran_over by pace told catalog database texts name end tally before after journal served given stays_damaged tree is_local finished paced kept all_kept are_told lines blamed pages sink whole flash called read damaged few =
     let unbroken = served catalog database [] texts journal is_local in
     let stays = going catalog database texts journal unbroken in
     let right = valid catalog database texts journal unbroken in
@@ -120,12 +126,13 @@ ran_over by pace told catalog database texts name end tally before after journal
           let uncut : list_any is_cut all.gives.given ≡ false = whole_status (wrote_none tally.status) (standing_after catalog (asked_of catalog.schema texts) journal) (list_any is_cut all.gives.given) stays right none (sym all.status_is ∙ fine) in
           let took = all.gives.handed_on.whole (ap wrote_none fine) in
           took.written ∙ ap (λ (piece : List ℕ). grown before.written piece) (all.gives.lines.whole uncut);
+      few_calls = few;
       cut = λ t is.
           let all = by_tally t in
           flash_status (wrote_none tally.status) (standing_after catalog (asked_of catalog.schema texts) journal) (list_any is_cut all.gives.given) stays right none
           (sym (ap blames_flash all.status_is) ∙ flash is);
       called = λ is. called (flash is);
-      damage_called = for_scan by (λ goes is. goes (damage_found end tally.status damaged is)) read;
+      damage_called = λ is. read (damage_found end tally.status damaged is);
       undamaged = λ t. not_so (is_damaged end) (λ found.
           let all = by_tally t in
           let none_found : is_damage tally.status ≡ false = ap is_damage all.status_is ∙ no_damage (wrote_none tally.status) (standing_after catalog (asked_of catalog.schema texts) journal) (list_any is_cut all.gives.given) stays right none in
@@ -145,3 +152,14 @@ ran_as {D} contents appends by pace told catalog database texts name called end 
     subst (λ (one : Option (List ℕ)). RanOver by pace told catalog database texts one end (local_side device (contents earlier) (appends earlier) faults written) (local_side device_now (contents later) (appends later) faults_now written_now)) names
     (subst (λ (d : D). RanOver by pace told catalog database texts name end (local_side device (contents d) (appends d) faults written) (local_side device_now (contents later) (appends later) faults_now written_now)) starts
     (subst (λ (d : D). RanOver by pace told catalog database texts name end (local_side device (contents before) (appends before) faults written) (local_side device_now (contents d) (appends d) faults_now written_now)) comes ran))
+
+take_all : {X : Type 0} (some : List X) → take (length some) some ≡ some
+take_all [] = refl
+take_all {X} (first ∷ some) = ap (λ (xs : List X). first ∷ xs) (take_all some)
+
+-- the host in the process is honest
+pub is_honest : ThisHostIsHonest → (catalog : Catalog) (database : Database) (texts : List (List ℕ)) (journal : Journal) → IsLocal catalog database [] texts journal → IsUnbroken catalog database texts journal
+    → IsHonest catalog (public_of catalog.schema database) journal
+is_honest honest catalog database texts journal is_local unbroken =
+    let served : IsServedBy (holding_of catalog database) journal = subst (λ (one : Journal). IsServedBy (holding_of catalog database) one) (take_all journal) (unbroken.throughout (length journal)) in
+    honest catalog (public_of catalog.schema database) [] texts journal served.rest is_local.setting is_local.proper unbroken.goes_on served.said

@@ -5,7 +5,6 @@ pub mod Keeping
 pub mod Begun
 pub mod Hosting
 pub mod Statuses
-pub mod Scanning
 pub mod Giving
 pub mod Endings
 mod Renamed

@@ -1,7 +1,7 @@
 -- What the session itself does, apart from what was made for it.
-use Rattle.std.specs.Prelude.{◌≡◌, ℕ, Bool, true, false, List, [], Option, None, Some, ⊤}
+use Rattle.std.specs.Prelude.{◌≡◌, ℕ, ◌+◌, ◌≤◌, ◌<◌, Bool, true, false, List, [], Option, None, Some, ⊤}
 use Rattle.std.specs.List.{list_any}
-use Rattle.ghost_model.specs.core.Causes.{Rose}
+use Rattle.ghost_model.specs.core.Causes.{Rose, last_count}
 use Rattle.ghost_model.specs.core.Channel.{Catalog, Journal}
 use Rattle.ghost_model.specs.core.Moves.{lines}
 use Rattle.ghost_model.specs.core.NextMove.{IsFinished}
@@ -10,13 +10,14 @@ use Rattle.ghost_model.specs.core.Honest.{IsCatalogOf}
 use Rattle.ghost_model.specs.core.Values.{Database}
 use Rattle.session_laws.specs.Local.{IsLocal, holding_of}
 use Rattle.leakless_plan.specs.declared.plan.Plan.{Plan}
+use Rattle.leakless_plan.specs.declared.plan.Plan.TheVariants as plan
 use Rattle.edge_traits.specs.Files.{Files}
 use Rattle.edge_traits.specs.Written.{grown}
 use Rattle.local_links.specs.Journaling.{told_file}
 use Rattle.local_links.specs.declared.host_link.HostLink.{HostLink}
+use Rattle.key_session.specs.Calls.{session_calls}
 use Rattle.key_session.specs.Damages.{IsSlot}
 use Rattle.key_session.specs.Pacing.{KeepsPace}
-use Rattle.key_exec.specs.Jobs.{ForScan}
 use Rattle.key_exec.specs.declared.damage.Damage.{Damage}
 use Rattle.key_session.specs.declared.tally.SessionStatus.{SessionStatus}
 use Rattle.key_session.specs.declared.tally.SessionStatus.TheVariants as status
@@ -68,9 +69,11 @@ pub record RanOver (by : Plan) (pace : List ℕ) (told : Bool) (catalog : Catalo
   pub lines : GivesLines catalog texts journal (handed false before.sink_faults before.written) (handed (is_sink end) after.sink_faults after.written)
   pub gives : told ≡ true → Gives catalog.schema database texts (session_side_in false before) (session_side_in (is_sink end) after)
   pub printed_all : told ≡ true → end ≡ ends.Ok → after.written ≡ grown before.written (printed catalog.schema texts database)
+  -- by the indexes, where the flash does not fail, it is called no more often than the texts take
+  pub few_calls : told ≡ true → by ≡ plan.Pre → (Rose before.device.faults after.device.faults → ⊥) → after.device.calls < last_count
+      → after.device.calls ≤ before.device.calls + session_calls catalog.schema database texts
   pub cut : (t : told ≡ true) → end ≡ ends.Flash → list_any is_cut (gives t).given ≡ true
   pub called : end ≡ ends.Flash → Rose before.device.calls after.device.calls
-  -- where all rows are looked at
-  pub damage_called : ForScan by (is_damaged end ≡ true → Rose before.device.calls after.device.calls)
+  pub damage_called : is_damaged end ≡ true → Rose before.device.calls after.device.calls
   pub undamaged : told ≡ true → is_damaged end ≡ false
   pub damaged : (damage : Damage) → end ≡ ends.Damaged damage → IsSlot by told after.device.page catalog texts damage

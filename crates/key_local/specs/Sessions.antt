@@ -1,8 +1,8 @@
 -- What a session with a host in the key's own process does: it goes by the one journal of its database and its texts, keeps
 -- that journal where a file is named for it, and gives each text's lines.
-use Rattle.std.specs.Prelude.{◌≡◌, ℕ, ◌+◌, Bool, true, false, List, [], length, Option, None, Some, ⊤}
+use Rattle.std.specs.Prelude.{◌≡◌, ℕ, ◌+◌, ◌≤◌, ◌<◌, Bool, true, false, List, [], length, Option, None, Some, ⊤}
 use Rattle.std.specs.List.{list_any}
-use Rattle.ghost_model.specs.core.Causes.{Rose}
+use Rattle.ghost_model.specs.core.Causes.{Rose, last_count}
 use Rattle.ghost_model.specs.core.Channel.{Catalog, Journal}
 use Rattle.ghost_model.specs.core.Database.{row_counts}
 use Rattle.ghost_model.specs.forms.Flash.{Holds}
@@ -18,9 +18,10 @@ use Rattle.session_laws.specs.Local.{IsLocal}
 use Rattle.edge_traits.specs.Devices.{Device}
 use Rattle.edge_traits.specs.Files.{Files, HasFile, SameBut}
 use Rattle.edge_traits.specs.Written.{grown}
+use Rattle.leakless_plan.specs.declared.plan.Plan.TheVariants as plan
+use Rattle.key_session.specs.Calls.{session_calls}
 use Rattle.key_session.specs.Pacing.{KeepsPace}
 use Rattle.key_session.specs.Damages.{IsSlot}
-use Rattle.key_exec.specs.Jobs.{ForScan}
 use Rattle.key_exec.specs.declared.damage.Damage.{Damage}
 use Rattle.ghost_model.specs.core.Lines.{Reason}
 use Rattle.key_lines.specs.Handing.{Handed, handed}
@@ -110,13 +111,15 @@ pub record Ran (told : Bool) (one : Subject) (end : LocalEnd) (before after : Lo
   -- each text has its lines, or a front of them where the flash failed
   pub gives : told ≡ true → Gives one.schema one.database one.texts (session_side_in false before) (session_side_in (is_sink end) after)
   pub printed_all : told ≡ true → end ≡ ends.Ok → after.written ≡ grown before.written (printed one.schema one.texts one.database)
+  -- by the indexes, where the flash does not fail, it is called no more often than the making and the texts take
+  pub few_calls : told ≡ true → one.words.plan ≡ plan.Pre → (Rose before.device.faults after.device.faults → ⊥) → after.device.calls < last_count
+      → after.device.calls ≤ before.device.calls + (load_calls (catalog_in one) (hidden_of one.schema one.database) + session_calls one.schema one.database one.texts)
   -- the flash is blamed only where it failed a text
   pub cut : (t : told ≡ true) → end ≡ ends.Flash → list_any is_cut (gives t).given ≡ true
   -- and by a call of the session, after those of the making
   pub more_calls : end ≡ ends.Flash → Rose (before.device.calls + load_calls (catalog_in one) (hidden_of one.schema one.database)) after.device.calls
-  -- and so, where all rows are looked at, is a slot
-  pub damage_called : ForScan one.words.plan
-      (is_damaged end ≡ true → Rose (before.device.calls + load_calls (catalog_in one) (hidden_of one.schema one.database)) after.device.calls)
+  -- and so is a slot
+  pub damage_called : is_damaged end ≡ true → Rose (before.device.calls + load_calls (catalog_in one) (hidden_of one.schema one.database)) after.device.calls
   -- where the pages are told none is
   pub undamaged : told ≡ true → is_damaged end ≡ false
   -- where all rows are looked at it is one of a hidden column and has no value of it; by the indexes, where what the pages are of is

@@ -27,6 +27,7 @@ use edge_traits::flash::Flash;
 use edge_traits::mem_depot::MemDepot;
 use edge_traits::sink::Sink;
 use ghost_model::layout::catalogs_are_limited;
+use ghost_model::session_laws::this_host_is_honest;
 use key_exec::laws::{knowledge_is_enough, knowledge_stays};
 use key_session::{Options, SessionStatus, run_session};
 use key_words::LocalWords;
@@ -105,6 +106,7 @@ fn hold<D: Depot, F: Flash, O: Sink>(
     sessions_are_local::<MemDepot>();
     proper_journals_are_written::<HostLink<MemDepot>, D>();
     local_sessions_are_served();
+    this_host_is_honest();
     told_texts_are_given();
     knowledge_is_enough();
     knowledge_stays();

@@ -11,7 +11,6 @@ use Rattle.key_words.specs.Words.{Query}
 use Rattle.key_inputs.specs.Openings.{Spelled, Broken}
 use Rattle.key_inputs.specs.Scripts.{script_opening}
 use Rattle.key_inputs.specs.Views.{rule_of}
-use Rattle.key_exec.specs.Jobs.{ForScan}
 use Rattle.key_session.specs.Answering.{AnswersWhereSound}
 use Rattle.key_session.specs.Pacing.{KeepsPace}
 use Rattle.key_session.specs.Running.{HasRun, blames_flash, is_damaged}
@@ -48,9 +47,9 @@ pub record Runs (goes : Journal → Type 0) (link_before link_now : ℕ) (told :
   pub texts : tally.texts ≡ length (texts_of script)
   -- only pages behind the static ones changed, to which the replies are written
   pub kept : ChangesOnly (static_end cat) (need cat) opened now.flash
-  -- the flash is blamed only for a call of the session, and so, where all rows are looked at, is a slot of it
+  -- the flash is blamed only for a call of the session, and so is a slot of it
   pub called : blames_flash tally.status ≡ true → Rose opened.calls now.flash.calls
-  pub damage_called : ForScan words.plan (is_damaged tally.status ≡ true → Rose opened.calls now.flash.calls)
+  pub damage_called : is_damaged tally.status ≡ true → Rose opened.calls now.flash.calls
 
 -- the script's file keeps every rule
 abbrev pub HasScript : Option Files → (name : List ℕ) → Type 0

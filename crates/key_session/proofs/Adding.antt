@@ -11,8 +11,6 @@ use Rattle.ghost_model.specs.core.Channel.{Catalog, Journal}
 use Rattle.ghost_model.specs.core.Lines.{Reason}
 use Rattle.key_lines.specs.Handing.{Handed, Hands, PiecesJoin}
 use Rattle.leakless_plan.specs.declared.plan.Plan.{Plan}
-use Rattle.leakless_plan.specs.declared.plan.Plan.TheVariants.{Scan, Pre}
-use Rattle.key_exec.specs.Jobs.{ForScan}
 use Rattle.key_exec.specs.Rows.{PrintsSome}
 use Rattle.key_exec.specs.Texts.{ToldTells, ToldCalls, ToldBlames}
 use Rattle.key_exec.specs.declared.text.Told.{Told}
@@ -148,28 +146,19 @@ rose_before most since before now e f = omega (arith, e, f)
 pub rose_then : (most since before now : ℕ) → min since most ≤ before → min (before + 1) most ≤ now → min (since + 1) most ≤ now
 rose_then most since before now e f = omega (arith, e, f)
 
--- what is said of a session that looks at all rows
-pub said : {Said : Type 0} → (plan : Plan) → Said → ForScan plan Said
-said Scan is = is
-said Pre is = tt
-
-pub said_then : {One Other : Type 0} → (plan : Plan) → (One → Other) → ForScan plan One → ForScan plan Other
-said_then Scan goes is = goes is
-said_then Pre goes is = tt
-
 -- a text that was ended by the flash was marked, or the flash was called for it
-flash_called : (plan : Plan) (since start now : ℕ) (marked : Bool) (result : Told) → min since last_count ≤ start → ToldCalls plan start now result → TellsMark marked result → (marked ≡ true → Rose since now)
+flash_called : (since start now : ℕ) (marked : Bool) (result : Told) → min since last_count ≤ start → ToldCalls start now result → TellsMark marked result → (marked ≡ true → Rose since now)
     → is_flash (reason_of result) ≡ true → Rose since now
-flash_called plan since start now marked told.Flash stayed called mark rose e = rose_then last_count since start now stayed called
-flash_called plan since start now marked told.Marked stayed called mark rose e = rose mark
-flash_called plan since start now marked told.Refused stayed called mark rose e = cc
-flash_called plan since start now marked told.Answered stayed called mark rose e = cc
-flash_called plan since start now marked told.Host stayed called mark rose e = cc
-flash_called plan since start now marked told.Link stayed called mark rose e = cc
-flash_called plan since start now marked told.Protocol stayed called mark rose e = cc
-flash_called plan since start now marked (told.Damaged damage) stayed called mark rose e = cc
+flash_called since start now marked told.Flash stayed called mark rose e = rose_then last_count since start now stayed called
+flash_called since start now marked told.Marked stayed called mark rose e = rose mark
+flash_called since start now marked told.Refused stayed called mark rose e = cc
+flash_called since start now marked told.Answered stayed called mark rose e = cc
+flash_called since start now marked told.Host stayed called mark rose e = cc
+flash_called since start now marked told.Link stayed called mark rose e = cc
+flash_called since start now marked told.Protocol stayed called mark rose e = cc
+flash_called since start now marked (told.Damaged damage) stayed called mark rose e = cc
 
-damage_called : (since start now : ℕ) (result : Told) → min since last_count ≤ start → ToldCalls Scan start now result → is_damage (reason_of result) ≡ true → Rose since now
+damage_called : (since start now : ℕ) (result : Told) → min since last_count ≤ start → ToldCalls start now result → is_damage (reason_of result) ≡ true → Rose since now
 damage_called since start now told.Flash stayed called e = cc
 damage_called since start now told.Marked stayed called e = cc
 damage_called since start now told.Refused stayed called e = cc
@@ -187,19 +176,18 @@ rose_more since now first second called calls e =
     ]
 
 -- the flash was called where one of the texts met a fault of it
-pub called_more : (plan : Plan) (since start before now : ℕ) (old new : Counts) (marked : Bool) (result : Told) → IsCounted (reason_of result) old new
-    → (old.by_flash ≡ true → Rose since before) → min before last_count ≤ now → min since last_count ≤ start → ToldCalls plan start now result
+pub called_more : (since start before now : ℕ) (old new : Counts) (marked : Bool) (result : Told) → IsCounted (reason_of result) old new
+    → (old.by_flash ≡ true → Rose since before) → min before last_count ≤ now → min since last_count ≤ start → ToldCalls start now result
     → TellsMark marked result → (marked ≡ true → Rose since before) → new.by_flash ≡ true → Rose since now
-called_more plan since start before now old new marked result counted called stays stayed calls mark rose e =
+called_more since start before now old new marked result counted called stays stayed calls mark rose e =
     rose_more since now old.by_flash (is_flash (reason_of result)) (λ f. rose_before last_count since before now (called f) stays)
-    (flash_called plan since start now marked result stayed calls mark (λ m. rose_before last_count since before now (rose m) stays)) (sym counted.by_flash ∙ e)
+    (flash_called since start now marked result stayed calls mark (λ m. rose_before last_count since before now (rose m) stays)) (sym counted.by_flash ∙ e)
 
 -- and where one of them met damage
-pub damage_called_more : (plan : Plan) (since start before now : ℕ) (old new : Counts) (result : Told) → IsCounted (reason_of result) old new
-    → ForScan plan (is_some old.damage ≡ true → Rose since before) → min before last_count ≤ now → min since last_count ≤ start → ToldCalls plan start now result
-    → ForScan plan (is_some new.damage ≡ true → Rose since now)
-damage_called_more Pre since start before now old new result counted called stays stayed calls = tt
-damage_called_more Scan since start before now old new result counted called stays stayed calls = λ e.
+pub damage_called_more : (since start before now : ℕ) (old new : Counts) (result : Told) → IsCounted (reason_of result) old new
+    → (is_some old.damage ≡ true → Rose since before) → min before last_count ≤ now → min since last_count ≤ start → ToldCalls start now result
+    → is_some new.damage ≡ true → Rose since now
+damage_called_more since start before now old new result counted called stays stayed calls e =
     rose_more since now (is_some old.damage) (is_damage (reason_of result)) (λ f. rose_before last_count since before now (called f) stays)
     (damage_called since start now result stayed calls) (sym counted.found ∙ e)
 

@@ -47,7 +47,7 @@ use Rattle.key_session.proofs.Coming.{done_so}
 use Rattle.key_session.proofs.OneMore.{PageLaws, tell_one, no_fall, files_kept}
 use Rattle.key_session.proofs.Readings.{read_later}
 use Rattle.key_session.proofs.Marking.{marked_same}
-use Rattle.key_session.proofs.Adding.{said_then, next_of, still_no_fall, rose_before, either_of}
+use Rattle.key_session.proofs.Adding.{next_of, still_no_fall, rose_before, either_of}
 
 -- ---- the text that comes next is taken up
 
@@ -171,7 +171,7 @@ telling_spared plan pages_told catalog texts journal top since sink before now p
       pages = files_kept catalog since.flash before now telling.pages keeps;
       calls = still_no_fall last_count since.flash.calls before.calls now.calls telling.calls calls;
       called = λ e. rose_before last_count since.flash.calls before.calls now.calls (telling.called e) calls;
-      damage_called = said_then plan (λ rose e. rose_before last_count since.flash.calls before.calls now.calls (rose e) calls) telling.damage_called;
+      damage_called = λ e. rose_before last_count since.flash.calls before.calls now.calls (telling.damage_called e) calls;
       faults = subst (λ (n : ℕ). min since.flash.faults last_count ≤ n) (sym faults) telling.faults;
       marked = marked_same catalog texts count since.flash.calls before.calls now.calls store store (λ text. refl) calls telling.marked;
       prints = telling.prints;

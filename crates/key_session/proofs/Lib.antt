@@ -15,13 +15,19 @@ pub mod PushRows
 pub mod PushCalls
 pub mod RowsHeard
 pub mod Closing
+pub mod PageNumbers
+pub mod CallSums
+pub mod HonestReplies
 pub mod KeptLaws
 pub mod Heard
+pub mod Filled
+pub mod LastPages
 pub mod Coming
 pub mod Adding
 pub mod Marking
 pub mod Readings
 pub mod OneMore
+pub mod Spent
 pub mod Attending
 pub mod Moving
 pub mod Beginning
@@ -30,4 +36,5 @@ pub mod Stepping
 pub mod Settings
 pub mod HonestRuns
 pub mod Running
+pub mod SessionCalls
 pub mod Agreeing

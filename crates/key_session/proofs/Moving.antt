@@ -59,7 +59,7 @@ use Rattle.key_session.specs.declared.teller.Teller.{Teller}
 use Rattle.key_session.proofs.Coming.{done_so, done_still}
 use Rattle.key_session.proofs.Attending.{settled_outcome, before_settled, unsettled, within_now}
 use Rattle.key_session.proofs.OneMore.{no_fall, files_on, half_files}
-use Rattle.key_session.proofs.Adding.{said_then, still_no_fall, rose_before}
+use Rattle.key_session.proofs.Adding.{still_no_fall, rose_before}
 use Rattle.key_session.proofs.Readings.{read_later}
 use Rattle.key_session.proofs.Marking.{MarksGo, marks_same, marks_go, marked_same, marked_go, awaited_accepted}
 
@@ -269,7 +269,7 @@ going_on stay reasons decided plan pages_told catalog texts journal more since s
     pages = files_on catalog since.flash before now going.telling.pages tells.files;
     calls = still_no_fall last_count since.flash.calls before.calls now.calls going.telling.calls calls;
     called = λ e. rose_before last_count since.flash.calls before.calls now.calls (going.telling.called e) calls;
-    damage_called = said_then plan (λ rose e. rose_before last_count since.flash.calls before.calls now.calls (rose e) calls) going.telling.damage_called;
+    damage_called = λ e. rose_before last_count since.flash.calls before.calls now.calls (going.telling.damage_called e) calls;
     faults = still_no_fall last_count since.flash.faults before.faults now.faults going.telling.faults (no_fall last_count before.faults now.faults tells.faults);
     marked = tells.marked since.flash.calls going.telling.calls going.telling.marked;
     prints = going.telling.prints;

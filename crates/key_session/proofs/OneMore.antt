@@ -247,9 +247,9 @@ module _ (join : PiecesJoin) (decided : TextsAreDecided) (laws : PageLaws) (late
     within = telling.within;
     pages = files;
     calls = still_no_fall last_count since.flash.calls before.flash.calls now.flash.calls telling.calls calls;
-    called = called_more plan since.flash.calls first.flash.calls before.flash.calls now.flash.calls old.counts new.counts marked result counted telling.called calls stayed ends.called tells_mark
+    called = called_more since.flash.calls first.flash.calls before.flash.calls now.flash.calls old.counts new.counts marked result counted telling.called calls stayed ends.called tells_mark
         (telling.marked.called (old.count + 1) (omega arith));
-    damage_called = damage_called_more plan since.flash.calls first.flash.calls before.flash.calls now.flash.calls old.counts new.counts result counted telling.damage_called calls stayed ends.called;
+    damage_called = damage_called_more since.flash.calls first.flash.calls before.flash.calls now.flash.calls old.counts new.counts result counted telling.damage_called calls stayed ends.called;
     faults = never_falls since.flash.faults before.flash.faults now.flash.faults result telling.faults tells;
     marked = subst (λ (n : ℕ). AreMarked catalog texts n since.flash.calls now.flash.calls store) (sym next_count)
         (marked_next catalog texts old.count since.flash.calls before.flash.calls now.flash.calls store calls telling.marked);

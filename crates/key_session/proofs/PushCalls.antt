@@ -31,7 +31,7 @@ one_page each before held count now left more was few is fit = by_not (λ far.
     by_not : (before + 2 ≤ now → ⊥) → now ≤ before + 1
     by_not not = omega (arith, not)
 
-cut_length : (width count : ℕ) (bytes : List ℕ) → length (cut width count bytes) ≡ count
+pub cut_length : (width count : ℕ) (bytes : List ℕ) → length (cut width count bytes) ≡ count
 unfolding cut
 cut_length width zero bytes = refl
 cut_length width (suc count) bytes = ap suc (cut_length width count (drop width bytes))
@@ -45,13 +45,13 @@ payload_fits width payload some short =
     omega (arith, count, fit)
 
 -- the pages that were written of rows, and how many rows wait
-record IsPaged (spool : Spool) (hand : AskAtHand) (rows : List (List ℕ)) : Type 0 where
-  held : ℕ
-  count : pages_written spool hand.text hand.table * per_page hand.width + held ≡ length rows
-  few : held < per_page hand.width
+pub record IsPaged (spool : Spool) (hand : AskAtHand) (rows : List (List ℕ)) : Type 0 where
+  pub held : ℕ
+  pub count : pages_written spool hand.text hand.table * per_page hand.width + held ≡ length rows
+  pub few : held < per_page hand.width
 
 module _ (told : Bool) (device : Device) (pool : Pool) (spool : Spool) (hand : AskAtHand) (can : CanPush device pool spool hand) (not : is_marked spool.sides hand.text ≡ false) (rows : List (List ℕ)) where
-  some_rows : 0 < per_page hand.width
+  pub some_rows : 0 < per_page hand.width
   some_rows =
       let wide = can.asked.wide in
       let narrow = can.asked.narrow_row in
@@ -78,7 +78,7 @@ module _ (told : Bool) (device : Device) (pool : Pool) (spool : Spool) (hand : A
       let none = ap (λ (r : List (List ℕ)). length r) had in
       record { held = 0; count = omega (arith, pages, none); few = some_rows }
 
-  paged : HasPushed told device.page pool spool hand.text hand.table rows → IsPaged spool hand rows
+  pub paged : HasPushed told device.page pool spool hand.text hand.table rows → IsPaged spool hand rows
   paged had = paged_by (is_at spool hand.text hand.table) refl had
 
 -- ---- what a page more costs

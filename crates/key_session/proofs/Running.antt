@@ -31,9 +31,7 @@ use Rattle.leakless_plan.specs.declared.plan.Plan.{Plan}
 use Rattle.key_exec.specs.Laws.{DamageIsNeverMet}
 use Rattle.key_exec.specs.Reading.{KnowsBy}
 use Rattle.key_exec.specs.Rows.{PrintsSome}
-use Rattle.key_exec.specs.Jobs.{ForScan}
-use Rattle.key_session.proofs.Adding.{said, said_then}
-use Rattle.key_session.specs.Answering.{AnswersWhereSound}
+use Rattle.key_session.specs.Answering.{AnswersWhereSound, CallsAreFew}
 use Rattle.key_session.specs.Counting.{AreCounted, is_refusal, is_flash, is_broken, is_damage, one_if}
 use Rattle.key_session.specs.Reasons.{HaveReasons, AreBlamed, CameTo, IsReason, HasReason, is_refused_text}
 use Rattle.key_session.specs.Damages.{IsSlot}
@@ -70,7 +68,7 @@ at_first join plan pages_told catalog texts since pool pump count counts left re
     pages = changes_kept (kept_same since.flash) _ _;
     calls = omega arith;
     called = λ e. absurd (none_failed (sym (ap (λ (c : Counts). c.by_flash) is_none) ∙ e));
-    damage_called = said plan (λ e. absurd (none_failed (sym (ap (λ (c : Counts). is_some c.damage) is_none) ∙ e)));
+    damage_called = λ e. absurd (none_failed (sym (ap (λ (c : Counts). is_some c.damage) is_none) ∙ e));
     faults = omega arith;
     marked = record {
       called = λ text from e. absurd (none_failed (sym (unmarked text (omega (arith, from))) ∙ e));
@@ -262,7 +260,7 @@ pub record IsLast (went : Journal → Type 0) (link_before link_now : ℕ) (plan
   pub pages : KeepsFiles catalog since.flash now.flash
   pub calls : min since.flash.calls last_count ≤ now.flash.calls
   pub called : blames_flash tally.status ≡ true → Rose since.flash.calls now.flash.calls
-  pub damage_called : ForScan plan (is_damaged tally.status ≡ true → Rose since.flash.calls now.flash.calls)
+  pub damage_called : is_damaged tally.status ≡ true → Rose since.flash.calls now.flash.calls
   pub faults : min since.flash.faults last_count ≤ now.flash.faults
 
 -- what the status says of the flash
@@ -319,8 +317,9 @@ pub has_run : LaterTextsAreUnmarked → DamageIsNeverMet → (went : Journal →
     → tally.status ≡ status_with now.sink.failed (standing_after catalog (asked_of catalog.schema texts) journal) counts.by_flash counts.damage
     → KeepsPace plan pages_told catalog texts journal numbers since now
     → (IsProper catalog at texts journal → IsFinished journal → AreAnswered plan pages_told catalog texts journal since now tally → AnswersWhereSound plan pages_told catalog texts journal since now tally)
+    → (IsProper catalog at texts journal → IsFinished journal → count ≡ length texts → CallsAreFew plan pages_told catalog texts journal since now)
     → IsLast went link_before link_now plan pages_told catalog at texts numbers since now tally
-has_run later never went link_before link_now plan pages_told catalog at texts numbers since now exchange journal top pool left many_told counts replies tally tree went_by live is_finished last none many refused faulted status_is paced answers =
+has_run later never went link_before link_now plan pages_told catalog at texts numbers since now exchange journal top pool left many_told counts replies tally tree went_by live is_finished last none many refused faulted status_is paced answers few =
     let have : HaveReasons catalog texts journal (length texts)
     (λ reasons. IsTallied plan pages_told since.flash.page catalog texts now.sink.failed (standing_after catalog (asked_of catalog.schema texts) journal) reasons tally) since.flash.faults now.flash.faults =
     record {
@@ -360,6 +359,7 @@ has_run later never went link_before link_now plan pages_told catalog at texts n
             (sym status_is ∙ e));
         undamaged = undamaged;
         answered = answers live.proper is_finished (record { reasons = have; answers = last.answers; undamaged = undamaged });
+        few_calls = few live.proper is_finished count;
       };
       paced = paced;
       many = many ∙ count;
@@ -370,10 +370,10 @@ has_run later never went link_before link_now plan pages_told catalog at texts n
           last.called
           (blamed_so now.sink.failed (standing_after catalog (asked_of catalog.schema texts) journal).stopped (standing_after catalog (asked_of catalog.schema texts) journal).heard.broken _ _ _ counts.by_flash counts.damage
           (ap blames_flash (sym status_is) ∙ e));
-      damage_called = said_then plan (λ rose e.
-          rose
+      damage_called = λ e.
+          last.damage_called
           (met_so now.sink.failed (standing_after catalog (asked_of catalog.schema texts) journal).stopped (standing_after catalog (asked_of catalog.schema texts) journal).heard.broken _ _ _ counts.by_flash counts.damage
-          (ap is_damaged (sym status_is) ∙ e))) last.damage_called;
+          (ap is_damaged (sym status_is) ∙ e));
       faults = last.faults;
     }
   where

@@ -23,7 +23,7 @@ use Rattle.key_session.specs.Refusing.{first_code}
 use Rattle.key_session.specs.TextOrder.{TextsComeInOrder}
 use Rattle.key_session.specs.Telling.{SessionSide, texts_left}
 use Rattle.key_session.specs.Going.{CanStep, CanRun, IsOutAlone, IsAmid, IsGoing, IsLive, leases_of, WentOn, due_in, due_by_rule}
-use Rattle.key_session.specs.Pacing.{HasCome, KeepsPace}
+use Rattle.key_session.specs.Pacing.{HasCome, RunsTakeFewCalls}
 use Rattle.key_session.specs.declared.pace.Due.{Due}
 use Rattle.key_session.specs.declared.pace.Due.TheVariants as due
 use Rattle.key_session.specs.declared.session.Session.{Session}
@@ -41,6 +41,7 @@ use Rattle.key_session.specs.declared.tally.Tally.{Tally}
 use Rattle.key_session.proofs.Attending.{empty, due_rule, true_is_not_false}
 use Rattle.key_session.proofs.HonestRuns.{answers_all}
 use Rattle.key_session.proofs.Running.{IsLast, has_run}
+use Rattle.key_session.proofs.Settings.{setting}
 use Rattle.key_session.proofs.Beginning.{none_taken}
 
 -- what a step needs stays where the pages of the device do
@@ -88,7 +89,7 @@ come_on before_it made later plan told texts numbers since before now pool more 
           more = moved.made ∷ [];
           journal_is = refl;
           went = subst (λ (d : Due). WentOn d (λ (went : Journal). went ≡ moved.made ∷ []) plan told texts come.journal since before now more old new) (sym e)
-              (record { made = moved.made; went = refl; event = moved.event; tells = moved.tells; paced = moved.paced; few = moved.few; live = moved.live });
+              (record { made = moved.made; went = refl; event = moved.event; tells = moved.tells; paced = moved.paced; few = moved.few; fills = moved.fills; counts = moved.counts; cat = moved.cat; teller = moved.teller; live = moved.live });
         },
         come.stages,
       );
@@ -103,7 +104,7 @@ come_on before_it made later plan told texts numbers since before now pool more 
           more = [];
           journal_is = sym (append-nil come.journal);
           went = subst (λ (d : Due). WentOn d (λ (went : Journal). went ≡ []) plan told texts come.journal since before now more old new) (sym e)
-              (record { went = refl; sliced = sliced.sliced; live = sliced.live });
+              (record { went = refl; sliced = sliced.sliced; spends = sliced.spends; counts = sliced.counts; cat = sliced.cat; live = sliced.live });
         },
         come.stages,
       );
@@ -176,8 +177,12 @@ cat_still old new e = rw e refl
 pub at_still : (old new : Session) → new.at ≡ old.at → new.at.now ≡ old.at.now
 at_still old new e = rw e refl
 
+running_none : (running : Option Telling) → is_some running ≡ false → running ≡ None
+running_none None e = refl
+running_none (Some telling) e = cc
+
 -- the whole session, once nothing is due
-pub last_of : LaterTextsAreUnmarked → KnowledgeIsEnough → DamageIsNeverMet → HonestSessionsAreSmooth → HonestLinesArePrinted → moves.ClosedIsFinished → (cat : Catalog) → IsCatalog cat → IsTree cat.schema → (texts : List (List ℕ)) → length texts ≤ 64
+pub last_of : RunsTakeFewCalls → LaterTextsAreUnmarked → KnowledgeIsEnough → DamageIsNeverMet → HonestSessionsAreSmooth → HonestLinesArePrinted → moves.ClosedIsFinished → (cat : Catalog) → IsCatalog cat → IsTree cat.schema → (texts : List (List ℕ)) → length texts ≤ 64
     → (went : Journal → Type 0) (link_before link_now : ℕ) (plan : Plan) (told : Bool) (at numbers : List ℕ) (since : SessionSide) (faults : ℕ) (written : Option (List ℕ)) (device : Device) (pool : Pool) (session : Session) (tally : Tally)
     → session.cat.now ≡ cat → session.at.now ≡ at
     → HasCome (WentBy went link_before link_now) plan told texts numbers since (session_side session.teller.printer.failed faults written device) pool session
@@ -186,7 +191,7 @@ pub last_of : LaterTextsAreUnmarked → KnowledgeIsEnough → DamageIsNeverMet �
     → ((catalog : Catalog) (asks : List NumberedAsk) (journal : Journal) → IsAfter catalog asks journal session.exchange.pump → session.refusal ≡ first_code (standing_after catalog asks journal).heard.ended
     → tally.status ≡ status_with session.teller.printer.failed (standing_after catalog asks journal) session.teller.counts.by_flash session.teller.counts.damage)
     → IsLast went link_before link_now plan told cat at texts numbers since (session_side session.teller.printer.failed faults written device) tally
-last_of later enough never smooth prints closed cat proper tree texts few went link_before link_now plan told at numbers since faults written device pool session tally cat_is at_is come shut none many refused faulted status =
+last_of runs later enough never smooth prints closed cat proper tree texts few went link_before link_now plan told at numbers since faults written device pool session tally cat_is at_is come shut none many refused faulted status =
     let now = session_side session.teller.printer.failed faults written device in
     let live = live_at plan told cat at texts come.journal since now pool session cat_is at_is come.live in
     let finished = closed cat at (asked_of cat.schema texts) come.journal session.exchange live.channel shut in
@@ -196,3 +201,5 @@ last_of later enough never smooth prints closed cat proper tree texts few went l
     (status cat (asked_of cat.schema texts) come.journal live.channel.after live.refusal_is)
     (record { pool = pool; session = session; catalog_is = cat_is; earlier = come.earlier; stages = come.stages; ended = rw (ap is_closed shut, none) refl })
     (λ is_proper is_finished tells. answers_all smooth prints enough plan told cat at texts come.journal since now tally proper tree few is_proper is_finished tells)
+    (λ is_proper is_finished count. runs plan told cat at texts numbers since (record { journal = come.journal; side = now; pool = pool; session = session }) (setting cat texts proper few) is_proper is_finished
+    (record { catalog_is = cat_is; earlier = come.earlier; stages = come.stages; all_told = count; none_told_now = running_none session.teller.running (none_running session.teller none) }))

@@ -1,7 +1,7 @@
 -- A session that answers all its texts: the host is honest and holds the public part of a database, the flash holds its
 -- hidden part, and neither the flash nor the sink failed.
-use Rattle.std.specs.Prelude.{◌≡◌, ℕ, Bool, false, List}
-use Rattle.ghost_model.specs.core.Causes.{Rose}
+use Rattle.std.specs.Prelude.{◌≡◌, ℕ, ◌+◌, ◌≤◌, ◌<◌, Bool, false, List}
+use Rattle.ghost_model.specs.core.Causes.{Rose, last_count}
 use Rattle.ghost_model.specs.core.Values.{Database}
 use Rattle.ghost_model.specs.core.Channel.{Catalog, Journal}
 use Rattle.ghost_model.specs.core.Honest.{IsHonest}
@@ -9,7 +9,9 @@ use Rattle.ghost_model.specs.core.Printed.{printed}
 use Rattle.ghost_model.specs.core.Split.{public_of}
 use Rattle.edge_traits.specs.Written.{grown}
 use Rattle.leakless_plan.specs.declared.plan.Plan.{Plan}
+use Rattle.leakless_plan.specs.declared.plan.Plan.TheVariants as plan
 use Rattle.key_exec.specs.Reading.{KnowsBy}
+use Rattle.key_session.specs.Calls.{session_calls}
 use Rattle.key_session.specs.Telling.{SessionSide}
 use Rattle.key_session.specs.declared.tally.Tally.{Tally}
 use Rattle.key_session.specs.declared.tally.SessionStatus.TheVariants as status
@@ -30,3 +32,15 @@ abbrev pub AnswersWhereSound : (by : Plan) (told : Bool) → Catalog → (texts 
 AnswersWhereSound by told cat texts journal since now tally =
     (database : Database) → IsSound by told cat database journal since now
     → AnswersAll cat texts database since now tally
+
+-- what of this the calls of the flash depend on: whatever the sink took
+pub record IsWellServed (by : Plan) (told : Bool) (cat : Catalog) (database : Database) (journal : Journal) (since now : SessionSide) : Type 0 where
+  pub host : IsHonest cat (public_of cat.schema database) journal
+  pub pages : KnowsBy by told since.flash.page cat database
+  pub flash : Rose since.flash.faults now.flash.faults → ⊥
+
+-- by the indexes the flash was called no more often than its texts take, as long as its count of calls did not come to its last value
+abbrev pub CallsAreFew : (by : Plan) (told : Bool) → Catalog → (texts : List (List ℕ)) → Journal → (since now : SessionSide) → Type 0
+CallsAreFew by told cat texts journal since now =
+    (database : Database) → by ≡ plan.Pre → IsWellServed by told cat database journal since now → now.flash.calls < last_count
+    → now.flash.calls ≤ since.flash.calls + session_calls cat.schema database texts

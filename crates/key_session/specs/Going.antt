@@ -20,10 +20,13 @@ use Rattle.channel_pump.specs.declared.state.ReplyState.{ReplyState}
 use Rattle.channel_pump.specs.declared.state.ReplyState.TheVariants as state_is
 use Rattle.channel_pump.specs.Sessions as moves
 use Rattle.channel_pump.specs.declared.exchange.Exchange.{Exchange}
+use Rattle.key_session.specs.Filling.{FillsPages}
 use Rattle.key_session.specs.Hearing.{WritesHalf, pages_on}
+use Rattle.key_session.specs.Spending.{CountsStay, SpendsCalls}
 use Rattle.key_session.specs.Kept.{is_lost, lease_of}
 use Rattle.key_session.specs.declared.replies.Replies.{Replies}
 use Rattle.leakless_plan.specs.declared.plan.Plan.{Plan}
+use Rattle.leakless_plan.specs.declared.plan.Plan.TheVariants as plan
 use Rattle.key_exec.specs.Plans.{Suffices}
 use Rattle.key_exec.specs.Reading.{KeepsBy}
 use Rattle.key_exec.specs.Laws.{TellingStaysAble, TellingIsSpared, most_left}
@@ -182,17 +185,18 @@ pub record IsLive (by : Plan) (pages_told : Bool) (texts : List (List ℕ)) (jou
   pub owed : 0 < session.pace.owed → is_some (moves.asked_in (heard_in session.cat.now texts journal).awaits) ≡ true
 
 -- one more move was made, which led to an event: of the channel, the texts and the first refusal
-pub record MovedOn (goes : Journal → Type 0) (by : Plan) (pages_told : Bool) (catalog : Catalog) (at : List ℕ) (texts : List (List ℕ)) (journal : Journal) (since now : SessionSide) (pool : Pool) (event : Event) (exchange : Exchange) (teller : Teller) (kept : Replies) (refusal : Option ℕ) : Type 0 where
+pub record MovedOn (goes : Journal → Type 0) (by : Plan) (pages_told : Bool) (catalog : Catalog) (at : List ℕ) (texts : List (List ℕ)) (journal : Journal) (since : SessionSide) (before : Device) (now : SessionSide) (pool : Pool) (event : Event) (exchange : Exchange) (teller : Teller) (kept : Replies) (refusal : Option ℕ) : Type 0 where
   pub made : Entry
   pub went : goes (made ∷ [])
   pub channel : moves.IsLive catalog at (asked_of catalog.schema texts) (journal ++ made ∷ []) exchange
   pub tells : Tells catalog exchange.page event (heard_in catalog texts journal) (heard_in catalog texts (journal ++ made ∷ []))
   pub same_ask : moves.leads_on event ≡ false → moves.asked_in (heard_in catalog texts (journal ++ made ∷ [])).awaits ≡ moves.asked_in (heard_in catalog texts journal).awaits
+  pub fills : FillsPages catalog.schema (teller.count + 1) (heard_in catalog texts journal) (heard_in catalog texts (journal ++ made ∷ [])) before now.flash kept
   pub amid : IsAmid by pages_told catalog texts (journal ++ made ∷ []) since now pool exchange.pump teller kept
   pub refusal_is : refusal ≡ first_code (heard_in catalog texts (journal ++ made ∷ [])).ended
 
 -- One more move was made, and the pace goes by what it led to. The flash was called twice at most for each page of the spool that
--- this completes, and else not at all.
+-- this completes, and else not at all. So it was for each that is filled by what was heard.
 pub record WasMoved (goes : Journal → Type 0) (by : Plan) (pages_told : Bool) (texts : List (List ℕ)) (journal : Journal) (since before now : SessionSide) (pool : Pool) (old session : Session) : Type 0 where
   pub made : Entry
   pub went : goes (made ∷ [])
@@ -200,18 +204,25 @@ pub record WasMoved (goes : Journal → Type 0) (by : Plan) (pages_told : Bool) 
   pub tells : Tells session.cat.now session.exchange.page event (heard_in session.cat.now texts journal) (heard_in session.cat.now texts (journal ++ made ∷ []))
   pub paced : IsPaced event old.pace session.pace
   pub few : now.flash.calls ≤ before.flash.calls + 2 * pages_on event session.replies.hand old.replies.spool session.replies.spool
+  pub fills : FillsPages session.cat.now.schema (old.teller.count + 1) (heard_in session.cat.now texts journal) (heard_in session.cat.now texts (journal ++ made ∷ [])) before.flash now.flash session.replies
+  pub counts : CountsStay before.flash now.flash
+  pub cat : session.cat.now ≡ old.cat.now
+  pub teller : session.teller ≡ old.teller
   pub live : IsLive by pages_told texts (journal ++ made ∷ []) since now pool session
 
--- no move was made, and the pace goes by the slice
-pub record WasSliced (goes : Journal → Type 0) (by : Plan) (pages_told : Bool) (texts : List (List ℕ)) (journal : Journal) (since now : SessionSide) (pool : Pool) (old session : Session) : Type 0 where
+-- no move was made, and the pace goes by the slice; by the indexes, its calls are spent for the text that is told
+pub record WasSliced (goes : Journal → Type 0) (by : Plan) (pages_told : Bool) (texts : List (List ℕ)) (journal : Journal) (since before now : SessionSide) (pool : Pool) (old session : Session) : Type 0 where
   pub went : goes []
   pub sliced : IsSliced old.pace session.pace
+  pub spends : by ≡ plan.Pre → SpendsCalls pages_told since.flash.page old.cat.now texts journal before.flash now.flash old.teller session.teller
+  pub counts : CountsStay before.flash now.flash
+  pub cat : session.cat.now ≡ old.cat.now
   pub live : IsLive by pages_told texts journal since now pool session
 
 -- a step made what was due, and the session lives on
 abbrev pub WentOn : Due → (goes : Journal → Type 0) → (by : Plan) (pages_told : Bool) → (texts : List (List ℕ)) → Journal → (since before now : SessionSide) → Pool → (old session : Session) → Type 0
 WentOn due.Move goes by pages_told texts journal since before now pool old session = WasMoved goes by pages_told texts journal since before now pool old session
-WentOn due.Slice goes by pages_told texts journal since before now pool old session = WasSliced goes by pages_told texts journal since now pool old session
+WentOn due.Slice goes by pages_told texts journal since before now pool old session = WasSliced goes by pages_told texts journal since before now pool old session
 WentOn due.Ended goes by pages_told texts journal since before now pool old session = ⊥
 
 -- no ask of a text behind this one is at hand

@@ -16,6 +16,10 @@ pub mod Awaiting
 pub mod Going
 pub mod Answering
 pub mod Running
+pub mod Calls
+pub mod CallExamples
+pub mod Filling
+pub mod Spending
 pub mod Pacing
 pub mod Worlds
 pub mod Agreeing

@@ -1,9 +1,12 @@
 -- A whole session, step by step. Each step is the one that was due by the rule, and the pace that the rule goes by has the numbers that
 -- the session was begun with.
-use Rattle.std.specs.Prelude.{◌≡◌, ℕ, Bool, List, [], ◌∷◌, ◌++◌}
+use Rattle.std.specs.Prelude.{◌≡◌, ℕ, Bool, List, [], ◌∷◌, ◌++◌, length, None}
 use Rattle.ghost_model.specs.core.Channel.{Catalog, Journal}
+use Rattle.ghost_model.specs.core.Honest.{IsSetting}
+use Rattle.ghost_model.specs.core.NextMove.{IsProper, IsFinished}
 use Rattle.page_pool.specs.Pools.{Pool}
 use Rattle.leakless_plan.specs.declared.plan.Plan.{Plan}
+use Rattle.key_session.specs.Answering.{CallsAreFew}
 use Rattle.key_session.specs.Going.{IsLive, WentOn, due_by_rule}
 use Rattle.key_session.specs.Order.{IsUnpaced}
 use Rattle.key_session.specs.Running.{HasRun}
@@ -59,3 +62,18 @@ pub record KeepsPace (by : Plan) (pages_told : Bool) (catalog : Catalog) (texts 
 pub record RunsAtPace (numbers : List ℕ) (goes : Journal → Type 0) (link_before link_now : ℕ) (by : Plan) (pages_told : Bool) (catalog : Catalog) (at : List ℕ) (texts : List (List ℕ)) (since now : SessionSide) (tally : Tally) : Type 0 where
   pub ran : HasRun goes link_before link_now by pages_told catalog at texts since now tally
   pub paced : KeepsPace by pages_told catalog texts ran.journal numbers since now
+
+-- a session that was run step by step till all its texts were told
+pub record IsWholeRun (by : Plan) (pages_told : Bool) (catalog : Catalog) (texts : List (List ℕ)) (numbers : List ℕ) (since : SessionSide) (last : Stage) : Type 0 where
+  pub catalog_is : last.session.cat.now ≡ catalog
+  pub earlier : List Stage
+  pub stages : AreStages by pages_told texts numbers since last earlier
+  pub all_told : last.session.teller.count ≡ length texts
+  pub none_told_now : last.session.teller.running ≡ None
+
+-- it took few calls of the flash
+abbrev pub RunsTakeFewCalls : Type 0
+RunsTakeFewCalls =
+    (by : Plan) (pages_told : Bool) (catalog : Catalog) (at : List ℕ) (texts : List (List ℕ)) (numbers : List ℕ) (since : SessionSide) (last : Stage)
+    → IsSetting catalog texts → IsProper catalog at texts last.journal → IsFinished last.journal → IsWholeRun by pages_told catalog texts numbers since last
+    → CallsAreFew by pages_told catalog texts last.journal since last.side

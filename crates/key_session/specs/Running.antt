@@ -12,7 +12,7 @@ use Rattle.channel_pump.specs.State.{counted}
 use Rattle.channel_pump.specs.Entries.{is_short_entry, FaultsTell}
 use Rattle.leakless_plan.specs.declared.plan.Plan.{Plan}
 use Rattle.key_exec.specs.Reading.{KnowsBy, KnowsButBy}
-use Rattle.key_session.specs.Answering.{AnswersWhereSound}
+use Rattle.key_session.specs.Answering.{AnswersWhereSound, CallsAreFew}
 use Rattle.key_session.specs.Counting.{is_refusal, is_fault, is_flash, is_damage}
 use Rattle.key_session.specs.Damages.{IsSlot, WasRead, MeetsFirst}
 use Rattle.key_session.specs.Reasons.{HaveReasons, HaveLines, HaveAnswerLines, is_refused_text}
@@ -101,3 +101,5 @@ pub record HasRun (goes : Journal → Type 0) (link_before link_now : ℕ) (by :
   pub undamaged : (database : Database) → KnowsBy by pages_told since.flash.page catalog database → list_any is_damage reasons.reasons ≡ false
   -- an honest host, pages that hold and no fault: all is printed, and the status is Ok
   pub answered : AnswersWhereSound by pages_told catalog texts journal since now tally
+  -- by the indexes, an honest host, pages that hold and a flash that does not fail: it is called no more often than the texts take
+  pub few_calls : CallsAreFew by pages_told catalog texts journal since now

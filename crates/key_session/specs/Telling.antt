@@ -18,7 +18,6 @@ use Rattle.key_lines.specs.Handing.{Handed, handed}
 use Rattle.key_session.specs.Kept.{IsKept, is_lost}
 use Rattle.key_session.specs.declared.replies.Replies.{Replies}
 use Rattle.leakless_plan.specs.declared.plan.Plan.{Plan}
-use Rattle.key_exec.specs.Jobs.{ForScan}
 use Rattle.key_exec.specs.Reading.{KnowsButBy}
 use Rattle.key_exec.specs.Rows.{PrintsSome}
 use Rattle.key_session.specs.Counting.{one_if}
@@ -81,8 +80,7 @@ pub record IsTelling (by : Plan) (pages_told : Bool) (catalog : Catalog) (texts 
   -- at its last value a count stays
   pub calls : min since.flash.calls last_count ≤ device.calls
   pub called : counts.by_flash ≡ true → Rose since.flash.calls device.calls
-  -- where all rows are looked at
-  pub damage_called : ForScan by (is_some counts.damage ≡ true → Rose since.flash.calls device.calls)
+  pub damage_called : is_some counts.damage ≡ true → Rose since.flash.calls device.calls
   pub faults : min since.flash.faults last_count ≤ device.faults
   pub marked : AreMarked catalog texts count since.flash.calls device.calls replies
   pub prints : PrintsSome since.sink sink

@@ -2,12 +2,22 @@
 
 ghost use Rattle.key_session.specs.Worlds.{SessionsAreAlike};
 ghost use Rattle.key_session.specs.Agreeing.{PlansAgree, HeldPlansAgree};
+ghost use Rattle.key_session.specs.CallExamples.{CallsOfTheClinic, PagesOfNotes};
+ghost use Rattle.key_session.specs.Pacing.{RunsTakeFewCalls};
 ghost use Rattle.key_session.specs.Given.{KeptAreGiven, KeptAreOfRows};
 ghost use Rattle.key_session.specs.Laws.{RepliesStayKept, LowRises, KeptHalvesAreHalves, LaterTextsAreUnmarked};
 
+use crate::texts::texts_come_in_order;
 use edge_traits::link::Link;
 use ghost_model::channel::two_worlds;
 use key_exec::laws::knowledge_is_enough;
+use session_laws::honest_sessions::{
+    honest_asks_are_done, honest_replies_are_whole, honest_sessions_are_smooth,
+};
+use session_laws::text_cases::texts_are_decided;
+use session_laws::text_ends::{
+    asks_are_awaited_in_order, ended_texts_stay, over_texts_are_settled,
+};
 
 /// Two sessions of one script with one catalog at one address never differ on the channel before their hosts do, whatever hidden
 /// columns, flash, page buffers, plan and pace they have.
@@ -56,4 +66,29 @@ pub(crate) fn kept_halves_are_halves()
 /// A text behind the last one that was awaited is not marked.
 pub(crate) fn later_texts_are_unmarked()
     ensures unmarked { LaterTextsAreUnmarked }
+{}
+
+/// A session that was run to its end took few calls of the flash, by the indexes.
+pub(crate) fn runs_take_few_calls()
+    ensures { RunsTakeFewCalls }
+{
+    later_texts_are_unmarked();
+    texts_come_in_order();
+    asks_are_awaited_in_order();
+    ended_texts_stay();
+    over_texts_are_settled();
+    texts_are_decided();
+    honest_asks_are_done();
+    honest_replies_are_whole();
+    honest_sessions_are_smooth();
+}
+
+/// Examples: the calls of sessions over the clinic.
+pub fn calls_of_the_clinic()
+    ensures { CallsOfTheClinic }
+{}
+
+/// Examples: the pages that replies fill.
+pub fn pages_of_notes()
+    ensures { PagesOfNotes }
 {}

@@ -14,6 +14,7 @@ ghost use Rattle.edge_traits.specs.Devices.{Device};
 ghost use Rattle.page_pool.specs.Pools.{Pool, IsOut, ChangesPage};
 ghost use Rattle.flash_pages.specs.Writers.{waits};
 ghost use Rattle.key_session.specs.Fits.{Fits};
+ghost use Rattle.key_session.specs.Filling.{FillsPages};
 ghost use Rattle.visible_spool.specs.Sides.{is_marked, replies_of};
 ghost use Rattle.visible_spool.specs.Spools.{IsSpooling, IsNextRow, HasPushed, is_at, last_of, pages_written};
 ghost use Rattle.key_session.specs.Pushing.{CanPush, MayCome, AreNext, Writes, Ends};
@@ -122,6 +123,8 @@ impl Replies {
             → HasHeard catalog low self.old.hand.text (F.state flash.old) (F.state flash.new) self.old self.new }
         ensures marks { MarkTells (F.state flash.old) (F.state flash.new) (is_lost self.old self.old.hand.text) (is_lost self.new self.old.hand.text) }
         ensures few { (F.state flash.new).calls ≤ (F.state flash.old).calls + 2 * pages_on event self.old.hand self.old.spool self.new.spool }
+        ensures fills { (catalog : Catalog) (before after : Heard) (low top : ℕ) → Hears F.told (F.state flash.old) pool.old catalog page.now event before after low top self.old
+            → FillsPages catalog.schema low before after (F.state flash.old) (F.state flash.new) self.new }
         ensures deep_reads { (F.state flash.new).deep_reads ≡ (F.state flash.old).deep_reads }
         ensures unopened_flash { self.old.is_open ≡ false → F.state flash.new ≡ F.state flash.old }
         ensures unopened_spool { self.old.is_open ≡ false → self.new.spool ≡ self.old.spool }

@@ -25,8 +25,8 @@ ghost use Rattle.key_session.specs.Fits.{Fits};
 ghost use Rattle.key_session.specs.Awaiting.{IsWithin, IsAwaiting};
 ghost use Rattle.key_session.specs.Refusing.{first_code};
 ghost use Rattle.leakless_plan.specs.declared.plan.Plan.{Plan};
+ghost use Rattle.leakless_plan.specs.declared.plan.Plan.TheVariants as plan_is;
 ghost use Rattle.key_exec.specs.Plans.{Suffices};
-ghost use Rattle.key_exec.specs.Jobs.{ForScan};
 ghost use Rattle.key_exec.specs.Reading.{KeepsBy};
 ghost use Rattle.page_pool.specs.Pools.{Pool, IsIdle, IsOut, ChangesPage, given, free_count};
 ghost use Rattle.key_exec.specs.Rows.{PrintsSome, TakesTurn};
@@ -34,11 +34,12 @@ ghost use Rattle.key_session.specs.Going.{CanRun, CanStep, IsAmid, IsLive, IsNea
 ghost use Rattle.key_session.specs.Order.{IsSliced, IsUnpaced, is_closed, is_first};
 ghost use Rattle.key_session.specs.Pacing.{RunsAtPace};
 ghost use Rattle.key_session.specs.Running.{HasRun, is_sink, status_with, blames_flash, is_damaged, spares_flash};
+ghost use Rattle.key_session.specs.Spending.{CountsStay, SpendsCalls};
 ghost use Rattle.key_session.specs.Telling.{SessionSide, session_side};
 
 use crate::Replies;
 use crate::fits::replies_fit;
-use crate::laws::{kept_halves_are_halves, later_texts_are_unmarked};
+use crate::laws::{kept_halves_are_halves, later_texts_are_unmarked, runs_take_few_calls};
 use crate::options::Options;
 use crate::pace::{Due, Pace, comes_first};
 use crate::refusing::first_refusal;
@@ -232,6 +233,10 @@ impl<'a> Session<'a> {
             (F.state flash.old).calls (F.state flash.new).calls }
         ensures few { (F.state flash.new).calls ≤ (F.state flash.old).calls + 8 }
         ensures kept { KeepsBy self.old.teller.plan self.old.cat.now (F.state flash.old) (F.state flash.new) }
+        ensures spends { (texts : List (List ℕ)) (journal : Journal) (since : SessionSide) → IsNext self.old.cat.now texts journal self.old.exchange.pump (self.old.teller.count + 1)
+            → IsLive plan_is.Pre F.told texts journal since (session_side self.old.teller.printer.failed (O.faults out.old) (O.written out.old) (F.state flash.old)) pool.old self.old
+            → SpendsCalls F.told since.flash.page self.old.cat.now texts journal (F.state flash.old) (F.state flash.new) self.old.teller self.new.teller }
+        ensures counts { CountsStay (F.state flash.old) (F.state flash.new) }
         ensures plan { self.new.teller.plan ≡ self.old.teller.plan }
         ensures fewer { left_of self.new.teller < left_of self.old.teller }
         ensures sliced { IsSliced self.old.pace self.new.pace }
@@ -304,11 +309,12 @@ fn make_move<F: Flash, L: Link>(
         → RunIsSpared teller.running → IsNear cat.now texts journal (teller.count + 2)
         → moves.IsLive cat.now at.now (asked_of cat.now.schema texts) journal exchange.old → IsAmid by F.told cat.now texts journal since (record { sink = sink; flash = F.state flash.old }) pool.old exchange.old.pump teller replies.old
         → refusal ≡ first_code (heard_in cat.now texts journal).ended → CanRun by F.told cat.now (F.state flash.old) pool.old (teller.count + 1) (lease_of replies.old) teller.running
-        → MovedOn (WentBy (λ more. L.went link.old more link.new) (L.faults link.old) (L.faults link.new)) by F.told cat.now at.now texts journal since (record { sink = sink; flash = F.state flash.new }) pool.new result.1 exchange.new teller replies.new result.0 }
+        → MovedOn (WentBy (λ more. L.went link.old more link.new) (L.faults link.old) (L.faults link.new)) by F.told cat.now at.now texts journal since (F.state flash.old) (record { sink = sink; flash = F.state flash.new }) pool.new result.1 exchange.new teller replies.new result.0 }
     ensures can { (by : Plan) (teller : tellers.Teller) → RunIsSpared teller.running → IsMove F.told cat.now at.now (F.state flash.old) pool.old exchange.old teller replies.old
         → CanRun by F.told cat.now (F.state flash.old) pool.old (teller.count + 1) (lease_of replies.old) teller.running → CanRun by F.told cat.now (F.state flash.new) pool.new (teller.count + 1) (lease_of replies.old) teller.running }
     ensures writes { WritesHalf cat.now replies.new.hand.text (F.state flash.old) (F.state flash.new) }
     ensures few { (F.state flash.new).calls ≤ (F.state flash.old).calls + 2 * pages_on result.1 replies.new.hand replies.old.spool replies.new.spool }
+    ensures never_falls { (F.state flash.old).faults ≤ (F.state flash.new).faults }
     ensures buffer { ChangesPage pool.old pool.new (lease_of replies.old) }
     ensures lease { lease_of replies.new ≡ lease_of replies.old }
     ensures fewer { moves_left exchange.new.pump < moves_left exchange.old.pump }
@@ -380,7 +386,7 @@ pub fn run_session<F: Flash, L: Link, O: Sink>(
     ensures idle { IsIdle pool.new }
     ensures flash_calls { min (F.state flash.old).calls last_count ≤ (F.state flash.new).calls }
     ensures flash_called { blames_flash result.status ≡ true → Rose (F.state flash.old).calls (F.state flash.new).calls }
-    ensures damage_called { ForScan options.now.plan (is_damaged result.status ≡ true → Rose (F.state flash.old).calls (F.state flash.new).calls) }
+    ensures damage_called { is_damaged result.status ≡ true → Rose (F.state flash.old).calls (F.state flash.new).calls }
     ensures flash_faults { min (F.state flash.old).faults last_count ≤ (F.state flash.new).faults }
     ensures flash_rose { blames_flash result.status ≡ true → Rose (F.state flash.old).faults (F.state flash.new).faults }
     ensures flash_same { spares_flash result.status ≡ true → (F.state flash.new).faults ≡ (F.state flash.old).faults }
@@ -396,6 +402,7 @@ pub fn run_session<F: Flash, L: Link, O: Sink>(
     later_texts_are_unmarked();
     knowledge_is_enough();
     damage_is_never_met();
+    runs_take_few_calls();
     let Some(lease) = pool.lease() else {
         unreachable!()
     };

@@ -1,6 +1,6 @@
 //! The texts of a session, told one after another, a step at a time.
 
-ghost use Rattle.std.specs.Prelude.{◌≡◌, ◌<◌, ◌≤◌, ◌+◌, ◌%◌, ℕ, List, Bool, true, length, is_some};
+ghost use Rattle.std.specs.Prelude.{◌≡◌, ◌<◌, ◌≤◌, ◌+◌, ◌%◌, ℕ, List, Bool, true, false, length, is_some};
 ghost use Rattle.ghost_model.specs.core.Channel as channel;
 ghost use Rattle.ghost_model.specs.core.Channel.{Journal};
 ghost use Rattle.channel_pump.specs.declared.state.Pump as pumps;
@@ -12,6 +12,7 @@ ghost use Rattle.edge_traits.specs.Devices.{Device};
 ghost use Rattle.channel_pump.specs.State.{IsAfter};
 ghost use Rattle.key_lines.specs.Handing.{handed};
 ghost use Rattle.leakless_plan.specs.declared.plan.Plan.{Plan};
+ghost use Rattle.leakless_plan.specs.declared.plan.Plan.TheVariants as plan_is;
 ghost use Rattle.key_exec.specs.Plans.{Suffices};
 ghost use Rattle.key_exec.specs.Reading.{KeepsBy};
 ghost use Rattle.page_pool.specs.Pools.{Pool};
@@ -20,6 +21,7 @@ ghost use Rattle.visible_spool.specs.Sparing.{IsHalf};
 ghost use Rattle.key_session.specs.Kept.{half_in, lease_of};
 ghost use Rattle.key_session.specs.declared.replies.Replies as held;
 ghost use Rattle.key_session.specs.Going.{CanRun, IsSomeRun, IsNext, IsAmid, IsBegun, EndsText, RunIsSpared, left_of, unbegun};
+ghost use Rattle.key_session.specs.Spending.{CountsStay, SpendsCalls, spent_by};
 ghost use Rattle.key_session.specs.Telling.{SessionSide, session_side};
 
 use crate::Replies;
@@ -32,7 +34,9 @@ use channel_pump::state::Pump;
 use edge_traits::flash::Flash;
 use edge_traits::sink::Sink;
 use ghost_laws::selected::replies_are_whole;
-use key_exec::laws::{knowledge_stays, whole_replies_are_of_asked};
+use key_exec::laws::{
+    damage_is_never_met, knowledge_is_enough, knowledge_stays, whole_replies_are_of_asked,
+};
 use key_exec::{Telling, Told};
 use key_lines::printer::pieces_join;
 use page_pool::PagePool;
@@ -55,6 +59,31 @@ impl<'a> Teller<'a> {
         ensures plan { self.new.plan ≡ self.old.plan }
         ensures printer { self.new.printer.failed ≡ self.old.printer.failed }
         ensures left { is_some self.new.ahead ≡ true }
+        ensures unspent { spent_by self.new.running ≡ spent_by self.old.running }
+    {
+        if self.running.is_some() {
+            return;
+        }
+        self.begin_text(cat, pump, replies);
+    }
+
+    /// Begins the text that comes next.
+    fn begin_text(&mut self, cat: &Catalog, pump: &Pump, replies: &Replies)
+        requires left { is_some self.old.ahead ≡ true }
+        requires none { is_some self.old.running ≡ false }
+        ensures begun { is_some self.new.running ≡ true }
+        ensures can { (told : Bool) (device : Device) (pool : Pool) (lease : ℕ) → Suffices cat.now device → IsHalf told cat.now ((self.old.count + 1) % 2) device (half_in replies.now (self.old.count + 1))
+            → CanRun self.old.plan told cat.now device pool (self.old.count + 1) lease self.old.running → CanRun self.old.plan told cat.now device pool (self.new.count + 1) lease self.new.running }
+        ensures told { (by : Plan) (told : Bool) (texts : List (List ℕ)) (journal : Journal) (since now : SessionSide) (pool : Pool) → Suffices cat.now now.flash → AreBytes (taken journal)
+            → CanRun by told cat.now now.flash pool (self.old.count + 1) (lease_of replies.now) self.old.running
+            → IsAfter cat.now (asked_of cat.now.schema texts) journal pump.now → IsNext cat.now texts journal pump.now (self.old.count + 1)
+            → IsAmid by told cat.now texts journal since now pool pump.now self.old replies.now → IsBegun by told cat.now texts journal since now pool pump.now self.new replies.now }
+        ensures fewer { left_of self.new ≤ left_of self.old }
+        ensures count { self.new.count ≡ self.old.count }
+        ensures plan { self.new.plan ≡ self.old.plan }
+        ensures printer { self.new.printer.failed ≡ self.old.printer.failed }
+        ensures left { is_some self.new.ahead ≡ true }
+        ensures unspent { spent_by self.new.running ≡ spent_by self.old.running }
     {
         texts_are_decided();
         replies_are_whole();
@@ -62,9 +91,6 @@ impl<'a> Teller<'a> {
         whole_replies_are_of_asked();
         kept_are_given();
         kept_halves_are_halves();
-        if self.running.is_some() {
-            return;
-        }
         let Some(text) = self.ahead else {
             unreachable!()
         };
@@ -95,6 +121,11 @@ impl<'a> Teller<'a> {
         ensures kept { (by : Plan) (cat : channel.Catalog) (lease : ℕ) → CanRun by F.told cat (F.state flash.old) pool.old (self.old.count + 1) lease self.old.running
             → KeepsBy by cat (F.state flash.old) (F.state flash.new) }
         ensures few { (F.state flash.new).calls ≤ (F.state flash.old).calls + 8 }
+        ensures spends { (cat : channel.Catalog) (texts : List (List ℕ)) (journal : Journal) (since : SessionSide) (pump : pumps.Pump) (replies : held.Replies)
+            → IsTree cat.schema → CanRun plan_is.Pre F.told cat (F.state flash.old) pool.old (self.old.count + 1) (lease_of replies) self.old.running
+            → IsBegun plan_is.Pre F.told cat texts journal since (session_side self.old.printer.failed (O.faults out.old) (O.written out.old) (F.state flash.old)) pool.old pump self.old replies
+            → SpendsCalls F.told since.flash.page cat texts journal (F.state flash.old) (F.state flash.new) self.old self.new }
+        ensures counts { CountsStay (F.state flash.old) (F.state flash.new) }
         ensures plan { self.new.plan ≡ self.old.plan }
         ensures fewer { left_of self.new < left_of self.old }
     {
@@ -104,6 +135,8 @@ impl<'a> Teller<'a> {
         replies_stay_kept();
         later_texts_are_unmarked();
         low_rises();
+        knowledge_is_enough();
+        damage_is_never_met();
         let Some(telling) = &mut self.running else {
             unreachable!()
         };

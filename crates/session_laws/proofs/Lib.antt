@@ -9,6 +9,7 @@ pub mod Outcomes
 pub mod Over
 pub mod Settled
 pub mod Honest
+pub mod Replied
 pub mod Finished
 pub mod Ending
 pub mod Bounded

@@ -1,17 +1,20 @@
 -- A session of the key with an honest host that holds the public part of a database, over any link. No frame that comes is
 -- invalid and no ask is refused; once it is finished, its lines are those that its texts print over the database.
-use Rattle.std.specs.Prelude.{◌≡◌, ℕ, suc, Bool, true, false, List, length, slice_get, Some, Ok, flat_map}
+use Rattle.std.specs.Prelude.{◌≡◌, ℕ, suc, Bool, true, false, List, ◌++◌, length, map, filter_map, slice_get, Some, Ok, flat_map}
+use Rattle.ghost_model.specs.core.Schema.{Schema}
 use Rattle.ghost_model.specs.core.Values.{Database}
 use Rattle.ghost_model.specs.core.Query.{Query}
 use Rattle.ghost_model.specs.readings.QueryReading.{reading}
 use Rattle.ghost_model.specs.core.Channel.{Catalog, Journal}
-use Rattle.ghost_model.specs.core.NextMove.{IsProper, IsFinished}
+use Rattle.ghost_model.specs.core.NextMove.{EndedAsk, IsProper, IsFinished}
 use Rattle.ghost_model.specs.core.Split.{Hidden, public_of, hidden_of}
 use Rattle.ghost_model.specs.core.Honest.{IsHonest, IsSetting, IsCatalogOf}
 use Rattle.ghost_model.specs.core.Lines.{Reason, WasRefused, WasBroken, WasAnswered, MetFault, AreLines, ended_of, was_refused, all_done}
 use Rattle.ghost_model.specs.core.Printed.{printed_lines}
+use Rattle.ghost_model.specs.core.Replies.{Reply, reply_of, replies}
+use Rattle.ghost_model.specs.laws.SessionLaws.{whole_reply, whole_replies}
 use Rattle.session_laws.specs.TextEnds.{heard_in}
-use Rattle.ghost_model.specs.core.Asks.{asked_of}
+use Rattle.ghost_model.specs.core.Asks.{NumberedAsk, asked_of}
 
 pub record IsHonestSession (catalog : Catalog) (database : Database) (at : List ℕ) (texts : List (List ℕ)) (journal : Journal) : Type 0 where
   pub setting : IsSetting catalog texts
@@ -63,3 +66,34 @@ HonestLinesArePrinted =
     → IsHonestSession catalog database at texts journal → IsFinished journal
     → AreAllLines catalog (hidden_of catalog.schema database) texts journal given
     → flat_map (λ lines. lines) given ≡ printed_lines catalog.schema texts database
+
+-- the replies to the asks that DONE ended, in their order
+abbrev pub replies_in : Schema → List EndedAsk → List Reply
+replies_in schema ends = filter_map (λ end. reply_of schema end.asked end.ending) ends
+
+abbrev pub whole_reply_to : Catalog → Database → NumberedAsk → Reply
+whole_reply_to catalog database one = whole_reply catalog.schema (public_of catalog.schema database) one.ask
+
+-- the asks that were ended are the first of the session's asks, and each has its whole reply
+pub record AreRepliedWhole (catalog : Catalog) (database : Database) (texts : List (List ℕ)) (journal : Journal) : Type 0 where
+  pub first : List NumberedAsk
+  pub later : List NumberedAsk
+  pub asked_are : asked_of catalog.schema texts ≡ first ++ later
+  pub replied : replies_in catalog.schema (heard_in catalog texts journal).ended ≡ map (whole_reply_to catalog database) first
+
+-- at each point of the session
+abbrev pub HonestAsksAreRepliedWhole : Type 0
+HonestAsksAreRepliedWhole =
+    (catalog : Catalog) (database : Database) (at : List ℕ) (texts : List (List ℕ)) (journal : Journal)
+    → IsHonestSession catalog database at texts journal → AreRepliedWhole catalog database texts journal
+
+-- and once all asks of a text were ended by DONE, these are the replies to it; the text at place 0 has number 1
+abbrev pub HonestTextsAreRepliedWhole : Type 0
+HonestTextsAreRepliedWhole =
+    (catalog : Catalog) (database : Database) (at : List ℕ) (texts : List (List ℕ)) (journal : Journal)
+    (place : ℕ) (written : List ℕ) (asked : Query)
+    → IsHonestSession catalog database at texts journal
+    → slice_get texts place ≡ Some written → reading catalog.schema written ≡ Ok asked
+    → all_done catalog.schema asked (ended_of catalog (asked_of catalog.schema texts) journal (suc place)) ≡ true
+    → replies catalog (asked_of catalog.schema texts) journal (suc place)
+    ≡ whole_replies catalog.schema (public_of catalog.schema database) asked

@@ -1,4 +1,4 @@
-use Rattle.std.proofs.Common.{◌≤◌, ◌+◌, ◌*◌, sym, subst}
+use Rattle.std.proofs.Common.{◌≤◌, ◌+◌, ◌*◌, [], ◌∷◌, ◌++◌, sym, subst}
 use Rattle.ghost_model.specs.core.Asks.{asked_of}
 use Rattle.page_pool.specs.Pools.{ChangesPage}
 use Rattle.session_laws.specs.TextEnds.{heard_in}
@@ -6,7 +6,7 @@ use Rattle.channel_pump.specs.Entries.{WentBy}
 use Rattle.visible_spool.specs.declared.spool.Spool.{Spool}
 use Rattle.key_session.specs.Hearing.{WritesHalf, pages_on}
 use Rattle.key_session.specs.declared.ask.AskAtHand.{AskAtHand}
-use Rattle.key_session.proofs.Moving.{some_heard, written_now, can_run, moved_amid, refusal_more, same_lease}
+use Rattle.key_session.proofs.Moving.{some_heard, hearing, written_now, can_run, moved_amid, refusal_more, same_lease}
 use Rattle.key_session.proofs.session.make_move.Goals as goal
 
 pub hear-requires : goal.hear-requires
@@ -81,6 +81,20 @@ returns-clause-moved g c = λ plan texts journal since sink teller spared near c
       channel = moved.live;
       tells = moved.tells;
       same_ask = moved.same_ask;
+      fills = c.hear.ensures.fills c.args.cat.now (heard_in c.args.cat.now texts journal) (heard_in c.args.cat.now texts (journal ++ moved.made ∷ [])) (teller.count + 1) _
+          (hearing (record {
+            stay = c.ended_texts_stay.ensures;
+            reasons = c.reasons_stay.ensures;
+            decided = c.texts_are_decided.ensures;
+            over = c.over_texts_are_settled.ensures;
+            order = c.texts_come_in_order.ensures;
+            outcomes = c.texts_have_outcomes.ensures;
+            in_order = c.asks_are_awaited_in_order.ensures;
+          }) c.replies_fit.ensures _ c.args.cat.now c.a_catalog_is_short.ensures.catalog.meant (WentBy (λ more. g.L.Link.went c.args.link.now more c.step-event.new.link) (g.L.Link.faults c.args.link.now) (g.L.Link.faults c.step-event.new.link))
+          plan g.F.Flash.told c.args.at.now texts journal since sink (g.F.Flash.state c.args.flash.now) c.args.pool.now c.args.exchange.now c.step-event.new.self teller c.args.replies.now c.await_reply-is_awaited.new.replies c.step-event.result
+          c.requires.going near amid
+          (λ fits within kept. c.await_reply-is_awaited.ensures.kept g.F.Flash.told (g.F.Flash.state c.args.flash.now) c.args.pool.now (asked_of c.args.cat.now.schema texts) journal (teller.count + 1) amid.going.top channel.after fits within kept)
+          moved);
       amid = moved_amid (record {
         stay = c.ended_texts_stay.ensures;
         reasons = c.reasons_stay.ensures;

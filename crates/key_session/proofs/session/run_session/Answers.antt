@@ -61,7 +61,7 @@ steps-preserved g c =
 
 pub returns-in-Ended-clause-ran : goal.returns-in-Ended-clause-ran
 returns-in-Ended-clause-ran g c =
-    let last = last_of c.later_texts_are_unmarked.ensures.unmarked c.knowledge_is_enough.ensures.enough c.damage_is_never_met.ensures.never c.honest_sessions_are_smooth.ensures c.honest_lines_are_printed.ensures c.closed_is_finished.ensures.finished c.args.cat.now c.a_catalog_is_short.ensures.catalog c.a_catalog_has_a_layout.ensures.layout.tree (texts_of c.args.script.now) c.requires.few
+    let last = last_of c.runs_take_few_calls.ensures c.later_texts_are_unmarked.ensures.unmarked c.knowledge_is_enough.ensures.enough c.damage_is_never_met.ensures.never c.honest_sessions_are_smooth.ensures c.honest_lines_are_printed.ensures c.closed_is_finished.ensures.finished c.args.cat.now c.a_catalog_is_short.ensures.catalog c.a_catalog_has_a_layout.ensures.layout.tree (texts_of c.args.script.now) c.requires.few
     (λ journal. g.L.Link.went c.args.link.now journal c.steps.link) (g.L.Link.faults c.args.link.now) (g.L.Link.faults c.steps.link) c.args.options.now.plan g.F.Flash.told c.args.options.now.at.now c.args.options.now.pace.now
     (session_side false (g.O.Sink.faults c.args.out.now) (g.O.Sink.written c.args.out.now) (g.F.Flash.state c.args.flash.now)) (g.O.Sink.faults c.steps.out) (g.O.Sink.written c.steps.out) (g.F.Flash.state c.steps.flash) c.steps.pool c.steps.session c.end.result
     c.steps.invariant.1 c.steps.invariant.2 c.steps.invariant.4 (c.due.ensures.closed c.in-Ended.is) (c.due.ensures.none c.in-Ended.is) c.end.ensures.texts c.end.ensures.refused c.end.ensures.faulted c.end.ensures.status in
@@ -70,7 +70,7 @@ returns-in-Ended-clause-ran g c =
 
 pub returns-in-Ended-clause-prints : goal.returns-in-Ended-clause-prints
 returns-in-Ended-clause-prints g c =
-    let last = last_of c.later_texts_are_unmarked.ensures.unmarked c.knowledge_is_enough.ensures.enough c.damage_is_never_met.ensures.never c.honest_sessions_are_smooth.ensures c.honest_lines_are_printed.ensures c.closed_is_finished.ensures.finished c.args.cat.now c.a_catalog_is_short.ensures.catalog c.a_catalog_has_a_layout.ensures.layout.tree (texts_of c.args.script.now) c.requires.few
+    let last = last_of c.runs_take_few_calls.ensures c.later_texts_are_unmarked.ensures.unmarked c.knowledge_is_enough.ensures.enough c.damage_is_never_met.ensures.never c.honest_sessions_are_smooth.ensures c.honest_lines_are_printed.ensures c.closed_is_finished.ensures.finished c.args.cat.now c.a_catalog_is_short.ensures.catalog c.a_catalog_has_a_layout.ensures.layout.tree (texts_of c.args.script.now) c.requires.few
     (λ journal. g.L.Link.went c.args.link.now journal c.steps.link) (g.L.Link.faults c.args.link.now) (g.L.Link.faults c.steps.link) c.args.options.now.plan g.F.Flash.told c.args.options.now.at.now c.args.options.now.pace.now
     (session_side false (g.O.Sink.faults c.args.out.now) (g.O.Sink.written c.args.out.now) (g.F.Flash.state c.args.flash.now)) (g.O.Sink.faults c.steps.out) (g.O.Sink.written c.steps.out) (g.F.Flash.state c.steps.flash) c.steps.pool c.steps.session c.end.result
     c.steps.invariant.1 c.steps.invariant.2 c.steps.invariant.4 (c.due.ensures.closed c.in-Ended.is) (c.due.ensures.none c.in-Ended.is) c.end.ensures.texts c.end.ensures.refused c.end.ensures.faulted c.end.ensures.status in
@@ -88,7 +88,7 @@ step-requires-clause-some g c = record { by = c.args.options.now.plan; texts = _
 
 pub returns-in-Ended-clause-texts : goal.returns-in-Ended-clause-texts
 returns-in-Ended-clause-texts g c =
-    let last = last_of c.later_texts_are_unmarked.ensures.unmarked c.knowledge_is_enough.ensures.enough c.damage_is_never_met.ensures.never c.honest_sessions_are_smooth.ensures c.honest_lines_are_printed.ensures c.closed_is_finished.ensures.finished c.args.cat.now c.a_catalog_is_short.ensures.catalog c.a_catalog_has_a_layout.ensures.layout.tree (texts_of c.args.script.now) c.requires.few
+    let last = last_of c.runs_take_few_calls.ensures c.later_texts_are_unmarked.ensures.unmarked c.knowledge_is_enough.ensures.enough c.damage_is_never_met.ensures.never c.honest_sessions_are_smooth.ensures c.honest_lines_are_printed.ensures c.closed_is_finished.ensures.finished c.args.cat.now c.a_catalog_is_short.ensures.catalog c.a_catalog_has_a_layout.ensures.layout.tree (texts_of c.args.script.now) c.requires.few
     (λ journal. g.L.Link.went c.args.link.now journal c.steps.link) (g.L.Link.faults c.args.link.now) (g.L.Link.faults c.steps.link) c.args.options.now.plan g.F.Flash.told c.args.options.now.at.now c.args.options.now.pace.now
     (session_side false (g.O.Sink.faults c.args.out.now) (g.O.Sink.written c.args.out.now) (g.F.Flash.state c.args.flash.now)) (g.O.Sink.faults c.steps.out) (g.O.Sink.written c.steps.out) (g.F.Flash.state c.steps.flash) c.steps.pool c.steps.session c.end.result
     c.steps.invariant.1 c.steps.invariant.2 c.steps.invariant.4 (c.due.ensures.closed c.in-Ended.is) (c.due.ensures.none c.in-Ended.is) c.end.ensures.texts c.end.ensures.refused c.end.ensures.faulted c.end.ensures.status in
@@ -96,7 +96,7 @@ returns-in-Ended-clause-texts g c =
 
 pub returns-in-Ended-clause-sink_same : goal.returns-in-Ended-clause-sink_same
 returns-in-Ended-clause-sink_same g c =
-    let last = last_of c.later_texts_are_unmarked.ensures.unmarked c.knowledge_is_enough.ensures.enough c.damage_is_never_met.ensures.never c.honest_sessions_are_smooth.ensures c.honest_lines_are_printed.ensures c.closed_is_finished.ensures.finished c.args.cat.now c.a_catalog_is_short.ensures.catalog c.a_catalog_has_a_layout.ensures.layout.tree (texts_of c.args.script.now) c.requires.few
+    let last = last_of c.runs_take_few_calls.ensures c.later_texts_are_unmarked.ensures.unmarked c.knowledge_is_enough.ensures.enough c.damage_is_never_met.ensures.never c.honest_sessions_are_smooth.ensures c.honest_lines_are_printed.ensures c.closed_is_finished.ensures.finished c.args.cat.now c.a_catalog_is_short.ensures.catalog c.a_catalog_has_a_layout.ensures.layout.tree (texts_of c.args.script.now) c.requires.few
     (λ journal. g.L.Link.went c.args.link.now journal c.steps.link) (g.L.Link.faults c.args.link.now) (g.L.Link.faults c.steps.link) c.args.options.now.plan g.F.Flash.told c.args.options.now.at.now c.args.options.now.pace.now
     (session_side false (g.O.Sink.faults c.args.out.now) (g.O.Sink.written c.args.out.now) (g.F.Flash.state c.args.flash.now)) (g.O.Sink.faults c.steps.out) (g.O.Sink.written c.steps.out) (g.F.Flash.state c.steps.flash) c.steps.pool c.steps.session c.end.result
     c.steps.invariant.1 c.steps.invariant.2 c.steps.invariant.4 (c.due.ensures.closed c.in-Ended.is) (c.due.ensures.none c.in-Ended.is) c.end.ensures.texts c.end.ensures.refused c.end.ensures.faulted c.end.ensures.status in
@@ -104,7 +104,7 @@ returns-in-Ended-clause-sink_same g c =
 
 pub returns-in-Ended-clause-flash_called : goal.returns-in-Ended-clause-flash_called
 returns-in-Ended-clause-flash_called g c =
-    let last = last_of c.later_texts_are_unmarked.ensures.unmarked c.knowledge_is_enough.ensures.enough c.damage_is_never_met.ensures.never c.honest_sessions_are_smooth.ensures c.honest_lines_are_printed.ensures c.closed_is_finished.ensures.finished c.args.cat.now c.a_catalog_is_short.ensures.catalog c.a_catalog_has_a_layout.ensures.layout.tree (texts_of c.args.script.now) c.requires.few
+    let last = last_of c.runs_take_few_calls.ensures c.later_texts_are_unmarked.ensures.unmarked c.knowledge_is_enough.ensures.enough c.damage_is_never_met.ensures.never c.honest_sessions_are_smooth.ensures c.honest_lines_are_printed.ensures c.closed_is_finished.ensures.finished c.args.cat.now c.a_catalog_is_short.ensures.catalog c.a_catalog_has_a_layout.ensures.layout.tree (texts_of c.args.script.now) c.requires.few
     (λ journal. g.L.Link.went c.args.link.now journal c.steps.link) (g.L.Link.faults c.args.link.now) (g.L.Link.faults c.steps.link) c.args.options.now.plan g.F.Flash.told c.args.options.now.at.now c.args.options.now.pace.now
     (session_side false (g.O.Sink.faults c.args.out.now) (g.O.Sink.written c.args.out.now) (g.F.Flash.state c.args.flash.now)) (g.O.Sink.faults c.steps.out) (g.O.Sink.written c.steps.out) (g.F.Flash.state c.steps.flash) c.steps.pool c.steps.session c.end.result
     c.steps.invariant.1 c.steps.invariant.2 c.steps.invariant.4 (c.due.ensures.closed c.in-Ended.is) (c.due.ensures.none c.in-Ended.is) c.end.ensures.texts c.end.ensures.refused c.end.ensures.faulted c.end.ensures.status in
@@ -112,7 +112,7 @@ returns-in-Ended-clause-flash_called g c =
 
 pub returns-in-Ended-clause-damage_called : goal.returns-in-Ended-clause-damage_called
 returns-in-Ended-clause-damage_called g c =
-    let last = last_of c.later_texts_are_unmarked.ensures.unmarked c.knowledge_is_enough.ensures.enough c.damage_is_never_met.ensures.never c.honest_sessions_are_smooth.ensures c.honest_lines_are_printed.ensures c.closed_is_finished.ensures.finished c.args.cat.now c.a_catalog_is_short.ensures.catalog c.a_catalog_has_a_layout.ensures.layout.tree (texts_of c.args.script.now) c.requires.few
+    let last = last_of c.runs_take_few_calls.ensures c.later_texts_are_unmarked.ensures.unmarked c.knowledge_is_enough.ensures.enough c.damage_is_never_met.ensures.never c.honest_sessions_are_smooth.ensures c.honest_lines_are_printed.ensures c.closed_is_finished.ensures.finished c.args.cat.now c.a_catalog_is_short.ensures.catalog c.a_catalog_has_a_layout.ensures.layout.tree (texts_of c.args.script.now) c.requires.few
     (λ journal. g.L.Link.went c.args.link.now journal c.steps.link) (g.L.Link.faults c.args.link.now) (g.L.Link.faults c.steps.link) c.args.options.now.plan g.F.Flash.told c.args.options.now.at.now c.args.options.now.pace.now
     (session_side false (g.O.Sink.faults c.args.out.now) (g.O.Sink.written c.args.out.now) (g.F.Flash.state c.args.flash.now)) (g.O.Sink.faults c.steps.out) (g.O.Sink.written c.steps.out) (g.F.Flash.state c.steps.flash) c.steps.pool c.steps.session c.end.result
     c.steps.invariant.1 c.steps.invariant.2 c.steps.invariant.4 (c.due.ensures.closed c.in-Ended.is) (c.due.ensures.none c.in-Ended.is) c.end.ensures.texts c.end.ensures.refused c.end.ensures.faulted c.end.ensures.status in
@@ -120,7 +120,7 @@ returns-in-Ended-clause-damage_called g c =
 
 pub returns-in-Ended-clause-flash_rose : goal.returns-in-Ended-clause-flash_rose
 returns-in-Ended-clause-flash_rose g c =
-    let last = last_of c.later_texts_are_unmarked.ensures.unmarked c.knowledge_is_enough.ensures.enough c.damage_is_never_met.ensures.never c.honest_sessions_are_smooth.ensures c.honest_lines_are_printed.ensures c.closed_is_finished.ensures.finished c.args.cat.now c.a_catalog_is_short.ensures.catalog c.a_catalog_has_a_layout.ensures.layout.tree (texts_of c.args.script.now) c.requires.few
+    let last = last_of c.runs_take_few_calls.ensures c.later_texts_are_unmarked.ensures.unmarked c.knowledge_is_enough.ensures.enough c.damage_is_never_met.ensures.never c.honest_sessions_are_smooth.ensures c.honest_lines_are_printed.ensures c.closed_is_finished.ensures.finished c.args.cat.now c.a_catalog_is_short.ensures.catalog c.a_catalog_has_a_layout.ensures.layout.tree (texts_of c.args.script.now) c.requires.few
     (λ journal. g.L.Link.went c.args.link.now journal c.steps.link) (g.L.Link.faults c.args.link.now) (g.L.Link.faults c.steps.link) c.args.options.now.plan g.F.Flash.told c.args.options.now.at.now c.args.options.now.pace.now
     (session_side false (g.O.Sink.faults c.args.out.now) (g.O.Sink.written c.args.out.now) (g.F.Flash.state c.args.flash.now)) (g.O.Sink.faults c.steps.out) (g.O.Sink.written c.steps.out) (g.F.Flash.state c.steps.flash) c.steps.pool c.steps.session c.end.result
     c.steps.invariant.1 c.steps.invariant.2 c.steps.invariant.4 (c.due.ensures.closed c.in-Ended.is) (c.due.ensures.none c.in-Ended.is) c.end.ensures.texts c.end.ensures.refused c.end.ensures.faulted c.end.ensures.status in
@@ -128,7 +128,7 @@ returns-in-Ended-clause-flash_rose g c =
 
 pub returns-in-Ended-clause-flash_same : goal.returns-in-Ended-clause-flash_same
 returns-in-Ended-clause-flash_same g c =
-    let last = last_of c.later_texts_are_unmarked.ensures.unmarked c.knowledge_is_enough.ensures.enough c.damage_is_never_met.ensures.never c.honest_sessions_are_smooth.ensures c.honest_lines_are_printed.ensures c.closed_is_finished.ensures.finished c.args.cat.now c.a_catalog_is_short.ensures.catalog c.a_catalog_has_a_layout.ensures.layout.tree (texts_of c.args.script.now) c.requires.few
+    let last = last_of c.runs_take_few_calls.ensures c.later_texts_are_unmarked.ensures.unmarked c.knowledge_is_enough.ensures.enough c.damage_is_never_met.ensures.never c.honest_sessions_are_smooth.ensures c.honest_lines_are_printed.ensures c.closed_is_finished.ensures.finished c.args.cat.now c.a_catalog_is_short.ensures.catalog c.a_catalog_has_a_layout.ensures.layout.tree (texts_of c.args.script.now) c.requires.few
     (λ journal. g.L.Link.went c.args.link.now journal c.steps.link) (g.L.Link.faults c.args.link.now) (g.L.Link.faults c.steps.link) c.args.options.now.plan g.F.Flash.told c.args.options.now.at.now c.args.options.now.pace.now
     (session_side false (g.O.Sink.faults c.args.out.now) (g.O.Sink.written c.args.out.now) (g.F.Flash.state c.args.flash.now)) (g.O.Sink.faults c.steps.out) (g.O.Sink.written c.steps.out) (g.F.Flash.state c.steps.flash) c.steps.pool c.steps.session c.end.result
     c.steps.invariant.1 c.steps.invariant.2 c.steps.invariant.4 (c.due.ensures.closed c.in-Ended.is) (c.due.ensures.none c.in-Ended.is) c.end.ensures.texts c.end.ensures.refused c.end.ensures.faulted c.end.ensures.status in
@@ -136,7 +136,7 @@ returns-in-Ended-clause-flash_same g c =
 
 pub returns-in-Ended-clause-sink_rose : goal.returns-in-Ended-clause-sink_rose
 returns-in-Ended-clause-sink_rose g c =
-    let last = last_of c.later_texts_are_unmarked.ensures.unmarked c.knowledge_is_enough.ensures.enough c.damage_is_never_met.ensures.never c.honest_sessions_are_smooth.ensures c.honest_lines_are_printed.ensures c.closed_is_finished.ensures.finished c.args.cat.now c.a_catalog_is_short.ensures.catalog c.a_catalog_has_a_layout.ensures.layout.tree (texts_of c.args.script.now) c.requires.few
+    let last = last_of c.runs_take_few_calls.ensures c.later_texts_are_unmarked.ensures.unmarked c.knowledge_is_enough.ensures.enough c.damage_is_never_met.ensures.never c.honest_sessions_are_smooth.ensures c.honest_lines_are_printed.ensures c.closed_is_finished.ensures.finished c.args.cat.now c.a_catalog_is_short.ensures.catalog c.a_catalog_has_a_layout.ensures.layout.tree (texts_of c.args.script.now) c.requires.few
     (λ journal. g.L.Link.went c.args.link.now journal c.steps.link) (g.L.Link.faults c.args.link.now) (g.L.Link.faults c.steps.link) c.args.options.now.plan g.F.Flash.told c.args.options.now.at.now c.args.options.now.pace.now
     (session_side false (g.O.Sink.faults c.args.out.now) (g.O.Sink.written c.args.out.now) (g.F.Flash.state c.args.flash.now)) (g.O.Sink.faults c.steps.out) (g.O.Sink.written c.steps.out) (g.F.Flash.state c.steps.flash) c.steps.pool c.steps.session c.end.result
     c.steps.invariant.1 c.steps.invariant.2 c.steps.invariant.4 (c.due.ensures.closed c.in-Ended.is) (c.due.ensures.none c.in-Ended.is) c.end.ensures.texts c.end.ensures.refused c.end.ensures.faulted c.end.ensures.status in
@@ -144,7 +144,7 @@ returns-in-Ended-clause-sink_rose g c =
 
 pub returns-in-Ended-clause-pages : goal.returns-in-Ended-clause-pages
 returns-in-Ended-clause-pages g c =
-    let last = last_of c.later_texts_are_unmarked.ensures.unmarked c.knowledge_is_enough.ensures.enough c.damage_is_never_met.ensures.never c.honest_sessions_are_smooth.ensures c.honest_lines_are_printed.ensures c.closed_is_finished.ensures.finished c.args.cat.now c.a_catalog_is_short.ensures.catalog c.a_catalog_has_a_layout.ensures.layout.tree (texts_of c.args.script.now) c.requires.few
+    let last = last_of c.runs_take_few_calls.ensures c.later_texts_are_unmarked.ensures.unmarked c.knowledge_is_enough.ensures.enough c.damage_is_never_met.ensures.never c.honest_sessions_are_smooth.ensures c.honest_lines_are_printed.ensures c.closed_is_finished.ensures.finished c.args.cat.now c.a_catalog_is_short.ensures.catalog c.a_catalog_has_a_layout.ensures.layout.tree (texts_of c.args.script.now) c.requires.few
     (λ journal. g.L.Link.went c.args.link.now journal c.steps.link) (g.L.Link.faults c.args.link.now) (g.L.Link.faults c.steps.link) c.args.options.now.plan g.F.Flash.told c.args.options.now.at.now c.args.options.now.pace.now
     (session_side false (g.O.Sink.faults c.args.out.now) (g.O.Sink.written c.args.out.now) (g.F.Flash.state c.args.flash.now)) (g.O.Sink.faults c.steps.out) (g.O.Sink.written c.steps.out) (g.F.Flash.state c.steps.flash) c.steps.pool c.steps.session c.end.result
     c.steps.invariant.1 c.steps.invariant.2 c.steps.invariant.4 (c.due.ensures.closed c.in-Ended.is) (c.due.ensures.none c.in-Ended.is) c.end.ensures.texts c.end.ensures.refused c.end.ensures.faulted c.end.ensures.status in
@@ -152,7 +152,7 @@ returns-in-Ended-clause-pages g c =
 
 pub returns-in-Ended-clause-flash_calls : goal.returns-in-Ended-clause-flash_calls
 returns-in-Ended-clause-flash_calls g c =
-    let last = last_of c.later_texts_are_unmarked.ensures.unmarked c.knowledge_is_enough.ensures.enough c.damage_is_never_met.ensures.never c.honest_sessions_are_smooth.ensures c.honest_lines_are_printed.ensures c.closed_is_finished.ensures.finished c.args.cat.now c.a_catalog_is_short.ensures.catalog c.a_catalog_has_a_layout.ensures.layout.tree (texts_of c.args.script.now) c.requires.few
+    let last = last_of c.runs_take_few_calls.ensures c.later_texts_are_unmarked.ensures.unmarked c.knowledge_is_enough.ensures.enough c.damage_is_never_met.ensures.never c.honest_sessions_are_smooth.ensures c.honest_lines_are_printed.ensures c.closed_is_finished.ensures.finished c.args.cat.now c.a_catalog_is_short.ensures.catalog c.a_catalog_has_a_layout.ensures.layout.tree (texts_of c.args.script.now) c.requires.few
     (λ journal. g.L.Link.went c.args.link.now journal c.steps.link) (g.L.Link.faults c.args.link.now) (g.L.Link.faults c.steps.link) c.args.options.now.plan g.F.Flash.told c.args.options.now.at.now c.args.options.now.pace.now
     (session_side false (g.O.Sink.faults c.args.out.now) (g.O.Sink.written c.args.out.now) (g.F.Flash.state c.args.flash.now)) (g.O.Sink.faults c.steps.out) (g.O.Sink.written c.steps.out) (g.F.Flash.state c.steps.flash) c.steps.pool c.steps.session c.end.result
     c.steps.invariant.1 c.steps.invariant.2 c.steps.invariant.4 (c.due.ensures.closed c.in-Ended.is) (c.due.ensures.none c.in-Ended.is) c.end.ensures.texts c.end.ensures.refused c.end.ensures.faulted c.end.ensures.status in
@@ -160,7 +160,7 @@ returns-in-Ended-clause-flash_calls g c =
 
 pub returns-in-Ended-clause-flash_faults : goal.returns-in-Ended-clause-flash_faults
 returns-in-Ended-clause-flash_faults g c =
-    let last = last_of c.later_texts_are_unmarked.ensures.unmarked c.knowledge_is_enough.ensures.enough c.damage_is_never_met.ensures.never c.honest_sessions_are_smooth.ensures c.honest_lines_are_printed.ensures c.closed_is_finished.ensures.finished c.args.cat.now c.a_catalog_is_short.ensures.catalog c.a_catalog_has_a_layout.ensures.layout.tree (texts_of c.args.script.now) c.requires.few
+    let last = last_of c.runs_take_few_calls.ensures c.later_texts_are_unmarked.ensures.unmarked c.knowledge_is_enough.ensures.enough c.damage_is_never_met.ensures.never c.honest_sessions_are_smooth.ensures c.honest_lines_are_printed.ensures c.closed_is_finished.ensures.finished c.args.cat.now c.a_catalog_is_short.ensures.catalog c.a_catalog_has_a_layout.ensures.layout.tree (texts_of c.args.script.now) c.requires.few
     (λ journal. g.L.Link.went c.args.link.now journal c.steps.link) (g.L.Link.faults c.args.link.now) (g.L.Link.faults c.steps.link) c.args.options.now.plan g.F.Flash.told c.args.options.now.at.now c.args.options.now.pace.now
     (session_side false (g.O.Sink.faults c.args.out.now) (g.O.Sink.written c.args.out.now) (g.F.Flash.state c.args.flash.now)) (g.O.Sink.faults c.steps.out) (g.O.Sink.written c.steps.out) (g.F.Flash.state c.steps.flash) c.steps.pool c.steps.session c.end.result
     c.steps.invariant.1 c.steps.invariant.2 c.steps.invariant.4 (c.due.ensures.closed c.in-Ended.is) (c.due.ensures.none c.in-Ended.is) c.end.ensures.texts c.end.ensures.refused c.end.ensures.faulted c.end.ensures.status in
@@ -168,7 +168,7 @@ returns-in-Ended-clause-flash_faults g c =
 
 pub returns-in-Ended-clause-paced : goal.returns-in-Ended-clause-paced
 returns-in-Ended-clause-paced g c =
-    let last = last_of c.later_texts_are_unmarked.ensures.unmarked c.knowledge_is_enough.ensures.enough c.damage_is_never_met.ensures.never c.honest_sessions_are_smooth.ensures c.honest_lines_are_printed.ensures c.closed_is_finished.ensures.finished c.args.cat.now c.a_catalog_is_short.ensures.catalog c.a_catalog_has_a_layout.ensures.layout.tree (texts_of c.args.script.now) c.requires.few
+    let last = last_of c.runs_take_few_calls.ensures c.later_texts_are_unmarked.ensures.unmarked c.knowledge_is_enough.ensures.enough c.damage_is_never_met.ensures.never c.honest_sessions_are_smooth.ensures c.honest_lines_are_printed.ensures c.closed_is_finished.ensures.finished c.args.cat.now c.a_catalog_is_short.ensures.catalog c.a_catalog_has_a_layout.ensures.layout.tree (texts_of c.args.script.now) c.requires.few
     (λ journal. g.L.Link.went c.args.link.now journal c.steps.link) (g.L.Link.faults c.args.link.now) (g.L.Link.faults c.steps.link) c.args.options.now.plan g.F.Flash.told c.args.options.now.at.now c.args.options.now.pace.now
     (session_side false (g.O.Sink.faults c.args.out.now) (g.O.Sink.written c.args.out.now) (g.F.Flash.state c.args.flash.now)) (g.O.Sink.faults c.steps.out) (g.O.Sink.written c.steps.out) (g.F.Flash.state c.steps.flash) c.steps.pool c.steps.session c.end.result
     c.steps.invariant.1 c.steps.invariant.2 c.steps.invariant.4 (c.due.ensures.closed c.in-Ended.is) (c.due.ensures.none c.in-Ended.is) c.end.ensures.texts c.end.ensures.refused c.end.ensures.faulted c.end.ensures.status in

@@ -1,4 +1,4 @@
-use Rattle.std.proofs.Common.{◌+◌, ℕ, sym, subst}
+use Rattle.std.proofs.Common.{◌+◌, ℕ, arith, refl, sym, subst}
 use Rattle.leakless_plan.specs.declared.plan.Plan.{Plan}
 use Rattle.key_session.specs.Kept.{lease_of}
 use Rattle.key_session.specs.Going.{CanRun}
@@ -17,6 +17,10 @@ returns-clause-live g c = λ plan texts journal since sink near live.
       tells = moved.tells;
       paced = c.moved.ensures.paced;
       few = c.make_move-refusal.ensures.few;
+      fills = moved.fills;
+      counts = (let calls = c.make_move-refusal.ensures.writes.never_falls in let faults = c.make_move-refusal.ensures.never_falls in record { calls = omega (arith, calls); faults = omega (arith, faults) });
+      cat = refl;
+      teller = refl;
       live = record {
         channel = moved.channel;
         amid = moved.amid;

@@ -5,7 +5,8 @@ use Rattle.channel_pump.specs.Here.{moves_left}
 use Rattle.channel_pump.specs.Entries.{WentBy}
 use Rattle.channel_pump.specs.declared.exchange.Exchange.{Exchange}
 use Rattle.key_session.specs.Telling.{session_side}
-use Rattle.key_session.specs.Going.{WasMoved, WentOn, MadeStep, left_of}
+use Rattle.leakless_plan.specs.declared.plan.Plan.{Plan}
+use Rattle.key_session.specs.Going.{IsLive, WasMoved, WentOn, MadeStep, left_of}
 use Rattle.key_session.specs.Order.{is_closed}
 use Rattle.key_session.specs.declared.pace.Due.{Due}
 use Rattle.key_session.specs.declared.teller.Teller.{Teller}
@@ -75,6 +76,10 @@ returns-in-Slice-clause-live g c = λ plan texts journal since live.
     (record {
       went = record { gone = g.met.L.Link.stays _; counts = c.moves_join.ensures.joined.none _; short = refl };
       sliced = c.tell.ensures.sliced;
+      spends = λ is_pre. c.tell.ensures.spends texts journal since next
+          (subst (λ (by : Plan). IsLive by g.F.Flash.told texts journal since (session_side c.args.self.now.teller.printer.failed (g.O.Sink.faults c.args.out.now) (g.O.Sink.written c.args.out.now) (g.F.Flash.state c.args.flash.now)) c.args.pool.now c.args.self.now) is_pre live);
+      counts = c.tell.ensures.counts;
+      cat = ap (λ (cat : _). cat.now) c.tell.ensures.cat;
       live = c.tell.ensures.live plan texts journal since next live;
     })
 

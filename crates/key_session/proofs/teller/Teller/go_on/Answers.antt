@@ -1,5 +1,10 @@
-use Rattle.std.proofs.Common.{◌+◌, sym, subst}
-use Rattle.std.specs.Prelude.{◌%◌}
+use Rattle.std.proofs.Common.{◌+◌, ◌≤◌, sym, subst, Option, Some, None}
+use Rattle.std.specs.Prelude.{◌%◌, take, sum_by}
+use Rattle.leakless_plan.specs.declared.plan.Plan.TheVariants.{Pre}
+use Rattle.key_exec.specs.Within.{text_work}
+use Rattle.key_exec.specs.declared.telling.Telling.{Telling}
+use Rattle.key_exec.specs.declared.text.Told.{Told}
+use Rattle.key_session.specs.Spending.{spent_by}
 use Rattle.key_lines.specs.Handing.{handed}
 use Rattle.key_lines.specs.declared.printer.Printer.{Printer}
 use Rattle.key_session.specs.Kept.{is_lost, lease_of}
@@ -9,6 +14,7 @@ use Rattle.key_exec.specs.Rows.{TakesTurn}
 use Rattle.key_session.specs.Telling.{session_side}
 use Rattle.key_session.proofs.Beginning.{keeps_spool, has, still_going, still_runs, was_told, alone_still, ended_run, text_run, text_alone}
 use Rattle.key_session.proofs.OneMore.{PageLaws}
+use Rattle.key_session.proofs.Spent.{SpendLaws, served, undamaged, ended_within, goes_on_spent, ended_spent, faults_stay}
 use Rattle.key_session.proofs.teller.Teller.go_on.Goals as goal
 
 pub returns-in-None-clause-told : goal.returns-in-None-clause-told
@@ -79,3 +85,43 @@ pub returns-in-Some-step-clause-kept : goal.returns-in-Some-step-clause-kept
 returns-in-Some-step-clause-kept g c = λ plan cat lease can.
     c.step.ensures.kept plan cat ((c.args.self.now.count + 1) % 2)
     (text_run plan g.F.Flash.told cat (g.F.Flash.state c.args.flash.now) c.args.pool.now (c.args.self.now.count + 1) lease c.args.self.now.running c.in-Some.telling c.in-Some.is can).0
+
+pub returns-in-None-clause-spends : goal.returns-in-None-clause-spends
+returns-in-None-clause-spends g c = λ cat texts journal since pump replies tree can begun database served unfailed less.
+    let run = text_run Pre g.F.Flash.told cat (g.F.Flash.state c.args.flash.now) c.args.pool.now (c.args.self.now.count + 1) (lease_of replies) c.args.self.now.running c.in-Some.telling c.in-Some.is can in
+    let most = (c.in-None.ensures.spent Pre cat ((c.args.self.now.count + 1) % 2) run.0).most in
+    subst (λ (running : Option Telling). (g.F.Flash.state c.step.new.flash).calls + (sum_by (text_work cat.schema database) (take c.args.self.now.count texts) + spent_by running)
+    ≤ (g.F.Flash.state c.args.flash.now).calls + (sum_by (text_work cat.schema database) (take c.args.self.now.count texts) + lines.spent_of c.step.new.self)) (sym c.in-Some.is)
+    (goes_on_spent (text_work cat.schema database) texts c.args.self.now.count (lines.spent_of c.in-Some.telling) (lines.spent_of c.step.new.self) (g.F.Flash.state c.args.flash.now).calls (g.F.Flash.state c.step.new.flash).calls most c.step.ensures.rises)
+
+pub returns-in-Some-step-clause-spends : goal.returns-in-Some-step-clause-spends
+returns-in-Some-step-clause-spends g c = λ cat texts journal since pump replies tree can begun database served_is unfailed less.
+    let run = text_run Pre g.F.Flash.told cat (g.F.Flash.state c.args.flash.now) c.args.pool.now (c.args.self.now.count + 1) (lease_of replies) c.args.self.now.running c.in-Some.telling c.in-Some.is can in
+    let keeps = keeps_spool Pre cat (g.F.Flash.state c.args.flash.now) (g.F.Flash.state c.step.new.flash) (c.step.ensures.kept Pre cat ((c.args.self.now.count + 1) % 2) run.0) in
+    let before = session_side c.args.self.now.printer.failed (g.O.Sink.faults c.args.out.now) (g.O.Sink.written c.args.out.now) (g.F.Flash.state c.args.flash.now) in
+    let now = session_side c.step.new.printer.failed (g.O.Sink.faults c.step.new.out) (g.O.Sink.written c.step.new.out) (g.F.Flash.state c.step.new.flash) in
+    let page_laws : PageLaws = record { but = c.knowledge_stays.ensures.but; damage = c.knowledge_stays.ensures.damage } in
+    let taken = has c.pieces_join.ensures c.texts_are_decided.ensures page_laws c.replies_stay_kept.ensures.kept c.later_texts_are_unmarked.ensures.unmarked c.low_rises.ensures.kept Pre g.F.Flash.told cat texts journal since before now c.args.pool.now c.step.new.pool pump c.args.self.now replies
+    c.in-Some.telling c.step.new.self c.in-Some.is begun keeps c.step.ensures.number c.step.ensures.others c.step.ensures.kept_others run.1 in
+    let laws : SpendLaws = record { never = c.damage_is_never_met.ensures.never; enough = c.knowledge_is_enough.ensures.enough; stays = c.knowledge_stays.ensures.pages; decided = c.texts_are_decided.ensures } in
+    let is_served = served laws g.F.Flash.told cat tree texts journal since begun.first before c.args.self.now.count (is_lost replies (c.args.self.now.count + 1)) begun.state begun.half c.args.pool.now c.in-Some.telling taken database served_is in
+    let within = c.in-Some-step.ensures.within cat ((c.args.self.now.count + 1) % 2) taken.written begun.state (is_lost replies (c.args.self.now.count + 1)) begun.half begun.first.flash begun.first.sink taken.under_way database _ is_served less in
+    let goes = c.in-Some-step.ensures.goes Pre cat ((c.args.self.now.count + 1) % 2) taken.written begun.state (is_lost replies (c.args.self.now.count + 1)) begun.half begun.first.flash begun.first.sink taken.under_way in
+    let calls = ended_within (lines.spent_of c.in-Some.telling) (lines.spent_of c.step.new.self) (text_work cat.schema database taken.written) (g.F.Flash.state c.args.flash.now).calls (g.F.Flash.state c.step.new.flash).calls
+    (g.F.Flash.state c.args.flash.now).faults (g.F.Flash.state c.step.new.flash).faults c.in-Some-step.told
+    (c.in-Some-step.ensures.spent Pre cat ((c.args.self.now.count + 1) % 2) run.0) c.step.ensures.rises within c.in-Some-step.ensures.faults unfailed
+    (λ damage e. undamaged laws g.F.Flash.told cat tree texts journal since begun.first before c.args.self.now.count (is_lost replies (c.args.self.now.count + 1)) begun.state begun.half c.args.pool.now c.in-Some.telling taken database served_is
+    ((c.args.self.now.count + 1) % 2) c.step.new.self.number (g.F.Flash.state c.step.new.flash) now.sink damage
+    (subst (λ (result : Told). HasTold Pre g.F.Flash.told cat ((c.args.self.now.count + 1) % 2) c.step.new.self.number taken.written begun.state (is_lost replies (c.args.self.now.count + 1)) begun.half begun.first.flash (g.F.Flash.state c.step.new.flash) begun.first.sink now.sink result) e goes)) in
+    let sums = ended_spent (text_work cat.schema database) texts c.args.self.now.count c.end.new.self.count (lines.spent_of c.in-Some.telling) (g.F.Flash.state c.args.flash.now).calls (g.F.Flash.state c.step.new.flash).calls taken.written
+    taken.stands c.end.ensures.ended.count calls in
+    subst (λ (later : Option Telling). (g.F.Flash.state c.step.new.flash).calls + (sum_by (text_work cat.schema database) (take c.args.self.now.count texts) + spent_by c.args.self.now.running)
+    ≤ (g.F.Flash.state c.args.flash.now).calls + (sum_by (text_work cat.schema database) (take c.end.new.self.count texts) + spent_by later)) (sym c.end.ensures.ended.running)
+    (subst (λ (running : Option Telling). (g.F.Flash.state c.step.new.flash).calls + (sum_by (text_work cat.schema database) (take c.args.self.now.count texts) + spent_by running)
+    ≤ (g.F.Flash.state c.args.flash.now).calls + (sum_by (text_work cat.schema database) (take c.end.new.self.count texts) + 0)) (sym c.in-Some.is) sums)
+
+pub returns-in-None-clause-counts : goal.returns-in-None-clause-counts
+returns-in-None-clause-counts g c = record { calls = c.step.ensures.never_falls; faults = faults_stay (g.F.Flash.state c.args.flash.now).faults (g.F.Flash.state c.step.new.flash).faults None c.in-None.ensures.faults }
+
+pub returns-in-Some-step-clause-counts : goal.returns-in-Some-step-clause-counts
+returns-in-Some-step-clause-counts g c = record { calls = c.step.ensures.never_falls; faults = faults_stay (g.F.Flash.state c.args.flash.now).faults (g.F.Flash.state c.step.new.flash).faults (Some c.in-Some-step.told) c.in-Some-step.ensures.faults }
