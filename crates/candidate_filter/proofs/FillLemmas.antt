@@ -1,0 +1,178 @@
+-- What the steps of a filling leave: buffers, the list and the filter.
+use Rattle.std.proofs.Common.{◌≡◌, ◌∙◌, ℕ, zero, suc, ◌+◌, ◌-◌, ◌<◌, ◌≤◌, Bool, true, false, List, [], ◌∷◌, ◌++◌, length, get_or, refl, ap, sym, subst, append-nil, arith}
+use Rattle.std.proofs.lemmas.List.{append_assoc}
+use Rattle.edge_traits.specs.Devices.{Device, Counts, KeepsPages}
+use Rattle.edge_traits.proofs.DeviceFrames.{kept_same, kept_trans, counts_more}
+use Rattle.page_pool.specs.Pools.{Pool, AreOut, IsOut, ChangesPage, KeepsOthers, bytes_at, given, others_out}
+use Rattle.page_pool.proofs.Marks.{other_was_out}
+use Rattle.page_pool.proofs.Leases.{out_kept, outs_kept, others_kept, others_trans, others_fewer, same_of_others, outs_first, outs_from_front, outs_to_front, outs_swapped, all_given_swapped, change_keeps_out, change_keeps_others, head_apart, holder_keeps_outs}
+use Rattle.flash_pages.specs.declared.cursor.RunCursor.{RunCursor}
+use Rattle.std.specs.Prelude.{Option, Some, Ok}
+use Rattle.ghost_model.specs.forms.Runs.{ids_from}
+use Rattle.ghost_base.specs.Runs.{run_of}
+use Rattle.flash_pages.specs.Cursors.{IsReady, SameList, GivesNext, GivesId, ids_left, place}
+use Rattle.flash_pages.specs.Reads.{WasGiven}
+use Rattle.flash_pages.proofs.LeaseFrames.{ready_kept, given_kept}
+use Rattle.bloom_post.specs.Filters.{StandsFor, KeepsBeside}
+use Rattle.bloom_post.specs.Laws.{FiltersStay}
+use Rattle.bloom_post.proofs.LeasedBits.{beside_keeps_out}
+use Rattle.candidate_filter.specs.declared.filling.Filling.{Filling}
+use Rattle.candidate_filter.specs.Fills.{Fills, IsFilling, GoesFilling, filling_leases}
+
+-- the leases behind the first of some
+pub rest_out : (pool : Pool) (lease : ℕ) (leases : List ℕ) → AreOut pool (lease ∷ leases) → AreOut pool leases
+rest_out pool lease leases are =
+    let P : List ℕ → Type 0 = λ ls. AreOut pool (lease ∷ ls) in
+    outs_first pool leases (lease ∷ []) (outs_from_front pool leases lease [] (subst P (sym (append-nil leases)) are))
+
+-- a lease is out beside the others, and what is out beside all is out beside the others
+pub out_beside :
+    (pool : Pool) (lease : ℕ) (leases : List ℕ) → AreOut pool (lease ∷ leases) → get_or (others_out pool leases) lease false ≡ true
+out_beside pool lease [] are = are.0.out
+out_beside pool lease (first ∷ leases) are = out_beside (given pool first) lease leases (outs_swapped pool lease first leases are).1
+
+pub out_beside_fewer :
+    (pool : Pool) (lease : ℕ) (leases : List ℕ) (other : ℕ) → get_or (others_out pool (lease ∷ leases)) other false ≡ true
+    → get_or (others_out pool leases) other false ≡ true
+out_beside_fewer pool lease [] other is = other_was_out pool.out lease other is
+out_beside_fewer pool lease (first ∷ leases) other is =
+    let P : Pool → Type 0 = λ pool. get_or pool.out other false ≡ true in
+    out_beside_fewer (given pool first) lease leases other (subst P (all_given_swapped pool lease first leases) is)
+
+-- a lease that is out beside a new holder's leases
+pub joins_out :
+    (before now : Pool) (lease : ℕ) (leases : List ℕ) → IsOut before lease → AreOut now leases → others_out now leases ≡ before.out
+    → length now.pages ≡ length before.pages → AreOut now (lease ∷ leases)
+joins_out before now lease leases is are others size =
+    let P : List ℕ → Type 0 = λ ls. AreOut now (lease ∷ ls) in
+    subst P (append-nil leases)
+    (outs_to_front now leases lease [] (holder_keeps_outs before now [] leases (lease ∷ []) (is, tt) are others size))
+
+-- the buffers of a filter stay where another lease was used
+pub filter_bytes :
+    {pool later : Pool} {lease : ℕ} (leases : List ℕ) → AreOut pool (lease ∷ leases) → ChangesPage pool later lease
+    → (i : ℕ) → i < length leases → bytes_at later (get_or leases i 0) ≡ bytes_at pool (get_or leases i 0)
+filter_bytes {pool = pool} {lease = lease} leases are changes i within =
+    changes.bytes (get_or leases i 0) (head_apart pool lease leases i 0 within are)
+
+-- the list was read
+pub went_next :
+    {told : Bool} {before now : Device} {pool later : Pool} (filling : Filling) (cursor : RunCursor) → IsFilling told before pool filling
+    → KeepsPages before now → ChangesPage pool later filling.cursor.lease → SameList filling.cursor cursor → IsReady told now later cursor
+    → ((since : ℕ) → since ≤ before.calls → WasGiven since before pool filling.cursor.lease → WasGiven since now later filling.cursor.lease)
+    → GoesFilling told before now pool later filling (record { cursor = cursor; filter = filling.filter })
+went_next {now = now} {later = later} filling cursor is kept buffer list ready gives =
+    let P : ℕ → Type 0 = λ lease. AreOut later (lease ∷ filling.filter) in
+    record {
+      kept = kept;
+      out = buffer.out;
+      others = change_keeps_others (filling_leases filling) 0 0 (omega arith) buffer;
+      list = list;
+      filter = refl;
+      given = λ since from given.
+          let W : ℕ → Type 0 = λ lease. WasGiven since now later lease in
+          subst W (sym list.lease) (gives since from given);
+      filling = record { ready = ready; leases = subst P (sym list.lease) (outs_kept (filling_leases filling) (change_keeps_out buffer) is.leases) };
+    }
+
+-- the filter was written
+pub went_add :
+    {told : Bool} {device : Device} {pool later : Pool} (filling : Filling) → IsFilling told device pool filling
+    → KeepsBeside filling.filter pool later → GoesFilling told device device pool later filling filling
+went_add {device = device} {pool = pool} filling is beside =
+    let same = same_of_others beside.kept (out_beside pool filling.cursor.lease filling.filter is.leases) in
+    let keeps = beside_keeps_out beside in
+    record {
+      kept = kept_same device;
+      out = beside.out;
+      others = others_fewer (λ other out. out_beside_fewer pool filling.cursor.lease filling.filter other out) beside.kept;
+      list = record { list = refl; rows = refl; lease = refl };
+      filter = refl;
+      given = λ since from given. given_kept since device device (λ at number bytes gave. gave) same given;
+      filling = record {
+        ready = ready_kept refl (λ is_told i within. refl) (out_kept keeps is.ready.buffer.out) same is.ready;
+        leases = outs_kept (filling_leases filling) keeps is.leases;
+      };
+    }
+
+-- one after another
+pub goes_again :
+    {told : Bool} {a b c : Device} {pool then later : Pool} {old mid new : Filling} → GoesFilling told a b pool then old mid
+    → GoesFilling told b c then later mid new → GoesFilling told a c pool later old new
+goes_again {pool = pool} {then = then} {later = later} {old = old} {mid = mid} one two =
+    let P : List Bool → Type 0 = λ others. KeepsOthers others then later in
+    let held : filling_leases mid ≡ filling_leases old = ap (λ lease. lease ∷ mid.filter) one.list.lease ∙ ap (λ (ls : List ℕ). old.cursor.lease ∷ ls) one.filter in
+    record {
+      kept = kept_trans one.kept two.kept;
+      out = two.out ∙ one.out;
+      others =
+          others_trans one.others
+          (subst P (ap (λ leases. others_out then leases) held ∙ others_kept (filling_leases old) (record { out = one.out; size = one.others.size })) two.others);
+      list = record { list = two.list.list ∙ one.list.list; rows = two.list.rows ∙ one.list.rows; lease = two.list.lease ∙ one.list.lease };
+      filter = two.filter ∙ one.filter;
+      given = λ since from given. two.given since (omega (arith, from, one.kept.never_falls)) (one.given since from given);
+      filling = two.filling;
+    }
+
+pub goes_none : {told : Bool} {device : Device} {pool : Pool} (filling : Filling) → IsFilling told device pool filling → GoesFilling told device device pool pool filling filling
+goes_none {device = device} {pool = pool} filling is = record {
+  kept = kept_same device;
+  out = refl;
+  others = record { size = refl; bytes = λ other is. refl; filled = λ other is. refl };
+  list = record { list = refl; rows = refl; lease = refl };
+  filter = refl;
+  given = λ since from given. given;
+  filling = is;
+}
+
+-- what the filter stands for, where the list stands where it stood
+pub fills_still :
+    {page now : ℕ → List ℕ} {pool later : Pool} (filling : Filling) (cursor : RunCursor) (ids : List ℕ) → FiltersStay
+    → AreOut pool (filling_leases filling) → ChangesPage pool later filling.cursor.lease → now ≡ page → cursor ≡ filling.cursor
+    → Fills page pool filling ids → Fills now later (record { cursor = cursor; filter = filling.filter }) ids
+fills_still {page = page} {pool = pool} {later = later} filling cursor ids stay are buffer pages same was = record {
+  taken = was.taken;
+  stands = stay pool later filling.filter was.taken (filter_bytes filling.filter are buffer) was.stands;
+  are = ap (λ (f : ℕ → List ℕ). was.taken ++ ids_left f cursor) pages ∙ ap (λ (r : RunCursor). was.taken ++ ids_left page r) same ∙ was.are;
+}
+
+-- one identifier more
+pub fills_more :
+    {page now : ℕ → List ℕ} {pool then later : Pool} (filling : Filling) (cursor : RunCursor) (ids : List ℕ) (id : ℕ) → FiltersStay
+    → AreOut pool (filling_leases filling) → ChangesPage pool then filling.cursor.lease → now ≡ page
+    → ids_left page filling.cursor ≡ id ∷ ids_left page cursor
+    → ((taken : List ℕ) → StandsFor then filling.filter taken → StandsFor later filling.filter (taken ++ id ∷ []))
+    → Fills page pool filling ids → Fills now later (record { cursor = cursor; filter = filling.filter }) ids
+fills_more {page = page} {pool = pool} {then = then} filling cursor ids id stay are buffer pages left added was = record {
+  taken = was.taken ++ id ∷ [];
+  stands = added was.taken (stay pool then filling.filter was.taken (filter_bytes filling.filter are buffer) was.stands);
+  are =
+      ap (λ (f : ℕ → List ℕ). (was.taken ++ id ∷ []) ++ ids_left f cursor) pages
+      ∙ append_assoc was.taken (id ∷ []) (ids_left page cursor)
+      ∙ ap (λ (xs : List ℕ). was.taken ++ xs) (sym left)
+      ∙ was.are;
+}
+
+-- the list has none left: the filter stands for all
+none_from : (page : ℕ → List ℕ) (cursor : RunCursor) (left : ℕ) → left ≡ 0 → ids_from page (run_of cursor.list.run) (place cursor) left ≡ []
+unfolding ids_from
+none_from page cursor zero none = refl
+none_from page cursor (suc left) none = absurd (omega (arith, none))
+
+pub fills_all :
+    {page : ℕ → List ℕ} {pool : Pool} (filling : Filling) (ids : List ℕ) → filling.cursor.list.count ≤ filling.cursor.at
+    → Fills page pool filling ids → StandsFor pool filling.filter ids
+fills_all {page = page} {pool = pool} filling ids end was =
+    let P : List ℕ → Type 0 = λ xs. StandsFor pool filling.filter xs in
+    let none = none_from page filling.cursor (filling.cursor.list.count - filling.cursor.at) (omega (arith, end)) in
+    subst P (sym (append-nil was.taken) ∙ ap (λ (xs : List ℕ). was.taken ++ xs) (sym none) ∙ was.are) was.stands
+
+pub gives_some : {page : ℕ → List ℕ} {old new : RunCursor} {next : Option ℕ} {id : ℕ} → next ≡ Some id → GivesNext page old new (Ok next) → GivesId page old new id
+gives_some {page = page} {old = old} {new = new} is gives = let P : Option ℕ → Type 0 = λ next. GivesNext page old new (Ok next) in subst P is gives
+
+-- what was added to a count is how many calls were made
+pub counts_again : {a b c : ℕ} (old mid new : ℕ) → old ≤ mid → mid ≤ new → Counts (mid - old) a b → Counts (new - mid) b c → Counts (new - old) a c
+counts_again {a = a} {c = c} old mid new one two first second =
+    let P : ℕ → Type 0 = λ n. Counts n a c in
+    let sum : (mid - old) + (new - mid) ≡ new - old = omega (arith, one, two) in
+    subst P sum (counts_more first second)

@@ -1,0 +1,4 @@
+pub mod FillLemmas
+pub mod SiftLemmas
+pub mod SiftContents
+pub mod Sparing

@@ -1,0 +1,222 @@
+-- What stays of a filling and of a sifting where others write elsewhere.
+use Rattle.std.proofs.Common.{◌≡◌, ◌∙◌, ℕ, suc, ◌+◌, ◌-◌, ◌/◌, ◌%◌, ◌<◌, ◌≤◌, Bool, true, List, [], ◌∷◌, ◌++◌, length, get_or, eq-eqb, refl, ap, sym, subst, arith}
+use Rattle.std.specs.Prelude.{Option, Some, None, IfSome}
+use Rattle.std.proofs.lemmas.Bool.{or_left, or_right}
+use Rattle.std.proofs.lemmas.Nat.{mod_below}
+use Rattle.std.proofs.lemmas.List.{get_or_append_left, length-append}
+use Rattle.ghost_model.specs.forms.Runs.{page_of, pages_of, per_page}
+use Rattle.ghost_base.specs.declared.runs.Run.{Run}
+use Rattle.ghost_base.specs.Runs.{run_of}
+use Rattle.edge_traits.specs.Devices.{Device, ChangesOnly}
+use Rattle.page_pool.specs.Pools.{Pool, page_at}
+use Rattle.page_pool.specs.Laws.{SameBuffer}
+use Rattle.page_pool.proofs.Leases.{out_kept, outs_kept}
+use Rattle.flash_pages.specs.Cursors.{IsPageOf}
+use Rattle.flash_pages.proofs.LeaseFrames.{put_kept, some_then, can_read_kept, ids_kept, ready_kept}
+use Rattle.flash_pages.proofs.RunFrames.{record_kept, run_kept, stores_kept}
+use Rattle.bloom_post.specs.Places.{size_of, spread}
+use Rattle.bloom_post.specs.Filters.{is_set}
+use Rattle.bloom_post.specs.Laws.{FiltersStay}
+use Rattle.bloom_post.proofs.LeasedBits.{bit_of_member}
+use Rattle.id_merge.specs.declared.merge.Merge.{Merge}
+use Rattle.id_merge.specs.Spared.{CursorsStayRight, Spares}
+use Rattle.spill_pass.specs.Grouping.{AreApart}
+use Rattle.spill_pass.specs.Merging.{IsPlaced, area_end, area_pages, leases_held}
+use Rattle.spill_pass.proofs.SparedLemmas.{next_within}
+use Rattle.spill_pass.proofs.SparedMerging.{area_spared}
+use Rattle.spill_pass.proofs.Writing.{pages_below}
+use Rattle.spill_pass.specs.Sparing.{MergingStays, MergingLeftStays}
+use Rattle.candidate_filter.specs.declared.sifting.Sifting.{Sifting}
+use Rattle.candidate_filter.specs.Fills.{filling_leases}
+use Rattle.subtree_keys.specs.Tables.{row_spelled, slot_row}
+use Rattle.candidate_filter.specs.Sifts.{IsSifted, IsUnderWay, SiftsSoFar, SiftingHasBy, Tests, HasKeys, IsSiftingBy, sift_leases, sift_left}
+use Rattle.candidate_filter.specs.Laws.{RepliedRowsPass, FillingStays, FillsStay, SiftingOutside, SiftingStays, SiftingHasStays, SiftLeftStays}
+use Rattle.candidate_filter.proofs.SiftLemmas.{all_three, beside_page, may_stays}
+
+pub rows_pass : RepliedRowsPass
+rows_pass pool filter ids row some stands has =
+    let size = size_of (length filter) in
+    let positive : 0 < size = omega (arith, some) in
+    let first = row % size in
+    let second = spread 2654435761 row % size in
+    let third = spread 2246822519 row % size in
+    all_three (is_set pool filter) (λ bit. true) first second third
+    (bit_of_member pool filter ids row first stands has (mod_below row size positive) (or_left _ _ (eq-eqb first first refl)))
+    (bit_of_member pool filter ids row second stands has (mod_below (spread 2654435761 row) size positive) (or_right _ _ (or_left _ _ (eq-eqb second second refl))))
+    (bit_of_member pool filter ids row third stands has (mod_below (spread 2246822519 row) size positive) (or_right _ _ (or_right _ _ (or_left _ _ (eq-eqb third third refl)))))
+
+pub filling_stays : FillingStays
+filling_stays low high told before now pool later filling spares outside is = record {
+  ready =
+      ready_kept spares.changes.page_count
+      (λ is_told i within. beside_page (page_of (run_of filling.cursor.list.run) i) spares.changes (outside i within))
+      (out_kept spares.out is.ready.buffer.out) (spares.buffers 0 (omega arith)) is.ready;
+  leases = outs_kept (filling_leases filling) spares.out is.leases;
+}
+
+pub fills_stay : FiltersStay → FillsStay
+fills_stay stay low high told before now pool later filling ids spares outside is was = record {
+  taken = was.taken;
+  stands = stay pool later filling.filter was.taken (λ i within. (spares.buffers (suc i) (omega (arith, within))).bytes) was.stands;
+  are =
+      ap (λ (xs : List ℕ). was.taken ++ xs)
+      (ids_kept before.page now.page filling.cursor is.ready.list
+      (λ i within. beside_page (page_of (run_of filling.cursor.list.run) i) spares.changes (outside i within)))
+      ∙ was.are;
+}
+
+-- the leases of the first holder, and those of the second
+spares_first :
+    {low high : ℕ} {before now : Device} {pool later : Pool} (leases rest : List ℕ) → Spares low high before now pool later (leases ++ rest)
+    → Spares low high before now pool later leases
+spares_first {pool = pool} {later = later} leases rest spares = record {
+  changes = spares.changes;
+  out = spares.out;
+  buffers = λ i within.
+      let P : ℕ → Type 0 = λ lease. SameBuffer pool later lease in
+      subst P (get_or_append_left leases rest 0 i within) (spares.buffers i (omega (arith, within, length-append leases rest)));
+}
+
+behind_first : (leases rest : List ℕ) (i : ℕ) → get_or (leases ++ rest) (length leases + i) 0 ≡ get_or rest i 0
+behind_first [] rest i = let e : 0 + i ≡ i = omega arith in ap (λ n. get_or rest n 0) e
+behind_first (lease ∷ leases) rest i =
+    let e : suc (length leases) + i ≡ suc (length leases + i) = omega arith in
+    ap (λ n. get_or (lease ∷ (leases ++ rest)) n 0) e ∙ behind_first leases rest i
+
+spares_rest :
+    {low high : ℕ} {before now : Device} {pool later : Pool} (leases rest : List ℕ) → Spares low high before now pool later (leases ++ rest)
+    → (i : ℕ) → i < length rest → SameBuffer pool later (get_or rest i 0)
+spares_rest {pool = pool} {later = later} leases rest spares i within =
+    let P : ℕ → Type 0 = λ lease. SameBuffer pool later lease in
+    subst P (behind_first leases rest i) (spares.buffers (length leases + i) (omega (arith, within, length-append leases rest)))
+
+pub has_stays :
+    {low high : ℕ} {told : Bool} {before now : Device} {pool later : Pool} (s : Sifting) → Spares low high before now pool later (sift_leases s)
+    → SiftingOutside low high s → HasKeys told before pool s → HasKeys told now later s
+has_stays {told = told} {before = before} {now = now} {pool = pool} {later = later} s spares outside has =
+    let same = spares_rest (leases_held s.into) (s.lease ∷ s.filter) spares 0 (omega arith) in
+    let S : Option ℕ → Type 0 = λ held. IfSome held (IsPageOf (run_of s.keys.run)) in
+    record {
+      leases = outs_kept (sift_leases s) spares.out has.leases;
+      readable = record { has = run_kept spares.changes.page_count has.readable.has; wide = has.readable.wide; few = has.readable.few };
+      rows = has.rows;
+      place = has.place;
+      outside = has.outside;
+      read =
+          can_read_kept (out_kept spares.out has.read.out) same
+          (some_then {P = IsPageOf (run_of s.keys.run)} {Q = λ number. told ≡ true → now.page number ≡ before.page number}
+          (page_at pool s.lease)
+          (λ number of_run. λ is_told.
+          ap (λ n. now.page n) of_run.is ∙ beside_page (page_of (run_of s.keys.run) of_run.place) spares.changes (outside.keys of_run.place of_run.within)
+          ∙ ap (λ n. before.page n) (sym of_run.is)) has.page)
+          has.read;
+      some = has.some;
+      page = subst S (sym same.filled) has.page;
+    }
+
+sifting_by :
+    {low high : ℕ} (told : Bool) {before now : Device} {pool later : Pool} (s : Sifting) (run : Option Run) → MergingStays
+    → Spares low high before now pool later (sift_leases s) → SiftingOutside low high s → IsSiftingBy told before pool s run
+    → IsSiftingBy told now later s run
+sifting_by {low = low} {high = high} told {before = before} {now = now} {pool = pool} {later = later} s None stays spares outside is = record {
+  can = record {
+    merging = stays low high told before now pool later s.into (spares_first (leases_held s.into) (s.lease ∷ s.filter) spares) outside.merging is.can.merging;
+    has = has_stays s spares outside is.can.has;
+  };
+  room = is.room;
+}
+sifting_by told s (Some run) stays spares outside is = record { placed = is.placed; leases = outs_kept (sift_leases s) spares.out is.leases }
+
+pub sifting_stays : MergingStays → SiftingStays
+sifting_stays stays low high told before now pool later s spares outside is = sifting_by told s s.run stays spares outside is
+
+left_by : (pool later : Pool) (s : Sifting) (run : Option Run) → sift_left later s.into None ≡ sift_left pool s.into None → sift_left later s.into run ≡ sift_left pool s.into run
+left_by pool later s None same = same
+left_by pool later s (Some run) same = refl
+
+pub left_stays : MergingLeftStays → SiftLeftStays
+left_stays stays low high before now pool later s spares =
+    left_by pool later s s.run
+    (ap (λ n. n + 1) (stays low high before now pool later s.into (spares_first (leases_held s.into) (s.lease ∷ s.filter) spares)))
+
+-- what the list has so far
+tests_spared :
+    {low high : ℕ} {told : Bool} {before now : Device} {pool later : Pool} (s : Sifting) (passes : ℕ → Bool) → HasKeys told before pool s
+    → Spares low high before now pool later (sift_leases s) → SiftingOutside low high s
+    → Tests before.page pool s passes → Tests now.page later s passes
+tests_spared {before = before} {now = now} {pool = pool} {later = later} s passes has spares outside was = λ id some within rows is.
+    let same = record_kept before.page now.page (run_of s.keys.run) (id - 1)
+    (beside_page (page_of (run_of s.keys.run) (id - 1)) spares.changes (outside.keys (id - 1) (omega (arith, some, within)))) in
+    let spelled : slot_row before.page s.keys id ≡ Some rows = ap (λ (bytes : List ℕ). row_spelled s.keys.rows.items bytes) (sym same) ∙ is in
+    was id some within rows spelled
+    ∙ sym (may_stays pool later s.filter (get_or rows s.place 0) has.some
+    (λ i low. (spares_rest (leases_held s.into) (s.lease ∷ s.filter) spares (suc i) (omega (arith, low))).bytes))
+
+so_far_stays :
+    {low high : ℕ} (told : Bool) {right : ℕ → List ℕ} {first : Merge} {passes : ℕ → Bool} {before now : Device} {pool later : Pool} (s : Sifting)
+    → CursorsStayRight → Spares low high before now pool later (sift_leases s) → SiftingOutside low high s → IsUnderWay told before pool s
+    → SiftsSoFar told right first passes before.page pool s → SiftsSoFar told right first passes now.page later s
+so_far_stays {low = low} {high = high} told {right = right} {passes = passes} {before = before} {now = now} {pool = pool} s stays spares outside is was =
+    let into = s.into in
+    let merging = is.can.merging in
+    let ends = next_within into.writer.filler.first into.writer.filler.pages into.writer.filler.held into.writer.filler.count into.rows
+    merging.can.area.block (pages_below merging) merging.count in
+    let rest = spares_first (leases_held into) (s.lease ∷ s.filter) spares in
+    record {
+      sifts = record {
+        ids = was.sifts.ids;
+        put =
+            put_kept into.writer
+            (λ is_told number from to. (area_spared into.writer.filler.first (area_end into) spares.changes outside.merging.area number from (omega (arith, to, ends.0))).bytes)
+            (rest.buffers 0 (omega arith)) was.sifts.put;
+        ascending = was.sifts.ascending;
+        below = was.sifts.below;
+        all = was.sifts.all;
+        lists = stays low high told before now pool right into.merge.cursors.items spares.changes outside.merging.lists merging.can.step.cursors was.sifts.lists;
+      };
+      tests = tests_spared s passes is.can.has spares outside was.tests;
+    }
+
+-- and the list that stands
+in_area : (width i count rows : ℕ) → width ≡ 4 → i < count → count ≤ rows → i / per_page width < area_pages rows
+in_area width i count rows four within few =
+    let P : ℕ → Type 0 = λ w. i / per_page w < area_pages rows in
+    let fits : i / 512 < area_pages rows = omega arith in
+    subst P (sym four) fits
+
+pages_in_area : (width place count rows : ℕ) → width ≡ 4 → place < pages_of count width → count ≤ rows → place < area_pages rows
+pages_in_area width place count rows four within few =
+    let P : ℕ → Type 0 = λ w. place < pages_of count w in
+    let low : place < (count + 511) / 512 = subst P four within in
+    omega (arith, low, few)
+
+sifted_stays :
+    {low high : ℕ} {right : ℕ → List ℕ} {first : Merge} {passes : ℕ → Bool} {before now : Device} (s : Sifting) (run : Run)
+    → ChangesOnly low high before now → AreApart s.into.writer.filler.first (area_end s.into) low high → IsPlaced s.into run
+    → IsSifted right first passes before.page run → IsSifted right first passes now.page run
+sifted_stays s run changes apart placed was = record {
+  ids = was.ids;
+  stores =
+      stores_kept
+      (λ i within.
+      (area_spared s.into.writer.filler.first (area_end s.into) changes apart (page_of (run_of run) i) (omega (arith, placed.first))
+      (omega (arith, placed.first, in_area run.width i run.count s.into.rows placed.width within placed.count))).bytes)
+      (λ place within.
+      (area_spared s.into.writer.filler.first (area_end s.into) changes apart (run.first + place) (omega (arith, placed.first))
+      (omega (arith, placed.first, pages_in_area run.width place run.count s.into.rows placed.width within placed.count))).bytes)
+      was.stores;
+  ascending = was.ascending;
+  all = was.all;
+}
+
+has_by :
+    {low high : ℕ} (told : Bool) (right : ℕ → List ℕ) (first : Merge) (passes : ℕ → Bool) {before now : Device} {pool later : Pool} (s : Sifting)
+    (run : Option Run) → CursorsStayRight → Spares low high before now pool later (sift_leases s) → SiftingOutside low high s
+    → IsSiftingBy told before pool s run → SiftingHasBy told right first passes before.page pool s run
+    → SiftingHasBy told right first passes now.page later s run
+has_by told right first passes s None stays spares outside is was = so_far_stays told s stays spares outside is was
+has_by told right first passes s (Some run) stays spares outside is was = sifted_stays s run spares.changes outside.merging.area is.placed was
+
+pub sifting_has_stays : CursorsStayRight → SiftingHasStays
+sifting_has_stays stays low high told right first passes before now pool later s spares outside is was =
+    has_by told right first passes s s.run stays spares outside is was

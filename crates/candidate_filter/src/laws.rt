@@ -1,0 +1,32 @@
+//! Laws of the pass of a filter.
+
+ghost use Rattle.candidate_filter.specs.Laws.{RepliedRowsPass, FillingStays, FillsStay, SiftingStays, SiftingHasStays, SiftLeftStays};
+
+use bloom_post::laws::filters_stay;
+use id_merge::spared::cursors_are_spared;
+use spill_pass::spared::merging_is_spared;
+
+/// A law: each row of a reply passes the filter that stands for it.
+pub fn replied_rows_pass()
+    ensures pass { RepliedRowsPass }
+{}
+
+/// A law: where others write only pages of a region in which no page of the list lies, and use other buffers, the filter may still be
+/// filled, and stands for what it stood for.
+pub fn filling_is_spared()
+    ensures filling { FillingStays }
+    ensures fills { FillsStay }
+{
+    filters_stay();
+}
+
+/// A law: where others write only pages of a region in which no page of the lists, of the area and of the table lies, and use other
+/// buffers, the candidates may still be sifted, their list has what it had, and as much is left to do.
+pub fn sifting_is_spared()
+    ensures sifting { SiftingStays }
+    ensures has { SiftingHasStays }
+    ensures left { SiftLeftStays }
+{
+    cursors_are_spared();
+    merging_is_spared();
+}
