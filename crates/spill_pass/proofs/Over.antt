@@ -26,6 +26,8 @@ over_same told page run rows (OfList before) (OfList now) same over = record {
   run_is = ap (λ (l : ListRef). l.run) same.list ∙ over.run_is;
   rows_are = omega (arith, same.rows, over.rows_are);
   inside = omega (arith, ap (λ (l : ListRef). l.first) same.list, ap (λ (l : ListRef). l.count) same.list, over.inside);
+  some = over.some;
+  fits = over.fits;
 }
 over_same told page run rows (OfList before) (Range first last) same over = absurd same
 over_same told page run rows (Range first last) now same over =
@@ -115,6 +117,8 @@ lists_blamed blamed run rows since device cursors (Err (Damaged number slot foun
       is = blames.is;
       run_is = is.run_is;
       inside = omega (arith, is.inside, ap (λ (r : Run). r.count) is.run_is);
+      some = omega (arith, is.some, ap (λ (r : Run). r.width) is.run_is);
+      fits = omega (arith, is.fits, ap (λ (r : Run). r.width) is.run_is);
       blames = blames.blames;
     })
 

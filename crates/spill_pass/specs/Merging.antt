@@ -38,11 +38,13 @@ area_end into = into.writer.filler.first + area_pages into.rows
 abbrev pub leases_held : MergeInto → List ℕ
 leases_held into = into.writer.lease ∷ leases_of into.merge.cursors.items
 
--- a cursor is over a list in the run, for identifiers of the rows
+-- a cursor is over a list in the run, whose records have a width that may be, for identifiers of the rows
 pub record IsOver (run : Run) (rows : ℕ) (cursor : RunCursor) : Type 0 where
   pub run_is : cursor.list.run ≡ run
   pub rows_are : cursor.rows ≡ rows
   pub inside : cursor.list.first + cursor.list.count ≤ run.count
+  pub some : 0 < run.width
+  pub fits : run.width ≤ 2048
 
 abbrev pub CursorOver : (run : Run) (rows : ℕ) → Cursor → Type 0
 CursorOver run rows (OfList cursor) = IsOver run rows cursor

@@ -104,13 +104,15 @@ abbrev pub PassTells : (told : Bool) (before now : Device) (pool later : Pool) (
 PassTells told before now pool later source rest old new fan was merging (Went calls) = PassWent told before now pool later source rest old new fan was merging calls
 PassTells told before now pool later source rest old new fan was merging (Placed placed calls) = PassEnds before now old new placed calls
 
--- the slot of the next record of one of the lists at hand is blamed, which lies in the run
+-- the slot of the next record of one of the lists at hand is blamed, which lies in the run, whose records have a width that may be
 pub record BlamesListIn (run : Run) (since : ℕ) (device : Device) (cursors : List Cursor) (number slot found : ℕ) : Type 0 where
   pub at : ℕ
   pub cursor : RunCursor
   pub is : cursor_at cursors at ≡ OfList cursor
   pub run_is : cursor.list.run ≡ run
   pub inside : cursor.list.first + cursor.list.count ≤ cursor.list.run.count
+  pub some : 0 < cursor.list.run.width
+  pub fits : cursor.list.run.width ≤ 2048
   pub blames : BlamesSlot since device cursor cursor.at number slot found
 
 -- a slot that is blamed is one that the source blames, or one of the lists at hand, in the run of the source

@@ -63,7 +63,8 @@ pub record SamePlaces (before now : PlaceReader) : Type 0 where
 abbrev pub is_of : Run → (width page : ℕ) → Bool
 is_of run width page = nat_le run.first page && nat_lt page (run.first + runs.pages_of run.count width)
 
--- a place that is blamed: what a read from that count of calls on gave there may not come next. It lies on a page of the places
+-- a place that is blamed: what a read from that count of calls on gave there may not come next. It lies on a page of the places, each
+-- of which has eight bytes
 pub record DamagesPlace (since : ℕ) (device : Device) (reader : PlaceReader) (number slot found : ℕ) : Type 0 where
   pub page : number ≡ runs.page_of (run_of reader.places) reader.at
   pub slot_is : slot ≡ runs.slot_of (run_of reader.places) reader.at
@@ -72,6 +73,7 @@ pub record DamagesPlace (since : ℕ) (device : Device) (reader : PlaceReader) (
   pub found_is : found ≡ runs.found_in bytes
   pub not_next : IsNextPlace reader bytes → ⊥
   pub used : is_of reader.places 8 number ≡ true
+  pub width : reader.places.width ≡ 8
 
 abbrev pub BlamesPlace : (since : ℕ) → Device → PlaceReader → {T : Type 0} → Result T PageFault → Type 0
 BlamesPlace since device reader (Ok answer) = ⊤
