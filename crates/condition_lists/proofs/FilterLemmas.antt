@@ -21,14 +21,15 @@ use Rattle.ghost_model.proofs.MeaningLemmas.OneRow.{Among, among_is, both_true, 
 use Rattle.ghost_laws.specs.Followed.{IsFollowed, AcceptedQueriesAreFollowed, is_column_from, is_condition_from}
 use Rattle.ghost_laws.proofs.ScanLemmas.Accepted.{pass_each}
 use Rattle.spj_parse.specs.Resolved.{IsMeant, joins_of, join_to, join_with, join_by, keys_between, is_comparison}
+use Rattle.leakless_plan.specs.declared.form.Form.{Form}
 use Rattle.candidate_rows.specs.Plans.{is_tested, is_compared_of}
-use Rattle.condition_lists.specs.Terms.{has_level, is_listed, is_replied, is_compared}
+use Rattle.condition_lists.specs.Terms.{has_level, is_listed, is_replied, is_compared, is_united}
 use Rattle.condition_lists.proofs.KindLemmas.{fits_if, fits_column, literals_fit}
 use Rattle.condition_lists.proofs.RowLemmas.{in_schema}
 
 -- ---- lists
 
-filters_agree : {X : Type 0} (p q : X → Bool) (xs : List X) → ((x : X) → Among x xs → p x ≡ q x) → filter p xs ≡ filter q xs
+pub filters_agree : {X : Type 0} (p q : X → Bool) (xs : List X) → ((x : X) → Among x xs → p x ≡ q x) → filter p xs ≡ filter q xs
 filters_agree p q [] each = refl
 filters_agree p q (x ∷ xs) each =
     ap₂ (λ b ys. if b then x ∷ ys else ys) (each x (inl refl)) (filters_agree p q xs (λ y a. each y (inr a)))
@@ -56,6 +57,27 @@ passes {X = X} p xs i x there e =
 
     clash : {b : Bool} → b ≡ true → b ≡ false → ⊥
     clash t f = cc
+
+-- ---- tables with visible conditions
+
+shown_there : (o : Option Column) → is_shown o ≡ true → (held : Column) × (o ≡ Some held)
+shown_there None e = absurd (cc (e))
+shown_there (Some held) e = (held, refl)
+
+pub compared_there : (schema : Schema) (table : ℕ) (conditions : List Condition) → list_any (is_compared_of schema table) conditions ≡ true → table < length schema
+compared_there schema table [] e = absurd (cc (e))
+compared_there schema table (Join one other ∷ conditions) e = compared_there schema table conditions e
+compared_there schema table (Compare wanted operator literal ∷ conditions) e =
+    elim (either_true (is_compared_of schema table (Compare wanted operator literal)) (list_any (is_compared_of schema table) conditions) e) [
+      | inl here ↦ (
+          let both = both_true (nat_eq wanted.table table) (is_visible schema wanted.table wanted.column) here in
+          let seen = both_true (nat_lt 0 wanted.column) (is_shown (column_at schema wanted.table wanted.column)) both.1 in
+          let held = shown_there (column_at schema wanted.table wanted.column) seen.1 in
+          let inside = in_schema schema wanted.table wanted.column held.0 held.1 in
+          let same = eqb-true wanted.table table both.0 in
+          omega (arith, inside, same))
+      | inr later ↦ compared_there schema table conditions later
+    ]
 
 -- ---- levels
 
@@ -142,34 +164,16 @@ module _ (schema : Schema) (tree : IsTree schema) (levels : LevelsAreAncestors) 
       let both = both_true (is_condition_from schema from (Join one other)) (list_all (is_condition_from schema from) conditions) all in
       comparisons_sound from conditions both.1 (both_true true (list_all (fits_column schema) conditions) fit).1
 
-  -- ---- tables with visible conditions
-
-  shown_there : (o : Option Column) → is_shown o ≡ true → (held : Column) × (o ≡ Some held)
-  shown_there None e = absurd (cc (e))
-  shown_there (Some held) e = (held, refl)
-
-  pub compared_there : (table : ℕ) (conditions : List Condition) → list_any (is_compared_of schema table) conditions ≡ true → table < length schema
-  compared_there table [] e = absurd (cc (e))
-  compared_there table (Join one other ∷ conditions) e = compared_there table conditions e
-  compared_there table (Compare wanted operator literal ∷ conditions) e =
-      elim (either_true (is_compared_of schema table (Compare wanted operator literal)) (list_any (is_compared_of schema table) conditions) e) [
-        | inl here ↦ (
-            let both = both_true (nat_eq wanted.table table) (is_visible schema wanted.table wanted.column) here in
-            let seen = both_true (nat_lt 0 wanted.column) (is_shown (column_at schema wanted.table wanted.column)) both.1 in
-            let held = shown_there (column_at schema wanted.table wanted.column) seen.1 in
-            let inside = in_schema schema wanted.table wanted.column held.0 held.1 in
-            let same = eqb-true wanted.table table both.0 in
-            omega (arith, inside, same))
-        | inr later ↦ compared_there table conditions later
-      ]
-
-  replied_is_compared : (asked : Query) (table : ℕ) → IsAtOrBelow schema top table → is_replied schema asked top table ≡ is_compared schema asked table
-  replied_is_compared asked table below = by (is_compared schema asked table) refl
+  -- the reply of a table is a term where the table is compared and united
+  replied_is_compared : (asked : Query) (forms : List (Option Form)) (table : ℕ) → IsAtOrBelow schema top table
+      → is_replied schema asked forms top table ≡ (is_compared schema asked table && is_united forms top table)
+  replied_is_compared asked forms table below = by (is_compared schema asked table) refl
     where
-      by : (b : Bool) → is_compared schema asked table ≡ b → is_replied schema asked top table ≡ is_compared schema asked table
+      by : (b : Bool) → is_compared schema asked table ≡ b → is_replied schema asked forms top table ≡ (is_compared schema asked table && is_united forms top table)
       by true e =
-          ap₂ (λ a b. a && b) e (leveled table (compared_there table asked.conditions e) below) ∙ sym e
-      by false e = ap (λ a. a && has_level schema top table) e ∙ sym e
+          ap₂ (λ a b. (a && b) && is_united forms top table) e (leveled table (compared_there schema table asked.conditions e) below)
+          ∙ sym (ap (λ a. a && is_united forms top table) e)
+      by false e = ap (λ a. (a && has_level schema top table) && is_united forms top table) e ∙ sym (ap (λ a. a && is_united forms top table) e)
 
   -- ---- an accepted query
 
@@ -195,7 +199,8 @@ module _ (schema : Schema) (tree : IsTree schema) (levels : LevelsAreAncestors) 
         filters_agree (is_listed schema top) (is_tested schema) asked.conditions
         (λ c a. listed_is_tested asked.from below_top c (pass_each (is_sound asked.from) asked.conditions all_sound c a))
 
-    pub tables_are : filter (is_replied schema asked top) asked.from ≡ filter (is_compared schema asked) asked.from
-    tables_are =
-        filters_agree (is_replied schema asked top) (is_compared schema asked) asked.from
-        (λ table a. replied_is_compared asked table (below_top table (among_is table asked.from a)))
+    pub tables_are : (forms : List (Option Form))
+        → filter (is_replied schema asked forms top) asked.from ≡ filter (λ table. is_compared schema asked table && is_united forms top table) asked.from
+    tables_are forms =
+        filters_agree (is_replied schema asked forms top) (λ table. is_compared schema asked table && is_united forms top table) asked.from
+        (λ table a. replied_is_compared asked forms table (below_top table (among_is table asked.from a)))

@@ -5,6 +5,7 @@ pub mod KindLemmas
 pub mod RowLemmas
 pub mod MeetLemmas
 pub mod FilterLemmas
+pub mod UnionLemmas
 pub mod MemberLemmas
 pub mod ListLemmas
 pub mod CountLemmas

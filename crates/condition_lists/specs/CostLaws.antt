@@ -1,5 +1,5 @@
 -- Laws of costs: what the lists of a term are is within the term's cost, and the terms of an accepted query cost at most its work.
-use Rattle.std.specs.Prelude.{◌≡◌, ℕ, ◌+◌, ◌-◌, ◌*◌, ◌/◌, ◌<◌, ◌≤◌, false, List, [], ◌++◌, length, get_or, map, sum_by, Contains, Some, Ok}
+use Rattle.std.specs.Prelude.{◌≡◌, ℕ, ◌+◌, ◌-◌, ◌*◌, ◌/◌, ◌<◌, ◌≤◌, false, List, [], ◌++◌, length, get_or, map, sum_by, Contains, Option, Some, Ok}
 use Rattle.std.specs.List.{concat}
 use Rattle.ghost_model.specs.core.Schema.{Schema, is_empty}
 use Rattle.ghost_model.specs.core.Values.{Value, Database}
@@ -21,6 +21,7 @@ use Rattle.climbing_index.specs.declared.index.IdIndex.{IdIndex}
 use Rattle.climbing_index.specs.declared.search.Group.{Group}
 use Rattle.climbing_index.specs.Holding.{values_at, ids_at}
 use Rattle.spj_parse.specs.Resolved.{IsMeant, linked}
+use Rattle.leakless_plan.specs.declared.form.Form.{Form}
 use Rattle.condition_lists.specs.declared.bounds.Bounds.{Bounds}
 use Rattle.condition_lists.specs.declared.term.Term.{Term}
 use Rattle.condition_lists.specs.declared.term.Term.TheVariants.{Entries, Identifiers, Reply}
@@ -125,7 +126,7 @@ pub record TermsCostTheirWork : Type 0 where
       (cat : Catalog) (database : Database) → IsOver cat database
       → (text : List ℕ) (asked : Query) → IsMeant cat.schema text asked
       → (top : ℕ) → top_of cat.schema asked ≡ Some top
-      → (terms : List Term) → AreTermsBy cat asked (Some top) terms
+      → (forms : List (Option Form)) (terms : List Term) → AreTermsBy cat asked forms (Some top) terms
       → (given : List replies.Reply) → AreHonest cat database asked given
       → 64 + (sum_by (term_cost cat database given top) terms + length (answer cat.schema database asked) * row_work cat.schema database asked)
       ≤ work cat.schema database asked

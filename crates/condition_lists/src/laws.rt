@@ -1,6 +1,6 @@
 //! Laws of terms.
 
-ghost use Rattle.condition_lists.specs.Laws.{BoundsAreOfValues, EachTermIsOfTheQuery, TermsAreThoseOfQueries, TermsSiftRows, ListsAreOfTerms, ListsComeInOrder, GroupsAscend};
+ghost use Rattle.condition_lists.specs.Laws.{BoundsAreOfValues, EachTermIsOfTheQuery, TermsAreThoseOfQueries, TermsSiftRows, AllAreUnited, RowsOutsideRepliesAreNoAnswers, ListsAreOfTerms, ListsComeInOrder, GroupsAscend};
 
 /// Cells lie between bounds of their kind as their values do, and identifiers as the numbers that they are.
 pub fn bounds_are_of_values()
@@ -15,7 +15,7 @@ pub fn each_term_is_of_the_query()
 {}
 
 /// A row of the top table meets all terms of an accepted query exactly where all conditions that are the key's to test hold along
-/// it, and it stands along each table with conditions on visible columns.
+/// it, and it stands along each table with conditions on visible columns whose reply is united.
 pub fn terms_are_those_of_queries()
     ensures { TermsAreThoseOfQueries }
 {
@@ -33,6 +33,17 @@ pub fn terms_sift_rows()
 {
     terms_are_those_of_queries();
 }
+
+/// Where the reply of each table with conditions on visible columns is united, the terms of replies are of all these tables. It is
+/// where the form of united lists is forced.
+pub fn all_are_united()
+    ensures { AllAreUnited }
+{}
+
+/// A row of the top table that leads to no row of a table's reply has no line in what the key answers.
+pub fn rows_outside_replies_are_no_answers()
+    ensures { RowsOutsideRepliesAreNoAnswers }
+{}
 
 /// The second of the groups that searches find by the bounds of an operator and a literal begins behind the first.
 pub fn groups_ascend()

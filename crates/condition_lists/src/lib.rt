@@ -1,8 +1,9 @@
 //! The conditions of a query as lists of identifiers of its top table.
 //!
-//! Each condition that is the key's to test, and each reply to an ask with conditions, is a term: the lists that an index has
-//! at the top table's level for the entries between bounds, for identifiers or for the rows of a reply. A row of the top table
-//! meets a term exactly where it stands in one of its lists. None of the calls takes memory.
+//! Each condition that is the key's to test is a term, and so is each reply to an ask with conditions, of the top table or of one
+//! that is linked by a form which unites lists: the lists that an index has at the top table's level for the entries between
+//! bounds, for identifiers or for the rows of a reply. A row of the top table meets a term exactly where it stands in one of its
+//! lists. None of the calls takes memory.
 #![tactic(auto)]
 
 pub mod bounds;

@@ -1,11 +1,11 @@
-use Rattle.std.proofs.Common.{◌≡◌, ap, sym, ◌∙◌, subst, ℕ, ◌+◌, ◌*◌, ◌<◌, ◌≤◌, true, List, length, filter}
+use Rattle.std.proofs.Common.{◌≡◌, ap, sym, ◌∙◌, subst, ℕ, ◌+◌, ◌*◌, ◌<◌, ◌≤◌, ◌&&◌, true, List, length, filter}
 use Rattle.std.specs.Prelude.{sum_by}
 use Rattle.std.proofs.lemmas.Bool.{and_parts}
 use Rattle.ghost_model.specs.core.Query.{Query, top_of}
 use Rattle.ghost_model.specs.core.Asks.{asks_of, ask_for}
 use Rattle.ghost_model.specs.core.Meaning.{answer}
 use Rattle.ghost_model.proofs.MeaningLemmas.OneRow.{Among, Distinct, distinct-filter, from_filter, query_is_linked}
-use Rattle.condition_lists.specs.Terms.{is_listed, is_replied, is_compared, has_level}
+use Rattle.condition_lists.specs.Terms.{is_listed, is_replied, is_compared, is_united, has_level}
 use Rattle.ghost_model.specs.forms.QueryWork.{condition_work, reply_work, row_work, work_by_top}
 use Rattle.condition_lists.specs.Costs.{term_cost}
 use Rattle.condition_lists.proofs.FilterLemmas.{compared_there}
@@ -23,15 +23,15 @@ returns c =
           condition_cost cat database over levels (c.rows_lead_to_rows.ensures cat.schema database over.tree over.is) grows given top condition term is;
       reply = λ cat database over given top ask term is about some_tests.
           reply_cost cat database over levels (c.rows_lead_to_rows.ensures cat.schema database over.tree over.is) grows given top ask about some_tests term is;
-      query = λ cat database over text asked read top top_is terms are given honest.
+      query = λ cat database over text asked read top top_is forms terms are given honest.
           let keys = c.rows_lead_to_rows.ensures cat.schema database over.tree over.is in
           let means = (one.meaning cat.schema text read.meant).0 read.reads in
           let once : Distinct asked.from =
           subst (λ (q : Query). Distinct q.from) (sym read.once) (query_is_linked cat.schema text read.meant top means (ap (λ (q : Query). top_of cat.schema q) (sym read.once) ∙ top_is)).distinct in
-          let tables : List ℕ = filter (is_replied cat.schema asked top) asked.from in
+          let tables : List ℕ = filter (is_replied cat.schema asked forms top) asked.from in
           let compared : (table : ℕ) → Among table tables → Among table asked.from × (is_compared cat.schema asked table ≡ true) = λ table among.
-          (let from = from_filter (is_replied cat.schema asked top) table asked.from among in (from.0, (and_parts (is_compared cat.schema asked table) (has_level cat.schema top table) from.1).0)) in
-          let there : (table : ℕ) → Among table tables → table < length cat.schema = λ table among. compared_there cat.schema over.tree levels top table asked.conditions (compared table among).1 in
+          (let from = from_filter (is_replied cat.schema asked forms top) table asked.from among in (from.0, (and_parts (is_compared cat.schema asked table) (has_level cat.schema top table) (and_parts (is_compared cat.schema asked table && has_level cat.schema top table) (is_united forms top table) from.1).0).0)) in
+          let there : (table : ℕ) → Among table tables → table < length cat.schema = λ table among. compared_there cat.schema table asked.conditions (compared table among).1 in
           let sums = sum_terms cat top (term_cost cat database given top) (condition_work cat.schema database top) (λ table. reply_work cat.schema database top (ask_for cat.schema asked table))
           (filter (is_listed cat.schema top) asked.conditions) tables terms are
           (λ condition term is. condition_cost cat database over levels keys grows given top condition term is)
@@ -44,5 +44,5 @@ returns c =
           (sum_by (condition_work cat.schema database top) (filter (is_listed cat.schema top) asked.conditions)) (sum_by (reply_work cat.schema database top) (asks_of cat.schema asked))
           (sum_by (λ table. reply_work cat.schema database top (ask_for cat.schema asked table)) tables) (length (answer cat.schema database asked) * row_work cat.schema database asked)
           sums (conditions_work (condition_work cat.schema database top) (is_listed cat.schema top) asked.conditions)
-          (tables_work cat.schema database asked top tables (distinct-filter (is_replied cat.schema asked top) asked.from once) (λ table among. ((compared table among).0, there table among))));
+          (tables_work cat.schema database asked top tables (distinct-filter (is_replied cat.schema asked forms top) asked.from once) (λ table among. ((compared table among).0, there table among))));
     }

@@ -1,11 +1,11 @@
 use Rattle.std.proofs.Common.{◌≡◌, refl, subst, ℕ, zero, suc, inl, inr, List, [], ◌∷◌, filter, slice_get, Some}
-use Rattle.std.specs.Prelude.{◌⊎◌}
+use Rattle.std.specs.Prelude.{◌⊎◌, ◌&&◌}
 use Rattle.std.proofs.lemmas.Bool.{and_parts}
 use Rattle.ghost_model.specs.core.Channel.{Catalog}
 use Rattle.ghost_model.specs.core.Query.{Query, Condition}
 use Rattle.ghost_model.proofs.MeaningLemmas.OneRow.{Among, from_filter}
 use Rattle.condition_lists.specs.declared.term.Term.{Term}
-use Rattle.condition_lists.specs.Terms.{AreTermsOf, IsTermOf, IsReplyTermOf, is_listed, is_replied, is_compared, has_level}
+use Rattle.condition_lists.specs.Terms.{AreTermsOf, IsTermOf, IsReplyTermOf, is_listed, is_replied, is_compared, is_united, has_level}
 use Rattle.condition_lists.proofs.MemberLemmas.{contains_of}
 use Rattle.condition_lists.proofs.laws.each_term_is_of_the_query.Goals as goal
 
@@ -47,17 +47,19 @@ module _ (cat : Catalog) (asked : Query) (top : ℕ) where
   found (c ∷ conditions) tables (x ∷ terms) are (suc place) term e = later_one c conditions tables term (found conditions tables terms are.1 place term e)
 
 pub returns : goal.returns
-returns c = λ cat asked top terms are place term e.
-    elim (found cat asked top (filter (is_listed cat.schema top) asked.conditions) (filter (is_replied cat.schema asked top) asked.from) terms are place term e) [
+returns c = λ cat asked forms top terms are place term e.
+    elim (found cat asked top (filter (is_listed cat.schema top) asked.conditions) (filter (is_replied cat.schema asked forms top) asked.from) terms are place term e) [
       | inl one ↦ (
           let from = from_filter (is_listed cat.schema top) one.condition asked.conditions one.among in
           inl (record { condition = one.condition; among = contains_of asked.conditions one.condition from.0; is = one.is }))
       | inr other ↦ (
-          let from = from_filter (is_replied cat.schema asked top) other.table asked.from other.among in
+          let from = from_filter (is_replied cat.schema asked forms top) other.table asked.from other.among in
           inr (record {
             table = other.table;
             among = contains_of asked.from other.table from.0;
-            compared = (and_parts (is_compared cat.schema asked other.table) (has_level cat.schema top other.table) from.1).0;
+            compared =
+                (and_parts (is_compared cat.schema asked other.table) (has_level cat.schema top other.table)
+                (and_parts (is_compared cat.schema asked other.table && has_level cat.schema top other.table) (is_united forms top other.table) from.1).0).0;
             is = other.is;
           }))
     ]

@@ -6,11 +6,11 @@ use Rattle.condition_lists.proofs.FilterLemmas.{conditions_are, tables_are}
 use Rattle.condition_lists.proofs.laws.terms_are_those_of_queries.Goals as goal
 
 pub returns : goal.returns
-returns c = λ cat database over text asked read top top_is terms are given identifier row.
+returns c = λ cat database over text asked read top top_is forms terms are given identifier row.
     let one = c.one_reading.ensures in
     let levels = c.levels_are_ancestors.ensures in
     let accepted = c.accepted_queries_are_followed.ensures in
     all_met cat database over given top identifier row levels (c.rows_lead_to_rows.ensures cat.schema database over.tree over.is) c.hidden_values_of_databases.ensures _ _ terms are
     ∙ ap₂ (λ cs ts. list_all (holds_or_asked_along cat.schema (known_along cat.schema database given top identifier)) cs && list_all (stands_along cat.schema database given top identifier) ts)
     (conditions_are cat.schema over.tree levels top text asked read one accepted top_is)
-    (tables_are cat.schema over.tree levels top text asked read one accepted top_is)
+    (tables_are cat.schema over.tree levels top text asked read one accepted top_is forms)

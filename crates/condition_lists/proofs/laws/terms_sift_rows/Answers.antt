@@ -5,8 +5,8 @@ use Rattle.std.proofs.lemmas.Bool.{and_parts}
 use Rattle.ghost_model.specs.core.Meaning.{no_value}
 use Rattle.ghost_laws.specs.Scans.{known_along, holds_or_asked_along, stands_along}
 use Rattle.candidate_rows.specs.Plans.{is_tested}
-use Rattle.condition_lists.specs.Terms.{is_compared}
-use Rattle.condition_lists.proofs.TermLemmas.{and_no, no_and}
+use Rattle.condition_lists.specs.Terms.{is_compared, is_united}
+use Rattle.condition_lists.proofs.TermLemmas.{and_no, no_and, no_rows}
 use Rattle.condition_lists.proofs.laws.terms_sift_rows.Goals as goal
 
 -- what fails of those that are kept fails of all
@@ -26,24 +26,21 @@ either_fails : (a b : Bool) → (a && b) ≡ false → (a ≡ false) ⊎ (b ≡ 
 either_fails true b e = inr e
 either_fails false b e = inl refl
 
-no_rows : {X : Type 0} (rows : List X) (b : Bool) → b ≡ false → (if b then rows else []) ≡ []
-no_rows rows b e = ap (λ b. if b then rows else []) e
-
 pub returns : goal.returns
 returns c = record {
-  met = λ cat database over text asked read top top_is terms are given identifier row e.
+  met = λ cat database over text asked read top top_is forms terms are given identifier row e.
       (and_parts
       (list_all (holds_or_asked_along cat.schema (known_along cat.schema database given top identifier)) (filter (is_tested cat.schema) asked.conditions))
-      (list_all (stands_along cat.schema database given top identifier) (filter (is_compared cat.schema asked) asked.from))
-      (sym (c.terms_are_those_of_queries.ensures cat database over text asked read top top_is terms are given identifier row) ∙ e)).0;
-  unmet = λ cat database over text asked read top top_is terms are given identifier row e.
+      (list_all (stands_along cat.schema database given top identifier) (filter (λ table. is_compared cat.schema asked table && is_united forms top table) asked.from))
+      (sym (c.terms_are_those_of_queries.ensures cat database over text asked read top top_is forms terms are given identifier row) ∙ e)).0;
+  unmet = λ cat database over text asked read top top_is forms terms are given identifier row e.
       let holds = holds_or_asked_along cat.schema (known_along cat.schema database given top identifier) in
       let stands = stands_along cat.schema database given top identifier in
       let values = map (λ one. unwrap_or (known_along cat.schema database given top identifier one) no_value) asked.select in
-      let failed = sym (c.terms_are_those_of_queries.ensures cat database over text asked read top top_is terms are given identifier row) ∙ e in
+      let failed = sym (c.terms_are_those_of_queries.ensures cat database over text asked read top top_is forms terms are given identifier row) ∙ e in
       no_rows (values ∷ []) (list_all stands asked.from && list_all holds asked.conditions)
-      (elim (either_fails (list_all holds (filter (is_tested cat.schema) asked.conditions)) (list_all stands (filter (is_compared cat.schema asked) asked.from)) failed) [
+      (elim (either_fails (list_all holds (filter (is_tested cat.schema) asked.conditions)) (list_all stands (filter (λ table. is_compared cat.schema asked table && is_united forms top table) asked.from)) failed) [
         | inl unheld ↦ and_no (list_all stands asked.from) (list_all holds asked.conditions) (one_fails holds (is_tested cat.schema) asked.conditions unheld)
-        | inr absent ↦ no_and (list_all stands asked.from) (list_all holds asked.conditions) (one_fails stands (is_compared cat.schema asked) asked.from absent)
+        | inr absent ↦ no_and (list_all stands asked.from) (list_all holds asked.conditions) (one_fails stands (λ table. is_compared cat.schema asked table && is_united forms top table) asked.from absent)
       ]);
 }
