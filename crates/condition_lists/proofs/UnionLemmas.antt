@@ -1,5 +1,5 @@
 -- Which replies are united: a form at each table's place, and the form of united lists at all.
-use Rattle.std.proofs.Common.{◌≡◌, ◌∙◌, refl, ap, ap₂, sym, ℕ, ◌<◌, inl, inr, Bool, true, false, ◌&&◌, nat_eq, List, [], ◌∷◌, length, filter, get_or, Contains, Option, Some, None, if◌then◌else◌, arith}
+use Rattle.std.proofs.Common.{◌≡◌, ◌∙◌, refl, ap, ap₂, sym, ℕ, inl, inr, Bool, true, false, ◌&&◌, nat_eq, List, [], ◌∷◌, length, filter, get_or, Contains, Option, Some, None, if◌then◌else◌, arith}
 use Rattle.std.specs.Prelude.{◌||◌, not}
 use Rattle.std.specs.List.{list_all, list_any}
 use Rattle.std.specs.Option.{option_map_or}
