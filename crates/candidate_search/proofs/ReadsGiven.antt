@@ -1,13 +1,15 @@
 -- What was read: buffers that others leave alone keep what reads gave, and a slot that is blamed stood in what a read gave.
-use Rattle.std.proofs.Common.{◌≡◌, ◌∙◌, ℕ, ◌+◌, ◌≤◌, inl, inr, ◌||◌, Bool, true, List, ◌∷◌, ap, sym, subst, arith}
+use Rattle.std.proofs.Common.{◌≡◌, ◌∙◌, ℕ, ◌+◌, ◌<◌, ◌≤◌, inl, inr, ◌||◌, Bool, true, List, ◌∷◌, ap, mod-lt, sym, subst, arith}
+use Rattle.std.proofs.lemmas.Nat.{le-div}
 use Rattle.std.specs.Prelude.{IfErr, IfSome, Option, Some, None, Result, Ok, Err}
 use Rattle.ghost_model.specs.forms.Runs as runs
-use Rattle.ghost_model.specs.forms.Runs.{cell_in, found_in, page_of, slot_of}
+use Rattle.ghost_model.specs.forms.Runs.{cell_in, found_in, page_of, per_page, slot_of}
 use Rattle.ghost_base.specs.Runs.{run_of}
 use Rattle.edge_traits.specs.Devices.{Device, GaveSince}
 use Rattle.page_pool.specs.Laws.{SameBuffer}
 use Rattle.page_pool.specs.Pools.{Pool, IsFree, bytes_at, leased, page_at}
 use Rattle.flash_pages.specs.Cursors as cursors
+use Rattle.flash_pages.specs.Cursors.{IsReady}
 use Rattle.flash_pages.specs.declared.fault.PageFault.{PageFault}
 use Rattle.flash_pages.specs.declared.fault.PageFault.TheVariants.{Flash, Damaged}
 use Rattle.flash_pages.specs.declared.cursor.RunCursor.{RunCursor}
@@ -23,7 +25,10 @@ use Rattle.spill_pass.specs.Listings as listings
 use Rattle.spill_pass.specs.Passing.{BlamesPass, pass_held}
 use Rattle.spill_pass.specs.Places.{is_of}
 use Rattle.spill_pass.specs.Sources.{BlamesSource, Source, UsesOutside}
+use Rattle.climbing_index.specs.declared.index.ClimbingIndex.{ClimbingIndex}
 use Rattle.climbing_index.specs.Directories as directories
+use Rattle.climbing_index.specs.Indexes.{IsReadable}
+use Rattle.climbing_index.specs.Searches.{BlamesIn, IsIndexPage}
 use Rattle.entry_lists.specs.Entries.{is_in, level_run}
 use Rattle.candidate_lists.specs.Damaging.{ListsInside}
 use Rattle.candidate_lists.specs.Staying.{SparesRest}
@@ -92,30 +97,68 @@ lists_leased {told = told} {device = device} {pool = pool} {later = later} since
 -- ---- slots that are blamed
 
 pub slot_found :
-    {since : ℕ} {device : Device} (run : runs.Run) (place number slot found : ℕ) (bytes : List ℕ) → number ≡ page_of run place → slot ≡ slot_of run place
-    → WasRead since device run place bytes → found ≡ found_in bytes → WasFound since device number slot found
-slot_found {since = since} {device = device} run place number slot found bytes page_is slot_is read found_is =
+    {since : ℕ} {device : Device} (run : runs.Run) (place number slot found : ℕ) (bytes : List ℕ) → 0 < run.width → run.width ≤ 2048
+    → number ≡ page_of run place → slot ≡ slot_of run place → WasRead since device run place bytes → found ≡ found_in bytes
+    → WasFound since device number slot found
+slot_found {since = since} {device = device} run place number slot found bytes some fits page_is slot_is read found_is =
     let G : ℕ → Type 0 = λ page. GaveSince since device read.bytes page in
+    let records : 0 < per_page run.width = omega (arith, le-div 1 2048 run.width some (omega (arith, fits))) in
     record {
       bytes = read.bytes;
       gave = subst G (sym page_is) read.gave;
       width = run.width;
+      some = some;
+      within = omega (arith, slot_is, mod-lt place records);
       found_is =
           found_is ∙ ap (λ (b : List ℕ). found_in b) read.record_is
           ∙ ap (λ (s : ℕ). found_in (cell_in read.bytes run.width s)) (sym slot_is);
     }
 
 pub list_found :
-    {since : ℕ} {device : Device} {run : RunCursor} {at : ℕ} (number slot found : ℕ) → cursors.BlamesSlot since device run at number slot found
+    {since : ℕ} {device : Device} {run : RunCursor} {at : ℕ} (number slot found : ℕ) → 0 < run.list.run.width → run.list.run.width ≤ 2048
+    → cursors.BlamesSlot since device run at number slot found → WasFound since device number slot found
+list_found {run = run} {at = at} number slot found some fits blames =
+    slot_found (run_of run.list.run) (run.list.first + at) number slot found blames.bytes some fits blames.page blames.slot_is blames.read blames.found_is
+
+-- one of lists inside of their runs
+pub cursors_found :
+    (since : ℕ) (device : Device) (held : List Cursor) → ListsInside held → (number slot found : ℕ) → BlamesList since device held number slot found
     → WasFound since device number slot found
-list_found {run = run} {at = at} number slot found blames =
-    slot_found (run_of run.list.run) (run.list.first + at) number slot found blames.bytes blames.page blames.slot_is blames.read blames.found_is
+cursors_found since device held inside number slot found blames =
+    let list = inside blames.at blames.run blames.is in list_found number slot found list.some list.fits blames.blames
 
 pub record_found :
-    {since : ℕ} {device : Device} {run : runs.Run} {stands : List ℕ → Bool} {place : ℕ} (number slot found : ℕ)
+    {since : ℕ} {device : Device} {run : runs.Run} {stands : List ℕ → Bool} {place : ℕ} (number slot found : ℕ) → 0 < run.width → run.width ≤ 2048
     → directories.BlamesSlot since device run stands place number slot found → WasFound since device number slot found
-record_found {run = run} {place = place} number slot found blames =
-    slot_found run place number slot found blames.bytes blames.page_is blames.slot_is blames.read blames.found_is
+record_found {run = run} {place = place} number slot found some fits blames =
+    slot_found run place number slot found blames.bytes some fits blames.page_is blames.slot_is blames.read blames.found_is
+
+pub ready_inside :
+    (told : Bool) (device : Device) (pool : Pool) (held : List Cursor) → AllReady told device pool held → ListsInside held
+ready_inside told device pool held ready at run is =
+    let C : Cursor → Type 0 = λ cursor. CursorReady told device pool cursor in
+    let of_run : IsReady told device pool run = subst C is (ready.each at) in
+    record { within = of_run.list; some = of_run.run.some; fits = of_run.run.fits }
+
+-- ---- blamed by a search
+
+pub search_found :
+    (since : ℕ) (device : Device) (index : ClimbingIndex) → IsReadable device index → (number slot found : ℕ)
+    → BlamesIn since device index (Damaged number slot found) → WasFound since device number slot found
+search_found since device index readable number slot found (inl blames) =
+    record_found number slot found readable.header.some readable.header.fits blames
+search_found since device index readable number slot found (inr blames) =
+    record_found number slot found readable.directory.has.some readable.directory.has.fits blames.blames
+
+pub search_page :
+    (since : ℕ) (device : Device) (index : ClimbingIndex) → IsReadable device index → (number slot found : ℕ)
+    → BlamesIn since device index (Damaged number slot found) → IsIndexPage index number
+search_page since device index readable number slot found (inl blames) =
+    inl (record { place = 0; within = omega (arith, readable.one); is = blames.page_is })
+search_page since device index readable number slot found (inr blames) =
+    inr (record { place = blames.place; within = blames.within; is = blames.blames.page_is })
+
+-- ---- blamed by lists in hand, and where it lies
 
 -- one of a list that lies inside of its run, outside of a region outside of which the run lies
 pub list_beyond :
@@ -133,7 +176,7 @@ pub cursors_beyond :
     → BlamesList since device held number slot found → LiesBeyond low high number slot found
 cursors_beyond low high held inside outside number slot found blames =
     let O : Cursor → Type 0 = λ cursor. LiesOutside low high cursor in
-    list_beyond low high blames.run blames.run.at number slot found (inside blames.at blames.run blames.is) (subst O blames.is (outside blames.at))
+    list_beyond low high blames.run blames.run.at number slot found (inside blames.at blames.run blames.is).within (subst O blames.is (outside blames.at))
     blames.blames
 
 -- ---- blamed by a source
@@ -141,22 +184,27 @@ cursors_beyond low high held inside outside number slot found blames =
 pub source_found :
     (since : ℕ) (device : Device) (lists : TermLists) (number slot found : ℕ) → blamed_in since device lists number slot found
     → WasFound since device number slot found
-source_found since device (Entries lists) number slot found blames = record_found number slot found blames.blames
-source_found since device (Replies lists) number slot found (inl blames) = record_found number slot found blames.blames
-source_found since device (Replies lists) number slot found (inr blames) = record_found number slot found blames.blames
+source_found since device (Entries lists) number slot found is =
+    record_found number slot found is.directory.some is.directory.fits is.blames.blames
+source_found since device (Replies lists) number slot found is =
+    elim is.blames [
+      | inl blames ↦ record_found number slot found is.directory.some is.directory.fits blames.blames
+      | inr blames ↦ record_found number slot found is.reply.some is.reply.fits blames.blames
+    ]
 
 source_uses :
     (since : ℕ) (device : Device) (lists : TermLists) (number slot found : ℕ) → blamed_in since device lists number slot found
     → (source_in lists).uses number ≡ true
-source_uses since device (Entries lists) number slot found blames =
-    either (is_in (run_of lists.directory.run) number) (is_in (run_of (level_run lists.directory lists.level)) number) blames.used
-source_uses since device (Replies lists) number slot found (inl blames) =
+source_uses since device (Entries lists) number slot found is =
+    either (is_in (run_of lists.directory.run) number) (is_in (run_of (level_run lists.directory lists.level)) number) is.blames.used
+source_uses since device (Replies lists) number slot found is =
     let level = is_in (run_of (level_run lists.directory lists.level)) number in
-    other (is_in (run_of lists.reply.run) number) (is_in (run_of lists.directory.run) number || level)
-    (either (is_in (run_of lists.directory.run) number) level blames.used)
-source_uses since device (Replies lists) number slot found (inr blames) =
-    either (is_in (run_of lists.reply.run) number)
-    (is_in (run_of lists.directory.run) number || is_in (run_of (level_run lists.directory lists.level)) number) blames.used
+    let directory = is_in (run_of lists.directory.run) number in
+    let reply = is_in (run_of lists.reply.run) number in
+    elim is.blames [
+      | inl blames ↦ other reply (directory || level) (either directory level blames.used)
+      | inr blames ↦ either reply (directory || level) blames.used
+    ]
 
 pub source_beyond :
     (low high since : ℕ) (device : Device) (lists : TermLists) → UsesOutside low high (source_in lists) → (number slot found : ℕ)
@@ -170,7 +218,8 @@ pass_lists_found :
     → WasFound since device number slot found
 pass_lists_found since device (Given lists) number slot found blames = source_found since device lists number slot found blames
 pass_lists_found since device (Placed reader) number slot found blames =
-    slot_found (run_of reader.places) reader.at number slot found blames.bytes blames.page blames.slot_is blames.read blames.found_is
+    slot_found (run_of reader.places) reader.at number slot found blames.bytes (omega (arith, blames.width)) (omega (arith, blames.width)) blames.page
+    blames.slot_is blames.read blames.found_is
 
 pass_lists_use :
     (since : ℕ) (device : Device) (lists : Lists TermLists) (number slot found : ℕ) → listings.blamed_in blamed_in since device lists number slot found
@@ -185,7 +234,7 @@ pub pass_found :
 pass_found since device lists held (Ok done) blames = tt
 pass_found since device lists held (Err Flash) blames = tt
 pass_found since device lists held (Err (Damaged number slot found)) (inl blames) = pass_lists_found since device lists number slot found blames
-pass_found since device lists held (Err (Damaged number slot found)) (inr blames) = list_found number slot found blames.blames
+pass_found since device lists held (Err (Damaged number slot found)) (inr blames) = list_found number slot found blames.some blames.fits blames.blames
 
 pub pass_beyond :
     (since : ℕ) (device : Device) (low high : ℕ) (lists : Lists TermLists) (held : List Cursor) (result : Result Bool PageFault)
@@ -203,11 +252,11 @@ pass_beyond since device low high lists held (Err (Damaged number slot found)) u
 -- ---- blamed by lists in hand
 
 pub lists_found :
-    (since : ℕ) (device : Device) (held : List Cursor) (result : Result Bool PageFault) → BlamesLists since device held result
-    → BlamesSource (WasFound since device) result
-lists_found since device held (Ok done) blames = tt
-lists_found since device held (Err Flash) blames = tt
-lists_found since device held (Err (Damaged number slot found)) blames = list_found number slot found blames.blames
+    (since : ℕ) (device : Device) (held : List Cursor) (result : Result Bool PageFault) → IfErr result (λ (fault : PageFault). ListsInside held)
+    → BlamesLists since device held result → BlamesSource (WasFound since device) result
+lists_found since device held (Ok done) inside blames = tt
+lists_found since device held (Err Flash) inside blames = tt
+lists_found since device held (Err (Damaged number slot found)) inside blames = cursors_found since device held inside number slot found blames
 
 pub lists_beyond :
     (since : ℕ) (device : Device) (low high : ℕ) (held : List Cursor) (result : Result Bool PageFault)
