@@ -13,13 +13,14 @@ use Rattle.ghost_model.specs.core.Host.{Holding, Stand, Response, answer_to, ans
 use Rattle.ghost_model.specs.core.Host as host
 use Rattle.host_exec.specs.RowBytes.{Form, replies_at, reply_width}
 use Rattle.host_exec.specs.FormViews.{form_view}
-use Rattle.host_exec.specs.Saying.{Source, left_from, most_rows, reply_left, response, Stands, turned, owes, IsWithin}
+use Rattle.host_exec.specs.Saying.{Source, GoesOn, left_from, most_rows, reply_left, response, Stands, turned, owes, IsWithin}
 use Rattle.host_exec.specs.Holdings.{HoldsFile}
 use Rattle.host_exec.specs.Replies.{source_of}
 use Rattle.host_exec.specs.Taken.{TakesAsk}
 use Rattle.host_exec.specs.declared.reply.Reply.{Reply}
 use Rattle.host_exec.specs.declared.stage.Stage.{Stage}
 use Rattle.host_exec.specs.declared.stage.Stage.TheVariants.{Greeting, Welcoming, Listening, Answering, Replying, Over}
+use Rattle.host_exec.proofs.Ahead.{none_ahead}
 use Rattle.host_exec.proofs.Widths.{same_width}
 
 -- a frame was answered: the frames are owed at that stage
@@ -39,12 +40,12 @@ begins (frame ∷ frames) last = record { frame = frame; rest = frames ++ last �
 
 leads_on : (held : Holding) (bytes : List ℕ) (source : Source) (serial place sent : ℕ) (stand : Stand) (frame : Frame) (frames : List Frame)
     → Begins frames → frames ≡ reply_left (most_rows source) serial sent (left_from source place) → answer_to held stand frame ≡ goes_on serial frames
-    → Leads held bytes source stand frame (Answering serial place sent)
-leads_on held bytes source serial place sent stand frame frames b same answer =
+    → GoesOn source place → Leads held bytes source stand frame (Answering serial place sent)
+leads_on held bytes source serial place sent stand frame frames b same answer ahead =
     record {
       answered = response (b.frame ∷ []) (after_reply serial b.rest);
       answer = answer ∙ ap (goes_on serial) b.is;
-      stands = ap (goes_on serial) (sym same ∙ b.is);
+      stands = (ap (goes_on serial) (sym same ∙ b.is), ahead);
     }
 
 same_stage : (a b : Stage) → Some a ≡ Some b → a ≡ b
@@ -52,15 +53,15 @@ same_stage a b e = cc
 
 more_leads : (held : Holding) (bytes : List ℕ) (source : Source) (serial place sent other : ℕ) (stage : Stage) (stand : Stand) (b : Bool) → (other == serial) ≡ b
     → (if b then Some (Answering serial place sent) else None) ≡ Some stage → stand ≡ host.Replying serial (reply_left (most_rows source) serial sent (left_from source place))
-    → Leads held bytes source stand (MoreFrame other) stage
-more_leads held bytes source serial place sent other stage stand true same e s =
+    → GoesOn source place → Leads held bytes source stand (MoreFrame other) stage
+more_leads held bytes source serial place sent other stage stand true same e s ahead =
     let rest : List Frame = reply_left (most_rows source) serial sent (left_from source place) in
     let answer : answer_to held stand (MoreFrame other) ≡ goes_on serial rest =
     ap (λ (st : Stand). answer_to held st (MoreFrame other)) s ∙ ap (λ (t : Bool). if t then goes_on serial rest else None) same in
     subst (λ (st : Stage). Leads held bytes source stand (MoreFrame other) st) (same_stage _ _ e)
     (leads_on held bytes source serial place sent stand (MoreFrame other) rest
-    (begins (map (rows_frame serial) (grouped (most_rows source) (left_from source place))) (DoneFrame serial (sent + length (left_from source place)))) refl answer)
-more_leads held bytes source serial place sent other stage stand false same e s = cc
+    (begins (map (rows_frame serial) (grouped (most_rows source) (left_from source place))) (DoneFrame serial (sent + length (left_from source place)))) refl answer ahead)
+more_leads held bytes source serial place sent other stage stand false same e s ahead = cc
 
 -- a frame that is no ask was answered
 pub turned_leads : (held : Holding) (catalog : channel.Catalog) (source : Source) (stage next : Stage) (frame : Frame) (stand : Stand) → held.catalog ≡ catalog
@@ -80,7 +81,7 @@ turned_leads held catalog source (Listening serial) next ByeFrame stand c e s =
       stands = (refl, refl);
     }
 turned_leads held catalog source (Replying serial place sent) next (MoreFrame other) stand c e s =
-    more_leads held (catalog_bytes catalog) source serial place sent other next stand (other == serial) refl e s.1
+    more_leads held (catalog_bytes catalog) source serial place sent other next stand (other == serial) refl e s.1 s.2
 turned_leads held catalog source stage next frame stand c e s = cc
 
 -- whether an ask comes in its place
@@ -144,6 +145,7 @@ taken_leads held catalog starts file payload reply serial next stand holds takes
     ∙ ap (answers_ask held serial) read) in
     leads_on held (catalog_bytes catalog) source serial 0 0 stand (AskFrame serial payload) (reply_to held serial ask)
     (begins (map (rows_frame serial) (grouped (2040 / asks.row_width held.catalog.schema ask) (held.rows ask))) (DoneFrame serial (length (held.rows ask)))) frames answer
+    (none_ahead reply.form.width reply.piece file reply.start 0 takes.none)
 
 other_serial : (serial next : ℕ) → (serial ≡ next → ⊥) → (serial == next) ≡ false
 other_serial serial next h = grind (arith, nat_tests)
@@ -168,15 +170,15 @@ no_ask held catalog serial next payload stand c none s =
     ∙ refused held serial (serial == next))
 
 -- what is kept fits also after a turn
-pub turned_within : (size rows : ℕ) (stage next : Stage) (frame : Frame) → 0 < size → IsWithin size rows stage → turned stage frame ≡ Some next → IsWithin size rows next
-turned_within size rows Greeting next (HelloFrame generation) some w e = subst (IsWithin size rows) (same_stage _ _ e) record { said = some; sent = omega arith; place = omega arith }
-turned_within size rows (Listening serial) next ByeFrame some w e = subst (IsWithin size rows) (same_stage _ _ e) record { said = some; sent = omega arith; place = omega arith }
-turned_within size rows (Replying serial place sent) next (MoreFrame other) some w e = kept (other == serial) e
+pub turned_within : (size rows ahead : ℕ) (stage next : Stage) (frame : Frame) → 0 < size → IsWithin size rows ahead stage → turned stage frame ≡ Some next → IsWithin size rows ahead next
+turned_within size rows ahead Greeting next (HelloFrame generation) some w e = subst (IsWithin size rows ahead) (same_stage _ _ e) record { said = some; sent = omega arith; place = w.place }
+turned_within size rows ahead (Listening serial) next ByeFrame some w e = subst (IsWithin size rows ahead) (same_stage _ _ e) record { said = some; sent = omega arith; place = w.place }
+turned_within size rows ahead (Replying serial place sent) next (MoreFrame other) some w e = kept (other == serial) e
   where
-    kept : (b : Bool) → (if b then Some (Answering serial place sent) else None) ≡ Some next → IsWithin size rows next
-    kept true e = subst (IsWithin size rows) (same_stage _ _ e) record { said = some; sent = w.sent; place = w.place }
+    kept : (b : Bool) → (if b then Some (Answering serial place sent) else None) ≡ Some next → IsWithin size rows ahead next
+    kept true e = subst (IsWithin size rows ahead) (same_stage _ _ e) record { said = some; sent = w.sent; place = w.place }
     kept false e = cc
-turned_within size rows stage next frame some w e = cc
+turned_within size rows ahead stage next frame some w e = cc
 
 some_bytes : (first : ℕ) (bytes : List ℕ) → 0 < length (first ∷ bytes)
 some_bytes first bytes = omega arith

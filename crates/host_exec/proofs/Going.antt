@@ -328,7 +328,7 @@ not_over catalog source (stage.Listening next) stand on stands e = never (sym st
   where
     never : host.Listening next ≡ host.Over → ⊥
     never e = cc
-not_over catalog source (stage.Answering serial place sent) stand on stands e = absurd (goes_somewhere serial _ stand stands)
+not_over catalog source (stage.Answering serial place sent) stand on stands e = absurd (goes_somewhere serial _ stand stands.0)
 not_over catalog source (stage.Replying serial place sent) stand on stands e = never _ (sym stands.1 ∙ e)
   where
     never : (rest : List Frame) → host.Replying serial rest ≡ host.Over → ⊥

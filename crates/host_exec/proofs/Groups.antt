@@ -13,8 +13,9 @@ use Rattle.ghost_model.specs.core.Host.{Stand, Response, goes_on, after_reply, r
 use Rattle.ghost_model.specs.core.Host as host
 use Rattle.host_exec.specs.Gathering.{Gathered}
 use Rattle.host_exec.specs.RowBytes.{replies_at}
-use Rattle.host_exec.specs.Saying.{Source, left_from, most_rows, reply_left, response, Stands, Says}
+use Rattle.host_exec.specs.Saying.{Source, GoesOn, left_from, most_rows, reply_left, response, Stands, Says}
 use Rattle.host_exec.specs.declared.stage.Stage.TheVariants as stage
+use Rattle.host_exec.specs.declared.piece.Piece.{Piece}
 
 -- ---- groups
 
@@ -125,32 +126,37 @@ fills : (source : Source) (place next : ℕ) (found : List RowCells) → left_fr
 fills source place next found joined few stops (inl h) = fills_full (most_rows source) _ found _ joined (stops h)
 fills source place next found joined few stops (inr h) = fills_end (most_rows source) _ found _ joined (nothing_left source next h) few
 
-pub said_done : (catalog : List ℕ) (source : Source) (serial place sent next : ℕ) (owed : List Frame) (stand : Stand) (bytes : List ℕ) (rows size : ℕ) (out : List ℕ)
+-- a source of which other rows were read ahead
+abbrev pub with_piece : Source → Piece → Source
+with_piece source piece = record { form = source.form; file = source.file; start = source.start; rows = source.rows; piece = piece }
+
+pub said_done : (catalog : List ℕ) (source : Source) (piece : Piece) (serial place sent next : ℕ) (owed : List Frame) (stand : Stand) (bytes : List ℕ) (rows size : ℕ) (out : List ℕ)
     → Stands catalog source (stage.Answering serial place sent) owed stand → 0 < most_rows source
     → Gathered (left_from source place) rows bytes (left_from source next) → rows ≡ 0 → (next < source.rows → rows ≡ most_rows source)
-    → take size out ≡ frame_bytes (DoneFrame serial sent) → Says catalog source owed stand size out (stage.Listening (serial + 1))
-said_done catalog source serial place sent next owed stand bytes rows size out stands some gathered none stops spelled =
+    → take size out ≡ frame_bytes (DoneFrame serial sent) → Says catalog (with_piece source piece) owed stand size out (stage.Listening (serial + 1))
+said_done catalog source piece serial place sent next owed stand bytes rows size out stands some gathered none stops spelled =
     let empty : gathered.found ≡ [] = nil_from_length gathered.found (omega (arith, gathered.counted, none)) in
     let end : source.rows ≤ next = not_before next source.rows (most_rows source) (λ h. (let s = stops h in omega (arith, s, none, some))) in
     let all : left_from source place ≡ [] = gathered.joined ∙ (ap (λ (xs : List RowCells). xs ++ left_from source next) empty ∙ nothing_left source next end) in
-    let goes = goes_as serial (reply_left (most_rows source) serial sent (left_from source place)) owed stand (DoneFrame serial sent) [] (host.Listening (serial + 1)) stands
+    let goes = goes_as serial (reply_left (most_rows source) serial sent (left_from source place)) owed stand (DoneFrame serial sent) [] (host.Listening (serial + 1)) stands.0
     (ap (reply_left (most_rows source) serial sent) all ∙ at_done (most_rows source) serial sent some) refl in
     record { frame = DoneFrame serial sent; rest = []; owed_are = goes.owed_are; spelled = spelled; stands = (refl, goes.stand_is) }
   where
     not_before : (next rows most : ℕ) → (next < rows → ⊥) → rows ≤ next
     not_before next rows most h = elim (side next rows) [ inl less ↦ absurd (h less) | inr more ↦ more ]
 
-pub said_rows : (catalog : List ℕ) (source : Source) (serial place sent next : ℕ) (owed : List Frame) (stand : Stand) (bytes : List ℕ) (rows size : ℕ) (out : List ℕ)
+pub said_rows : (catalog : List ℕ) (source : Source) (piece : Piece) (serial place sent next : ℕ) (owed : List Frame) (stand : Stand) (bytes : List ℕ) (rows size : ℕ) (out : List ℕ)
     → Stands catalog source (stage.Answering serial place sent) owed stand → 0 < most_rows source
     → Gathered (left_from source place) rows bytes (left_from source next) → 0 < rows → rows ≤ most_rows source → (next < source.rows → rows ≡ most_rows source)
-    → take size out ≡ frame_bytes (RowsFrame serial bytes) → Says catalog source owed stand size out (stage.Replying serial next (sent + rows))
-said_rows catalog source serial place sent next owed stand bytes rows size out stands some gathered more few stops spelled =
+    → take size out ≡ frame_bytes (RowsFrame serial bytes) → GoesOn (with_piece source piece) next
+    → Says catalog (with_piece source piece) owed stand size out (stage.Replying serial next (sent + rows))
+said_rows catalog source piece serial place sent next owed stand bytes rows size out stands some gathered more few stops spelled ahead =
     let found : List RowCells = gathered.found in
     let counted : length found ≡ rows = gathered.counted in
     let filled = fills source place next found gathered.joined (omega (arith, counted, few)) (λ h. counted ∙ stops h) (side next source.rows) in
     let goes = goes_as serial (reply_left (most_rows source) serial sent (left_from source place)) owed stand (rows_frame serial found)
     (reply_left (most_rows source) serial (sent + length found) (left_from source next))
-    (host.Replying serial (reply_left (most_rows source) serial (sent + length found) (left_from source next))) stands
+    (host.Replying serial (reply_left (most_rows source) serial (sent + length found) (left_from source next))) stands.0
     (at_rows (most_rows source) serial sent (left_from source place) found (left_from source next) some (omega (arith, counted, more)) gathered.joined filled.front filled.back)
     (still_replying (most_rows source) serial (sent + length found) (left_from source next)) in
     record {
@@ -158,7 +164,7 @@ said_rows catalog source serial place sent next owed stand bytes rows size out s
       rest = [];
       owed_are = goes.owed_are;
       spelled = spelled ∙ ap (λ (bs : List ℕ). frame_bytes (RowsFrame serial bs)) gathered.spelled;
-      stands = (refl, goes.stand_is ∙ ap (λ (n : ℕ). host.Replying serial (reply_left (most_rows source) serial (sent + n) (left_from source next))) counted);
+      stands = (refl, goes.stand_is ∙ ap (λ (n : ℕ). host.Replying serial (reply_left (most_rows source) serial (sent + n) (left_from source next))) counted, ahead);
     }
 
 -- nothing was gathered yet

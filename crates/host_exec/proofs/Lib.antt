@@ -1,6 +1,7 @@
 pub mod Widths
 pub mod Rows
 pub mod Windows
+pub mod Ahead
 pub mod Groups
 pub mod Numbers
 pub mod Answered

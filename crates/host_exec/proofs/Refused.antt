@@ -77,20 +77,20 @@ pub refused_reply : (held : Holding) (catalog : List ℕ) (source : Source) (ser
     → Stands catalog source (stage.Answering serial place count) answered.says answered.stand → answer_to held stand frame ≡ Some answered
     → answer_as true held stand frame ≡ Some (refusal serial)
 refused_reply held catalog source serial place count host.Greeting (HelloFrame generation) answered stands answer =
-    absurd (no_welcome serial _ (grouped (most_rows source) (left_from source place)) (grouped most_part (catalog_bytes held.catalog)) answered stands (sym (same_says _ answered answer)))
+    absurd (no_welcome serial _ (grouped (most_rows source) (left_from source place)) (grouped most_part (catalog_bytes held.catalog)) answered stands.0 (sym (same_says _ answered answer)))
 refused_reply held catalog source serial place count (host.Listening next) (AskFrame number payload) answered stands answer =
     ap (unread (AskFrame number payload)) answer ∙ ap (λ (n : ℕ). Some (refusal n)) (by_serial (number == next) (ask_in held.catalog.schema payload) answer)
   where
     by_serial : (b : Bool) (ask : Option channel.Ask) → (if b then answers_ask held number ask else None) ≡ Some answered → number ≡ serial
     by_serial true None answer = cc
-    by_serial true (Some ask) answer = goes_same number serial (reply_to held number ask) (reply_left (most_rows source) serial count (left_from source place)) answered answer stands
+    by_serial true (Some ask) answer = goes_same number serial (reply_to held number ask) (reply_left (most_rows source) serial count (left_from source place)) answered answer stands.0
     by_serial false ask answer = cc
 refused_reply held catalog source serial place count (host.Listening next) ByeFrame answered stands answer =
-    absurd (goes_not_over serial (reply_left (most_rows source) serial count (left_from source place)) answered stands (sym (same_stand _ answered answer)))
+    absurd (goes_not_over serial (reply_left (most_rows source) serial count (left_from source place)) answered stands.0 (sym (same_stand _ answered answer)))
 refused_reply held catalog source serial place count (host.Replying number rest) (MoreFrame other) answered stands answer =
     ap (unread (MoreFrame other)) answer ∙ ap (λ (n : ℕ). Some (refusal n)) (by_serial (other == number) refl answer)
   where
     by_serial : (b : Bool) → (other == number) ≡ b → (if b then goes_on number rest else None) ≡ Some answered → other ≡ serial
-    by_serial true same answer = eqb-true other number same ∙ goes_same number serial rest (reply_left (most_rows source) serial count (left_from source place)) answered answer stands
+    by_serial true same answer = eqb-true other number same ∙ goes_same number serial rest (reply_left (most_rows source) serial count (left_from source place)) answered answer stands.0
     by_serial false same answer = cc
 refused_reply held catalog source serial place count stand frame answered stands answer = cc

@@ -31,16 +31,16 @@ goes_somewhere serial (frame ∷ rest) stand e = never (same _ _ e)
     never e = cc
 
 -- a host that owes no frame has none to say
-pub silent : (catalog : List ℕ) (source : Source) (rows : ℕ) (stage : Stage) (stand : Stand) → IsWithin (length catalog) rows stage
+pub silent : (catalog : List ℕ) (source : Source) (rows ahead : ℕ) (stage : Stage) (stand : Stand) → IsWithin (length catalog) rows ahead stage
     → Stands catalog source stage [] stand → owes stage ≡ false
-silent catalog source rows Greeting stand within stands = refl
-silent catalog source rows (Welcoming at) stand within stands =
+silent catalog source rows ahead Greeting stand within stands = refl
+silent catalog source rows ahead (Welcoming at) stand within stands =
     let said : at < length catalog = within.said in
     absurd (one_welcome (drop at catalog) (omega (arith, length-drop at catalog, said)) stands.0)
-silent catalog source rows (Listening next) stand within stands = refl
-silent catalog source rows (Answering serial place sent) stand within stands = absurd (goes_somewhere serial _ stand stands)
-silent catalog source rows (Replying serial place sent) stand within stands = refl
-silent catalog source rows Over stand within stands = refl
+silent catalog source rows ahead (Listening next) stand within stands = refl
+silent catalog source rows ahead (Answering serial place sent) stand within stands = absurd (goes_somewhere serial _ stand stands.0)
+silent catalog source rows ahead (Replying serial place sent) stand within stands = refl
+silent catalog source rows ahead Over stand within stands = refl
 
 -- and one that has none to say owes none
 pub owes_nothing : (catalog : List ℕ) (source : Source) (stage : Stage) (owed : List Frame) (stand : Stand) → owes stage ≡ false

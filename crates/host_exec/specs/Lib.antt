@@ -1,4 +1,5 @@
 pub mod RowBytes
+pub mod Pieces
 pub mod FormViews
 pub mod Gathering
 pub mod Saying

@@ -5,4 +5,4 @@ use Rattle.host_exec.specs.Saying.{Source}
 use Rattle.host_exec.specs.declared.reply.Reply.{Reply}
 
 abbrev pub source_of : Reply → (file : List ℕ) → Source
-source_of reply file = record { form = form_view reply.form; file = file; start = reply.start; rows = reply.rows }
+source_of reply file = record { form = form_view reply.form; file = file; start = reply.start; rows = reply.rows; piece = reply.piece }

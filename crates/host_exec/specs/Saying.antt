@@ -8,20 +8,27 @@ use Rattle.ghost_model.specs.core.Asks.{RowCells}
 use Rattle.ghost_model.specs.core.Host.{Stand, Response, rows_frame, grouped, most_part, welcomes_of, goes_on}
 use Rattle.ghost_model.specs.core.Host as host
 use Rattle.host_exec.specs.RowBytes.{Form, replies_at, reply_width}
+use Rattle.host_exec.specs.Pieces.{IsAhead}
+use Rattle.host_exec.specs.declared.piece.Piece.{Piece}
 use Rattle.host_exec.specs.declared.stage.Stage.{Stage}
 use Rattle.host_exec.specs.declared.stage.Stage.TheVariants.{Greeting, Welcoming, Listening, Answering, Replying, Over}
 
--- what a reply is made of: the ask over the bytes of rows, the file, where the rows of the table begin in it, and how
--- many there are
+-- what a reply is made of: the ask over the bytes of rows, the file, where the rows of the table begin in it, how many there
+-- are, and those that were read ahead
 pub record Source : Type 0 where
   pub form : Form
   pub file : List ℕ
   pub start : ℕ
   pub rows : ℕ
+  pub piece : Piece
 
 -- the rows of the reply that the table gives from a place on
 abbrev pub left_from : Source → (place : ℕ) → List RowCells
 left_from source place = replies_at source.form source.file source.start place (source.rows - place)
+
+-- the rows that were read ahead are those of the table from a place on
+abbrev pub GoesOn : Source → (place : ℕ) → Type 0
+GoesOn source place = IsAhead source.form.width source.piece source.file source.start place
 
 -- the rows that one frame has at most
 abbrev pub most_rows : Source → ℕ
@@ -41,9 +48,9 @@ Stands catalog source (Welcoming at) owed stand =
     (owed ≡ welcomes_of (grouped most_part (drop at catalog))) × (stand ≡ host.Listening 1)
 Stands catalog source (Listening next) owed stand = (owed ≡ []) × (stand ≡ host.Listening next)
 Stands catalog source (Answering serial place sent) owed stand =
-    goes_on serial (reply_left (most_rows source) serial sent (left_from source place)) ≡ Some (response owed stand)
+    (goes_on serial (reply_left (most_rows source) serial sent (left_from source place)) ≡ Some (response owed stand)) × GoesOn source place
 Stands catalog source (Replying serial place sent) owed stand =
-    (owed ≡ []) × (stand ≡ host.Replying serial (reply_left (most_rows source) serial sent (left_from source place)))
+    (owed ≡ []) × (stand ≡ host.Replying serial (reply_left (most_rows source) serial sent (left_from source place))) × GoesOn source place
 Stands catalog source Over owed stand = (owed ≡ []) × (stand ≡ host.Over)
 
 -- the next of the frames was said, in so many bytes of `out`
@@ -71,11 +78,11 @@ sent_of (Answering serial place sent) = sent
 sent_of (Replying serial place sent) = sent
 sent_of _ = 0
 
--- what is kept of a session fits the catalog and the table
-pub record IsWithin (catalog rows : ℕ) (stage : Stage) : Type 0 where
+-- what is kept of a session fits the catalog and the table, of whose rows so many were read ahead
+pub record IsWithin (catalog rows ahead : ℕ) (stage : Stage) : Type 0 where
   pub said : said_of stage < catalog
   pub sent : sent_of stage ≤ place_of stage
-  pub place : place_of stage ≤ rows
+  pub place : place_of stage + ahead ≤ rows
 
 -- a frame of the key that is no ask leads from one stage to another
 abbrev pub turned : Stage → Frame → Option Stage

@@ -14,3 +14,4 @@ pub record TakesAsk (catalog : channel.Catalog) (starts payload : List ℕ) (rep
   pub form : form_view reply.form ≡ form_of catalog.schema ask
   pub start : reply.start ≡ slice_index starts ask.table
   pub rows : reply.rows ≡ slice_index catalog.counts ask.table
+  pub none : reply.piece.rows ≡ 0

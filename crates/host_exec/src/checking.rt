@@ -11,7 +11,7 @@ ghost use Rattle.host_exec.specs.Checked.{SpellsRow, shown_kinds, is_narrow, Goo
 
 use crate::filling::fill;
 use crate::form::row_width;
-use crate::gathering::{PIECE_BYTES, rows_of_piece};
+use crate::piece::{PIECE_BYTES, rows_of_piece};
 use crate::turning::{rows_of, start_of};
 use arrayvec::ArrayVec;
 use channel_codec::ask::kind_at;

@@ -1,6 +1,6 @@
 //! The rows of one frame of a reply, gathered from the file.
 
-ghost use Rattle.std.specs.Prelude.{◌≡◌, ◌≤◌, ◌<◌, ◌+◌, ◌-◌, ◌*◌, ◌++◌, ◌^◌, ℕ, true, false, List, [], Some, length, map, flat_map, sum, take, drop, OnOk, IfOk, is_ok};
+ghost use Rattle.std.specs.Prelude.{◌≡◌, ◌≤◌, ◌<◌, ◌+◌, ◌-◌, ◌*◌, ◌++◌, ◌^◌, ℕ, true, false, List, [], Some, map, flat_map, sum, IfErr, IfOk, is_ok};
 ghost use Rattle.std.specs.List.{list_all};
 ghost use Rattle.arrayvec.specs.ArrayVec.{array_vec_len};
 ghost use Rattle.ghost_model.specs.core.Asks.{RowCells, row_bytes};
@@ -9,10 +9,11 @@ ghost use Rattle.edge_traits.specs.Files.{file_of};
 ghost use Rattle.host_exec.specs.RowBytes as rows;
 ghost use Rattle.host_exec.specs.RowBytes.{replies_at};
 ghost use Rattle.host_exec.specs.Gathering.{Gathered, HasRoom};
+ghost use Rattle.host_exec.specs.Pieces.{HasFit, IsAhead};
 ghost use Rattle.host_exec.specs.FormViews.{span_view, check_view, form_view};
 
-use crate::filling::fill;
 use crate::form::{Check, Form, Span};
+use crate::piece::Piece;
 use arrayvec::ArrayVec;
 use channel_codec::bytes::{behind, front};
 use channel_codec::frame::PAYLOAD_BYTES;
@@ -128,25 +129,10 @@ fn add_rows(form: &Form, place: u32, count: u32, piece: &[u8], most: u32, batch:
     passed
 }
 
-/// The bytes that are read of the file at once.
-pub(crate) const PIECE_BYTES: usize = 4096;
-
-/// How many rows of a width are read at once, of those that are left: as many as a piece has room for.
-pub(crate) fn rows_of_piece(width: usize, left: u32) -> u32
-    requires { width ≤ 1536 }
-    ensures within { result ≤ left }
-    ensures some { 0 < left → 0 < result }
-    ensures fits { result * width ≤ PIECE_BYTES }
-{
-    if width == 0 {
-        return left;
-    }
-    left.min((PIECE_BYTES / width) as u32)
-}
-
-/// Gathers on from the next piece of the file; answers the place of the row to go on at.
+/// Gathers on from the piece in hand, or else from the next one, which is read; answers the place of the row to go on at.
 fn gather_piece<D: Depot>(
     form: &Form,
+    piece: &mut Piece,
     depot: &mut D,
     name: &str,
     start: u64,
@@ -161,30 +147,38 @@ fn gather_piece<D: Depot>(
     requires start { start < 2 ^ 63 }
     requires room { HasRoom (form_view form.now) most batch.old }
     requires more { batch.old.rows < most }
+    requires fits { HasFit form.now.width piece.old }
+    requires ahead { next + piece.old.rows ≤ rows }
     ensures cause { HasCause (D.faults depot.old) (D.faults depot.new) result }
     ensures appends { D.append_faults depot.new ≡ D.append_faults depot.old }
     ensures same { D.contents depot.new ≡ D.contents depot.old }
     ensures goes_well { D.sure depot.old name.now → is_ok result ≡ true }
     ensures stays_sure { D.sure depot.old name.now → D.sure depot.new name.now }
     ensures room { HasRoom (form_view form.now) most batch.new }
+    ensures fits { HasFit form.now.width piece.new }
+    ensures none { IfErr result (λ _. piece.new.rows ≡ 0) }
     ensures goes_on { IfOk result (λ later. next < later) }
     ensures sparse { IfOk result (λ later. batch.new.rows + next ≤ batch.old.rows + later) }
-    ensures within { IfOk result (λ later. later ≤ rows) }
+    ensures within { IfOk result (λ later. later + piece.new.rows ≤ rows) }
+    ensures ahead { IfOk result (λ later. (file : List ℕ) → file_of (D.contents depot.old) name.now ≡ Some file
+        → IsAhead form.now.width piece.old file start next → IsAhead form.now.width piece.new file start later) }
     ensures gathered { IfOk result (λ later. (file : List ℕ) (all : List RowCells) → file_of (D.contents depot.old) name.now ≡ Some file
+        → IsAhead form.now.width piece.old file start next
         → Gathered all batch.old.rows batch.old.bytes.items (replies_at (form_view form.now) file start next (rows - next))
         → Gathered all batch.new.rows batch.new.bytes.items (replies_at (form_view form.now) file start later (rows - later))) }
 {
-    let count = rows_of_piece(form.width, rows - next);
-    let mut places = [0; PIECE_BYTES];
-    let (piece, _rest) = places.split_at_mut(count as usize * form.width);
-    let at = start + next as u64 * form.width as u64;
-    fill(depot, name, at, piece)?;
-    Ok(next + add_rows(form, next, count, piece, most, batch))
+    piece.refill(depot, name, form.width, start, next, rows - next)?;
+    let ahead = piece.ahead(form.width);
+    let passed = add_rows(form, next, piece.rows, ahead, most, batch);
+    piece.pass(passed, form.width);
+    Ok(next + passed)
 }
 
-/// Gathers the rows of one frame, from a row of the table on; answers the place of the row to go on at.
+/// Gathers the rows of one frame, from a row of the table on, of which those of the piece in hand were read before; answers the
+/// place of the row to go on at.
 pub fn gather<D: Depot>(
     form: &Form,
+    piece: &mut Piece,
     depot: &mut D,
     name: &str,
     start: u64,
@@ -193,28 +187,34 @@ pub fn gather<D: Depot>(
     most: u32,
     batch: &mut Batch,
 ) -> Result<u32, Failed>
-    requires place { place ≤ rows }
+    requires place { place + piece.old.rows ≤ rows }
     requires few { rows ≤ 1_000_000 }
     requires narrow { form.now.width ≤ 1536 }
     requires start { start < 2 ^ 63 }
     requires room { HasRoom (form_view form.now) most batch.old }
+    requires fits { HasFit form.now.width piece.old }
     ensures cause { HasCause (D.faults depot.old) (D.faults depot.new) result }
     ensures appends { D.append_faults depot.new ≡ D.append_faults depot.old }
     ensures same { D.contents depot.new ≡ D.contents depot.old }
     ensures goes_well { D.sure depot.old name.now → is_ok result ≡ true }
     ensures stays_sure { D.sure depot.old name.now → D.sure depot.new name.now }
     ensures room { HasRoom (form_view form.now) most batch.new }
+    ensures fits { HasFit form.now.width piece.new }
+    ensures none { IfErr result (λ _. piece.new.rows ≡ 0) }
     ensures goes_on { IfOk result (λ next. place ≤ next) }
     ensures sparse { IfOk result (λ next. batch.new.rows + place ≤ batch.old.rows + next) }
-    ensures within { IfOk result (λ next. next ≤ rows) }
+    ensures within { IfOk result (λ next. next + piece.new.rows ≤ rows) }
     ensures stops { IfOk result (λ next. next < rows → batch.new.rows ≡ most) }
+    ensures ahead { IfOk result (λ next. (file : List ℕ) → file_of (D.contents depot.old) name.now ≡ Some file
+        → IsAhead form.now.width piece.old file start place → IsAhead form.now.width piece.new file start next) }
     ensures gathered { IfOk result (λ next. (file : List ℕ) (all : List RowCells) → file_of (D.contents depot.old) name.now ≡ Some file
+        → IsAhead form.now.width piece.old file start place
         → Gathered all batch.old.rows batch.old.bytes.items (replies_at (form_view form.now) file start place (rows - place))
         → Gathered all batch.new.rows batch.new.bytes.items (replies_at (form_view form.now) file start next (rows - next))) }
 {
     let mut next = place;
     'pieces: while next < rows && batch.rows < most {
-        next = gather_piece(form, depot, name, start, next, rows, most, batch)?;
+        next = gather_piece(form, piece, depot, name, start, next, rows, most, batch)?;
     }
     Ok(next)
 }

@@ -19,5 +19,5 @@ pub struct Host {
     pub(crate) reply: Reply,
     pub(crate) stage: Stage,
     pub(crate) ghost near: { All (λ start. start < 2 ^ 63) starts.items },
-    pub(crate) ghost within: { IsWithin (length (catalog_bytes catalog)) reply.rows stage },
+    pub(crate) ghost within: { IsWithin (length (catalog_bytes catalog)) reply.rows reply.piece.rows stage },
 }

@@ -12,6 +12,7 @@ mod form;
 mod gathering;
 pub mod host;
 pub mod laws;
+mod piece;
 mod places;
 mod reply;
 mod saying;

@@ -1,6 +1,6 @@
 //! The frames that a host says.
 
-ghost use Rattle.std.specs.Prelude.{◌≡◌, ◌≤◌, ◌<◌, ◌+◌, ◌*◌, ◌/◌, ◌^◌, ℕ, List, Some, length, take, drop, IfOk, ◌⊎◌, MatchBool, true, false, is_ok};
+ghost use Rattle.std.specs.Prelude.{◌≡◌, ◌≤◌, ◌<◌, ◌+◌, ◌/◌, ℕ, List, Some, length, take, IfErr, IfOk, ◌⊎◌, MatchBool, true, false, is_ok};
 ghost use Rattle.ghost_model.specs.forms.Catalog.{catalog_bytes};
 ghost use Rattle.ghost_model.specs.core.Causes.{HasCause, Rose};
 ghost use Rattle.ghost_model.specs.core.Channel as channel;
@@ -26,7 +26,7 @@ const PART_BYTES: usize = 2039;
 pub fn say_part(catalog: &Catalog, at: usize, out: &mut [u8]) -> Said
     requires within { at < length (catalog_bytes catalog.now) }
     requires room { 2048 ≤ length out.old }
-    ensures within { (rows : ℕ) → saying.IsWithin (length (catalog_bytes catalog.now)) rows result.stage }
+    ensures within { (rows ahead : ℕ) → ahead ≤ rows → saying.IsWithin (length (catalog_bytes catalog.now)) rows ahead result.stage }
     ensures short { result.size ≤ 2048 }
     ensures fewer { steps_left (length (catalog_bytes catalog.now)) result.stage < steps_left (length (catalog_bytes catalog.now)) (Stage.Welcoming at) }
     ensures granted { result.refused ≡ false }
@@ -59,7 +59,7 @@ pub fn say_part(catalog: &Catalog, at: usize, out: &mut [u8]) -> Said
 
 /// Says the next frame of a reply, which goes on at a row of the table.
 fn say_rows<D: Depot>(
-    reply: &Reply,
+    reply: &mut Reply,
     depot: &mut D,
     name: &str,
     serial: u32,
@@ -68,25 +68,27 @@ fn say_rows<D: Depot>(
     out: &mut [u8],
 ) -> Result<Said, Failed>
     requires sent { sent ≤ place }
-    requires place { place ≤ reply.now.rows }
+    requires place { place + reply.old.piece.rows ≤ reply.old.rows }
     requires room { 2048 ≤ length out.old }
     ensures cause { HasCause (D.faults depot.old) (D.faults depot.new) result }
     ensures appends { D.append_faults depot.new ≡ D.append_faults depot.old }
     ensures same { D.contents depot.new ≡ D.contents depot.old }
     ensures goes_well { D.sure depot.old name.now → is_ok result ≡ true }
     ensures stays_sure { D.sure depot.old name.now → D.sure depot.new name.now }
-    ensures within { (catalog : ℕ) → 0 < catalog → IfOk result (λ said. saying.IsWithin catalog reply.now.rows said.stage) }
+    ensures none { IfErr result (λ _. reply.new.piece.rows ≡ 0) }
+    ensures within { (catalog : ℕ) → 0 < catalog → IfOk result (λ said. saying.IsWithin catalog reply.new.rows reply.new.piece.rows said.stage) }
     ensures short { IfOk result (λ said. said.size ≤ 2048) }
     ensures fewer { (catalog : ℕ) → IfOk result (λ said. steps_left catalog said.stage < steps_left catalog (Stage.Answering serial place sent)) }
     ensures granted { IfOk result (λ said. said.refused ≡ false) }
     ensures rests { IfOk result (λ said. saying.rests said.stage ≡ true) }
     ensures said { (catalog file : List ℕ) (owed : List channel.Frame) (stand : host.Stand) → file_of (D.contents depot.old) name.now ≡ Some file
-        → saying.Stands catalog (source_of reply.now file) (Stage.Answering serial place sent) owed stand
-        → IfOk result (λ said. saying.Says catalog (source_of reply.now file) owed stand said.size out.new said.stage) }
+        → saying.Stands catalog (source_of reply.old file) (Stage.Answering serial place sent) owed stand
+        → IfOk result (λ said. saying.Says catalog (source_of reply.new file) owed stand said.size out.new said.stage) }
 {
     let mut batch = Batch::new();
     let next = gather(
         &reply.form,
+        &mut reply.piece,
         depot,
         name,
         reply.start,
@@ -149,7 +151,7 @@ fn say_sorry(serial: u32, out: &mut [u8]) -> Said
 
 /// Says the next frame of a reply, or refuses to go on where the depot failed.
 pub fn say_reply<D: Depot>(
-    reply: &Reply,
+    reply: &mut Reply,
     depot: &mut D,
     name: &str,
     serial: u32,
@@ -158,13 +160,13 @@ pub fn say_reply<D: Depot>(
     out: &mut [u8],
 ) -> Said
     requires sent { sent ≤ place }
-    requires place { place ≤ reply.now.rows }
+    requires place { place + reply.old.piece.rows ≤ reply.old.rows }
     requires room { 2048 ≤ length out.old }
     ensures never_falls { D.faults depot.old ≤ D.faults depot.new }
     ensures appends { D.append_faults depot.new ≡ D.append_faults depot.old }
     ensures same { D.contents depot.new ≡ D.contents depot.old }
     ensures stays_sure { D.sure depot.old name.now → D.sure depot.new name.now }
-    ensures within { (catalog : ℕ) → 0 < catalog → saying.IsWithin catalog reply.now.rows result.stage }
+    ensures within { (catalog : ℕ) → 0 < catalog → saying.IsWithin catalog reply.new.rows reply.new.piece.rows result.stage }
     ensures short { result.size ≤ 2048 }
     ensures fewer { (catalog : ℕ) → steps_left catalog result.stage < steps_left catalog (Stage.Answering serial place sent) }
     ensures rests { saying.rests result.stage ≡ true }
@@ -172,8 +174,8 @@ pub fn say_reply<D: Depot>(
     ensures told { MatchBool result.refused (Rose (D.faults depot.old) (D.faults depot.new)) (D.faults depot.new ≡ D.faults depot.old) }
     ensures said { saying.Refuses (D.sure depot.old name.now) (D.faults depot.old) (D.faults depot.new) serial result.size out.new result.stage
         ⊎ ((D.faults depot.new ≡ D.faults depot.old) × ((catalog file : List ℕ) (owed : List channel.Frame) (stand : host.Stand) → file_of (D.contents depot.old) name.now ≡ Some file
-        → saying.Stands catalog (source_of reply.now file) (Stage.Answering serial place sent) owed stand
-        → saying.Says catalog (source_of reply.now file) owed stand result.size out.new result.stage)) }
+        → saying.Stands catalog (source_of reply.old file) (Stage.Answering serial place sent) owed stand
+        → saying.Says catalog (source_of reply.new file) owed stand result.size out.new result.stage)) }
 {
     match say_rows(reply, depot, name, serial, place, sent, out) {
         Ok(said) => said,

@@ -1,6 +1,6 @@
 //! How a host takes the frames of a key and answers them.
 
-ghost use Rattle.std.specs.Prelude.{◌≡◌, ◌≤◌, ◌<◌, ◌⊎◌, ℕ, List, [], ◌∷◌, Some, None, true, false, length, take, is_some, MatchBool, IfSome, IfNone, IfOk, Err};
+ghost use Rattle.std.specs.Prelude.{◌≡◌, ◌≤◌, ◌<◌, ◌⊎◌, ℕ, List, [], Some, None, true, false, is_some, MatchBool, IfSome, IfNone, IfOk, Err};
 ghost use Rattle.ghost_model.specs.core.Channel as channel;
 ghost use Rattle.ghost_model.specs.core.Host.{Holding, Stand, answer_to};
 ghost use Rattle.channel_codec.specs.Views.{frame_view};
@@ -9,10 +9,7 @@ ghost use Rattle.ghost_model.specs.core.Causes.{Rose};
 ghost use Rattle.host_exec.specs.Holdings.{AreStarts};
 ghost use Rattle.host_exec.specs.Checked.{IsImage, IsNoImage};
 ghost use Rattle.host_exec.specs.Saying as saying;
-ghost use Rattle.host_exec.specs.Steps.{steps_left};
-ghost use Rattle.host_exec.specs.Hosts.{Holds, StandsAs, IsSameHost, IsAnswered, Refused, RefusedAs, SaysAs, name_of, steps_of};
-ghost use Rattle.host_exec.specs.Replies.{source_of};
-ghost use Rattle.ghost_model.specs.forms.Catalog.{catalog_bytes};
+ghost use Rattle.host_exec.specs.Hosts.{Holds, StandsAs, IsSameHost, IsAnswered, RefusedAs, SaysAs, name_of, steps_of};
 
 use crate::begin::open;
 use crate::host::Host;
@@ -136,41 +133,47 @@ impl Host {
         }
     }
 
-    /// Says the next frame, if there is one to say.
-    pub(crate) fn say_next<D: Depot>(&self, depot: &mut D, out: &mut [u8]) -> Option<Said>
-        requires room { 2048 ≤ length out.old }
-        ensures owed { is_some result ≡ saying.owes self.now.stage }
+    /// Says the next frame over the front of `out`, and tells where the host then stands; `None` where it has none to say.
+    pub(crate) fn say<D: Depot>(
+        &mut self,
+        depot: &mut D,
+        out: &mut [u8; FRAME_BYTES],
+    ) -> Option<Said>
+        ensures same { IsSameHost self.old self.new }
         ensures never_falls { D.faults depot.old ≤ D.faults depot.new }
         ensures appends { D.append_faults depot.new ≡ D.append_faults depot.old }
-        ensures same { D.contents depot.new ≡ D.contents depot.old }
-        ensures stays_sure { D.sure depot.old (name_of self.now) → D.sure depot.new (name_of self.now) }
-        ensures granted { D.sure depot.old (name_of self.now) → IfSome result (λ said. said.refused ≡ false) }
-        ensures none { IfNone result (D.faults depot.new ≡ D.faults depot.old) }
+        ensures depot { D.contents depot.new ≡ D.contents depot.old }
+        ensures stays_sure { D.sure depot.old (name_of self.old) → D.sure depot.new (name_of self.new) }
+        ensures granted { D.sure depot.old (name_of self.old) → IfSome result (λ said. said.refused ≡ false) }
+        ensures owed { is_some result ≡ saying.owes self.old.stage }
+        ensures none { IfNone result (self.new ≡ self.old) }
+        ensures quiet { IfNone result (D.faults depot.new ≡ D.faults depot.old) }
+        ensures nothing { IfNone result ((file : List ℕ) (owed : List channel.Frame) (stand : Stand) → StandsAs self.old file owed stand → owed ≡ []) }
         ensures short { IfSome result (λ said. said.size ≤ 2048) }
-        ensures within { IfSome result (λ said. saying.IsWithin (length (catalog_bytes self.now.catalog)) self.now.reply.rows said.stage) }
-        ensures fewer { IfSome result (λ said. steps_left (length (catalog_bytes self.now.catalog)) said.stage < steps_of self.now) }
-        ensures rests { IfSome result (λ said. saying.rests said.stage ≡ true) }
+        ensures fewer { IfSome result (λ said. steps_of self.new < steps_of self.old) }
+        ensures rests { IfSome result (λ said. saying.rests self.new.stage ≡ true) }
         ensures told { IfSome result (λ said. MatchBool said.refused (Rose (D.faults depot.old) (D.faults depot.new)) (D.faults depot.new ≡ D.faults depot.old)) }
-        ensures said { IfSome result (λ said. Refused (D.sure depot.old (name_of self.now)) self.now (D.faults depot.old) (D.faults depot.new) said.size out.new said.stage
+        ensures said { IfSome result (λ said. RefusedAs (D.sure depot.old (name_of self.old)) self.old (D.faults depot.old) (D.faults depot.new) said.size out.new self.new
             ⊎ ((D.faults depot.new ≡ D.faults depot.old) × ((file : List ℕ) (owed : List channel.Frame) (stand : Stand)
-            → file_of (D.contents depot.old) (name_of self.now) ≡ Some file → StandsAs self.now file owed stand
-            → saying.Says (catalog_bytes self.now.catalog) (source_of self.now.reply file) owed stand said.size out.new said.stage))) }
+            → file_of (D.contents depot.old) (name_of self.old) ≡ Some file → StandsAs self.old file owed stand
+            → SaysAs self.new file owed stand said.size out.new))) }
     {
         match self.stage {
-            Stage::Welcoming { at } => Some(say_part(&self.catalog, at, out)),
+            Stage::Welcoming { at } => {
+                let said = say_part(&self.catalog, at, out);
+                self.stage = said.stage;
+                Some(said)
+            }
             Stage::Answering {
                 serial,
                 place,
                 sent,
-            } => Some(say_reply(
-                &self.reply,
-                depot,
-                self.name.as_str(),
-                serial,
-                place,
-                sent,
-                out,
-            )),
+            } => {
+                let name = self.name.as_str();
+                let said = say_reply(&mut self.reply, depot, name, serial, place, sent, out);
+                self.stage = said.stage;
+                Some(said)
+            }
             _ => None,
         }
     }
@@ -195,8 +198,7 @@ impl Host {
             → file_of (D.contents depot.old) (name_of self.old) ≡ Some file → StandsAs self.old file owed stand
             → SaysAs self.new file owed stand size out.new))) }
     {
-        let said = self.say_next(depot, out)?;
-        self.stage = said.stage;
+        let said = self.say(depot, out)?;
         Some(said.size as u16)
     }
 }

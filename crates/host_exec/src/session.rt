@@ -1,18 +1,16 @@
 //! A whole session of a host over a link.
 
-ghost use Rattle.std.specs.Prelude.{◌≡◌, ◌≤◌, ◌<◌, ◌+◌, ◌*◌, ◌^◌, ◌⊎◌, ◌||◌, ℕ, List, [], Some, true, false, is_ok, is_some, length, take, IfSome, IfNone, IfOk, MatchBool, MatchOption};
+ghost use Rattle.std.specs.Prelude.{◌≡◌, ◌≤◌, ◌<◌, ◌+◌, ◌||◌, ℕ, List, [], Some, true, false, is_ok, length, take, IfSome, IfNone, IfOk, MatchBool, MatchOption};
 ghost use Rattle.ghost_model.specs.core.Causes.{Rose};
-ghost use Rattle.ghost_model.specs.core.Channel as channel;
 ghost use Rattle.ghost_model.specs.forms.Frames.{AreBytes};
 ghost use Rattle.ghost_model.specs.core.Host.{Holding, Stand};
 ghost use Rattle.edge_traits.specs.Counting.{WentCounting};
 ghost use Rattle.edge_traits.specs.Files.{file_of};
-ghost use Rattle.host_exec.specs.Saying.{owes, rests};
-ghost use Rattle.host_exec.specs.Hosts.{Holds, StandsAs, IsSameHost, RefusedAs, SaysAs, name_of, steps_of};
+ghost use Rattle.host_exec.specs.Hosts.{Holds, StandsAs, IsSameHost, name_of, steps_of};
 ghost use Rattle.host_exec.specs.Sessions.{Came, Lost, is_bad, IsWhole, BeginsAs, HeardAs, IsRefused, Speaks, Turns, Serves, closed, HoldsIn, is_answered, was_refused, size_of, IsOneFrame};
 
 use crate::host::Host;
-use crate::stage::{Said, Stage};
+use crate::stage::Stage;
 use channel_codec::frame::FRAME_BYTES;
 use channel_codec::reading::{Got, frame_of, kind_in};
 use edge_traits::Failed;
@@ -117,32 +115,6 @@ impl Host {
             Got::Short(_) => Some(kind_in(bytes)),
             Got::Bad(kind) => Some(kind),
         }
-    }
-
-    /// Says the next frame over the front of `out`, and tells where the host then stands; `None` where it has none to say.
-    fn say<D: Depot>(&mut self, depot: &mut D, out: &mut [u8; FRAME_BYTES]) -> Option<Said>
-        ensures same { IsSameHost self.old self.new }
-        ensures never_falls { D.faults depot.old ≤ D.faults depot.new }
-        ensures appends { D.append_faults depot.new ≡ D.append_faults depot.old }
-        ensures depot { D.contents depot.new ≡ D.contents depot.old }
-        ensures stays_sure { D.sure depot.old (name_of self.old) → D.sure depot.new (name_of self.new) }
-        ensures granted { D.sure depot.old (name_of self.old) → IfSome result (λ said. said.refused ≡ false) }
-        ensures owed { is_some result ≡ owes self.old.stage }
-        ensures none { IfNone result (self.new ≡ self.old) }
-        ensures quiet { IfNone result (D.faults depot.new ≡ D.faults depot.old) }
-        ensures nothing { IfNone result ((file : List ℕ) (owed : List channel.Frame) (stand : Stand) → StandsAs self.old file owed stand → owed ≡ []) }
-        ensures short { IfSome result (λ said. said.size ≤ 2048) }
-        ensures fewer { IfSome result (λ said. steps_of self.new < steps_of self.old) }
-        ensures rests { IfSome result (λ said. rests self.new.stage ≡ true) }
-        ensures told { IfSome result (λ said. MatchBool said.refused (Rose (D.faults depot.old) (D.faults depot.new)) (D.faults depot.new ≡ D.faults depot.old)) }
-        ensures said { IfSome result (λ said. RefusedAs (D.sure depot.old (name_of self.old)) self.old (D.faults depot.old) (D.faults depot.new) said.size out.new self.new
-            ⊎ ((D.faults depot.new ≡ D.faults depot.old) × ((file : List ℕ) (owed : List channel.Frame) (stand : Stand)
-            → file_of (D.contents depot.old) (name_of self.old) ≡ Some file → StandsAs self.old file owed stand
-            → SaysAs self.new file owed stand said.size out.new))) }
-    {
-        let said = self.say_next(depot, out)?;
-        self.stage = said.stage;
-        Some(said)
     }
 
     /// Sends each frame that the host owes, by one send each; answers whether one of them refuses a reply.

@@ -4,6 +4,7 @@ use Rattle.edge_traits.specs.Files.{file_of}
 use Rattle.host_exec.specs.RowBytes.{replies_at}
 use Rattle.host_exec.specs.FormViews.{form_view}
 use Rattle.host_exec.specs.Gathering.{Gathered, HasRoom}
+use Rattle.host_exec.specs.Pieces.{IsAhead, HasFit}
 use Rattle.host_exec.proofs.gathering.gather.Given as goal
 
 abbrev pub invariant-pieces : goal.invariant-pieces
@@ -15,8 +16,12 @@ invariant-pieces g l = record {
   room : HasRoom (form_view l.form) l.most l.batch;
   goes_on : l.place ≤ l.next;
   sparse : l.batch.rows + l.place ≤ l.fn.batch.rows + l.next;
-  within : l.next ≤ l.rows;
+  within : l.next + l.piece.rows ≤ l.rows;
+  fits : HasFit l.form.width l.piece;
+  ahead : (file : List ℕ) → file_of (g.D.Depot.contents l.fn.depot) l.name ≡ Some file → IsAhead l.form.width l.fn.piece file l.start l.place
+      → IsAhead l.form.width l.piece file l.start l.next;
   gathered : (file : List ℕ) (all : List RowCells) → file_of (g.D.Depot.contents l.fn.depot) l.name ≡ Some file
+      → IsAhead l.form.width l.fn.piece file l.start l.place
       → Gathered all l.fn.batch.rows l.fn.batch.bytes.items (replies_at (form_view l.form) file l.start l.place (l.rows - l.place))
       → Gathered all l.batch.rows l.batch.bytes.items (replies_at (form_view l.form) file l.start l.next (l.rows - l.next));
 }

@@ -17,4 +17,5 @@ returns-clause-taken c =
       form = c.reply_of.ensures.form ∙ ap (λ (s : Schema). form_of s (ask_view c.in_ok-ask.ask)) c.schema-schema.ensures.value;
       start = c.reply_of.ensures.start ∙ c.start_of-start.ensures.start;
       rows = c.reply_of.ensures.rows ∙ c.rows_of-rows.ensures.rows;
+      none = c.reply_of.ensures.none;
     }

@@ -13,7 +13,7 @@ returns-in-Some-clause-answered c held file stand holds free stands =
 
 pub returns-in-Some-clause-silent : goal.returns-in-Some-clause-silent
 returns-in-Some-clause-silent c file stand stands =
-    silent (catalog_bytes c.args.self.now.catalog) (source_of c.args.self.now.reply file) c.args.self.now.reply.rows c.args.self.now.stage stand c.args.self.now.within stands
+    silent (catalog_bytes c.args.self.now.catalog) (source_of c.args.self.now.reply file) c.args.self.now.reply.rows c.args.self.now.reply.piece.rows c.args.self.now.stage stand c.args.self.now.within stands
 
 pub returns-in_default : goal.returns-in_default
 returns-in_default c = record {
@@ -23,6 +23,6 @@ returns-in_default c = record {
   busy = λ _. refl;
   fewer = λ e. search rules;
   silent = λ file stand stands.
-      silent (catalog_bytes c.args.self.now.catalog) (source_of c.args.self.now.reply file) c.args.self.now.reply.rows c.args.self.now.stage stand c.args.self.now.within stands;
+      silent (catalog_bytes c.args.self.now.catalog) (source_of c.args.self.now.reply file) c.args.self.now.reply.rows c.args.self.now.reply.piece.rows c.args.self.now.stage stand c.args.self.now.within stands;
   answered = search rules;
 }
