@@ -1,17 +1,19 @@
--- Rows that are no candidates have no line, and candidates meet what a plan for them does not test.
+-- Rows without a line are left out, and candidates meet what a plan for them does not test.
 use Rattle.std.proofs.Common.{◌≡◌, ap, sym, ◌∙◌, subst, ℕ, zero, suc, ◌+◌, ◌-◌, ◌<◌, ◌≤◌, true, List, [], ◌++◌, filter, flat_map, Option, Some, None, is_some, arith}
 use Rattle.std.specs.List.{list_all, range_with_len}
 use Rattle.ghost_model.specs.core.Values.{Row, Database}
 use Rattle.ghost_model.specs.core.Channel.{Catalog}
+use Rattle.ghost_model.specs.core.Query.{Query}
+use Rattle.ghost_model.specs.core.Replies.{Reply}
 use Rattle.ghost_model.specs.core.Split.{hidden_of}
 use Rattle.ghost_laws.specs.Scans.{holds_or_asked_along, known_along, known_row}
 use Rattle.subtree_keys.specs.Laws.{IsTableBut}
 use Rattle.candidate_rows.specs.declared.plan.RowPlan.{RowPlan}
 use Rattle.candidate_rows.specs.declared.plan.SubtreeFile.{SubtreeFile}
 use Rattle.candidate_rows.specs.Plans.{HasWays, is_tested}
-use Rattle.condition_lists.specs.Laws.{TermsSiftRows}
+use Rattle.candidate_rows.specs.Working.{IsSifted}
 use Rattle.candidate_knowledge.specs.Known.{KnowsIndexes}
-use Rattle.candidate_knowledge.specs.Laws.{CandidatesAreSifted, RowsBetweenAreNoAnswers}
+use Rattle.candidate_knowledge.specs.Laws.{CandidatesAreSifted, RowsWithoutLinesAreLeftOut}
 
 -- rows without a line are left out
 without : (lines : ℕ → List Row) (rows between next : ℕ) → next + between ≤ rows + 1 → ((other : ℕ) → next ≤ other → other < next + between → lines other ≡ [])
@@ -26,26 +28,26 @@ without lines rows (suc between) next within none =
     ∙ (without lines rows between (next + 1) (omega (arith, within, end)) (λ other low high. none other (omega (arith, low)) (omega (arith, high, end)))
     ∙ ap (λ n. flat_map lines (range_with_len n (rows + 1 - n))) end))
 
-pub between : TermsSiftRows → RowsBetweenAreNoAnswers
-between sift cat database over text asked meant top top_is terms are given plan same rows rows_are next stop some order most unmet =
+pub left_out : RowsWithoutLinesAreLeftOut
+left_out cat database asked top given plan same rows next stop order most none =
     let end : next + (stop - next) ≡ stop = omega (arith, order) in
     without (λ identifier. known_row cat.schema database asked given plan.top identifier) rows (stop - next) next (omega (arith, end, most))
-    (λ other low high.
-    ap (λ one. known_row cat.schema database asked given one other) same
-    ∙ sift.unmet cat database over text asked meant top top_is terms are given other
-    (record { some = omega (arith, some, low); within = omega (arith, end, high, most, rows_are) })
-    (unmet other low (omega (arith, end, high))))
+    (λ other low high. ap (λ one. known_row cat.schema database asked given one other) same ∙ none other low (omega (arith, end, high)))
     ∙ ap (λ n. flat_map (λ identifier. known_row cat.schema database asked given plan.top identifier) (range_with_len n (rows + 1 - n))) end
+
+holding : (cat : Catalog) (database : Database) (asked : Query) (top : ℕ) (given : List Reply) (identifier : ℕ)
+    → list_all (holds_or_asked_along cat.schema (known_along cat.schema database given top identifier)) (filter (is_tested cat.schema) asked.conditions) ≡ true
+    → (plan : RowPlan) → plan.top ≡ top → IsSifted cat asked database given identifier plan
+holding cat database asked top given identifier met plan same of_plan =
+    subst (λ one. list_all (holds_or_asked_along cat.schema (known_along cat.schema database given one identifier)) (filter (is_tested cat.schema) asked.conditions) ≡ true) (sym same) met
 
 keys_but : (page right : ℕ → List ℕ) (cat : Catalog) (database : Database) (plan : RowPlan) → KnowsIndexes page right cat database
     → (keys : Option SubtreeFile) → HasWays cat plan keys → is_some keys ≡ true → IsTableBut page cat (hidden_of cat.schema database) plan.top
 keys_but page right cat database plan knows None ways some = absurd (cc some)
 keys_but page right cat database plan knows (Some file) ways some = knows.subtrees plan.top ways.there ways.some_below
 
-pub sifted : TermsSiftRows → CandidatesAreSifted
-sifted sift = record {
-  sifted = λ cat database over text asked meant top top_is terms are given identifier row met plan same of_plan.
-      subst (λ one. list_all (holds_or_asked_along cat.schema (known_along cat.schema database given one identifier)) (filter (is_tested cat.schema) asked.conditions) ≡ true) (sym same)
-      (sift.met cat database over text asked meant top top_is terms are given identifier row met);
+pub sifted : CandidatesAreSifted
+sifted = record {
+  holding = holding;
   keys = λ page right cat database asked plan knows is. keys_but page right cat database plan knows plan.keys is.ways;
 }

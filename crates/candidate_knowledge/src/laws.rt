@@ -1,7 +1,7 @@
 //! Laws of what is known of the pages.
 
 ghost use Rattle.candidate_knowledge.specs.Found.{ListPagesAreRead};
-ghost use Rattle.candidate_knowledge.specs.Laws.{HeldFilesAreKnown, HeldFilesHaveNoDamage, KnowledgeStays, DamageIsBad, RepliesHaveNoDamage, RowsBetweenAreNoAnswers, CandidatesAreSifted};
+ghost use Rattle.candidate_knowledge.specs.Laws.{HeldFilesAreKnown, HeldFilesHaveNoDamage, KnowledgeStays, DamageIsBad, RepliesHaveNoDamage, RowsWithoutLinesAreLeftOut, CandidatesAreSifted};
 
 /// Pages that hold all files of a database are right pages, and known by themselves.
 pub fn held_files_are_known()
@@ -68,16 +68,13 @@ pub fn replies_have_no_damage()
     ensures none { RepliesHaveNoDamage }
 {}
 
-/// Rows of the top table between two candidates have no line in the answer.
-pub fn rows_between_are_no_answers()
-    ensures none { RowsBetweenAreNoAnswers }
-{
-    condition_lists::laws::terms_sift_rows();
-}
+/// Rows of the top table without a line are left out of the answer.
+pub fn rows_without_lines_are_left_out()
+    ensures left_out { RowsWithoutLinesAreLeftOut }
+{}
 
-/// Candidates meet the conditions that a plan for candidates does not test, and its subtree key table is known.
+/// A row along which the key's conditions hold meets those that a plan for candidates does not test, and the plan's subtree key table
+/// is known.
 pub fn candidates_are_sifted()
     ensures { CandidatesAreSifted }
-{
-    condition_lists::laws::terms_sift_rows();
-}
+{}
