@@ -1,29 +1,29 @@
-mod Scratches
-mod ReadPages
-mod ReadLists
-mod GivenOn
-mod Buffers
-mod TermKinds
-mod TermSources
-mod TermRows
-mod Hands
-mod NoLists
-mod TopReplies
-mod Knowledge
-mod Sparing
-mod Searches
-mod Takings
-mod NextTerms
-mod TakingOn
-mod FoldingOn
-mod SearchOn
-mod Turning
-mod CutReplies
-mod Founds
-mod Blames
-mod HoldingOn
-mod AllRows
-mod Beginnings
-mod Endings
-mod StagesStay
-mod Paying
+pub mod Scratches
+pub mod ReadPages
+pub mod ReadLists
+pub mod GivenOn
+pub mod Buffers
+pub mod TermKinds
+pub mod TermSources
+pub mod TermRows
+pub mod Hands
+pub mod NoLists
+pub mod TopReplies
+pub mod Knowledge
+pub mod Sparing
+pub mod Searches
+pub mod Takings
+pub mod NextTerms
+pub mod TakingOn
+pub mod FoldingOn
+pub mod SearchOn
+pub mod Turning
+pub mod CutReplies
+pub mod Founds
+pub mod Blames
+pub mod HoldingOn
+pub mod AllRows
+pub mod Beginnings
+pub mod Endings
+pub mod StagesStay
+pub mod Paying
