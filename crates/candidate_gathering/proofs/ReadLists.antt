@@ -14,10 +14,7 @@ use Rattle.climbing_index.specs.Indexes.{IsReadable}
 use Rattle.climbing_index.specs.Searches.{IsIndexPage}
 use Rattle.edge_traits.specs.Devices.{Device}
 use Rattle.id_merge.specs.declared.cursor.Cursor.{Cursor}
-use Rattle.id_merge.specs.declared.cursor.Cursor.TheVariants.{List as OfList, Range}
-use Rattle.id_merge.specs.Cursors.{AllReady, BlamesList, CursorReady, cursor_at}
-use Rattle.id_merge.specs.Spared.{LiesOutside}
-use Rattle.spill_pass.specs.Merging.{SameList}
+use Rattle.id_merge.specs.Cursors.{BlamesList}
 use Rattle.spill_pass.specs.Sources.{Source, UsesOutside}
 use Rattle.climbing_index.specs.declared.directory.Directory.{Directory}
 use Rattle.climbing_index.specs.declared.index.ClimbingIndex.{ClimbingIndex}
@@ -38,7 +35,9 @@ use Rattle.candidate_knowledge.specs.Known.{compares, is_comparison_of, seeks_id
 use Rattle.candidate_knowledge.specs.Found.{is_column_page, is_id_level_page, is_ids_page, is_level_of, is_level_page, is_list_page}
 use Rattle.candidate_knowledge.proofs.BlamedFiles.{above_first}
 use Rattle.candidate_knowledge.proofs.ListPages.{any_of, before, behind, is_below, is_level}
-use Rattle.candidate_gathering.specs.Given.{IsInside, ListsInside, ListsRead, UsesRead}
+use Rattle.candidate_lists.specs.Damaging.{ListsInside}
+use Rattle.candidate_search.specs.Given.{ListsBlame}
+use Rattle.candidate_gathering.specs.Given.{ListsRead, UsesRead}
 use Rattle.candidate_gathering.specs.Stages.{scratch_of}
 use Rattle.candidate_gathering.proofs.ReadPages.{either_of}
 use Rattle.candidate_gathering.proofs.Scratches.{scratch_outside, scratch_within}
@@ -240,38 +239,15 @@ module _ (cat : Catalog) (asked : Query) (top side : ℕ) where
         | inr one ↦ id_lists_page table index level at sought number (subst L are.level_is (subst D are.directory_is one))
       ]
 
--- ---- lists inside of their runs
-
-pub ready_inside : (told : Bool) (device : Device) (pool : _) (cursors : List Cursor) → AllReady told device pool cursors → ListsInside cursors
-ready_inside told device pool cursors ready = λ at. one (cursor_at cursors at) (ready.each at)
-  where
-    one : (cursor : Cursor) → CursorReady told device pool cursor → IsInside cursor
-    one (OfList run) is = is.list
-    one (Range low high) is = tt
-
-pub same_inside : (old new : List Cursor) → ((at : ℕ) → SameList (cursor_at old at) (cursor_at new at)) → ListsInside old → ListsInside new
-same_inside old new same inside = λ at. one (cursor_at old at) (cursor_at new at) (same at) (inside at)
-  where
-    one : (was is : Cursor) → SameList was is → IsInside was → IsInside is
-    one (OfList was) (OfList is) same in_run = let L : _ → Type 0 = λ l. l.first + l.count ≤ l.run.count in subst L (sym same.0) in_run
-    one (OfList was) (Range low high) same in_run = absurd same
-    one (Range low high) is same in_run = subst IsInside (sym same) tt
-
--- a slot that they are blamed for lies on a page that is read
-pub blamed_page : (cat : Catalog) (asked : Query) (top side since : ℕ) (device : Device) (cursors : List Cursor) → ListsInside cursors → ListsRead cat asked top side cursors
+-- a slot that lists inside of their runs are blamed for lies on a page that is read
+pub blamed_page : ListsBlame → (cat : Catalog) (asked : Query) (top side since : ℕ) (device : Device) (cursors : List Cursor) → ListsInside cursors → ListsRead cat asked top side cursors
     → (number slot found : ℕ) → BlamesList since device cursors number slot found → is_list_page cat asked top side number ≡ true
-blamed_page cat asked top side since device cursors inside read number slot found blames = by (is_list_page cat asked top side number) refl
+blamed_page law cat asked top side since device cursors inside read number slot found blames = by (is_list_page cat asked top side number) refl
   where
     by : (b : Bool) → is_list_page cat asked top side number ≡ b → is_list_page cat asked top side number ≡ true
     by true e = e
     by false e =
-        let I : Cursor → Type 0 = λ one. IsInside one in
-        let O : Cursor → Type 0 = λ one. LiesOutside number (number + 1) one in
-        let in_run = subst I blames.is (inside blames.at) in
-        let out = subst O blames.is (read number e blames.at) in
-        let low = blames.blames.within in
-        let page = blames.blames.page in
-        elim (out (blames.run.list.first + blames.run.at) (omega (arith, low, in_run))) [
-          | inl before_it ↦ absurd (omega (arith, before_it, page))
-          | inr behind_it ↦ absurd (omega (arith, behind_it, page))
+        elim (law.page number (number + 1) since device cursors inside (read number e) number slot found blames) [
+          | inl before_it ↦ absurd (omega (arith, before_it))
+          | inr behind_it ↦ absurd (omega (arith, behind_it))
         ]
