@@ -2,7 +2,8 @@
 //!
 //! `Gathering` takes the terms in one after another: ranges of identifiers and the reply of the top table at once, the entries of a
 //! hidden column after a search, and the lists of entries and of replies through `Taking`. Where the lists in hand leave too few
-//! buffers, the candidates are written to scratch as one list. At the end it answers a merge that gives the candidates, ascending.
+//! buffers, the candidates are written to scratch as one list. At the end it answers a merge that gives the candidates, ascending, or
+//! the candidates themselves.
 #![tactic(auto)]
 
 pub mod beginning;
