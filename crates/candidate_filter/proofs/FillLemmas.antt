@@ -5,17 +5,24 @@ use Rattle.edge_traits.specs.Devices.{Device, Counts, KeepsPages}
 use Rattle.edge_traits.proofs.DeviceFrames.{kept_same, kept_trans, counts_more}
 use Rattle.page_pool.specs.Pools.{Pool, AreOut, IsOut, ChangesPage, KeepsOthers, bytes_at, given, others_out}
 use Rattle.page_pool.proofs.Marks.{other_was_out}
-use Rattle.page_pool.proofs.Leases.{out_kept, outs_kept, others_kept, others_trans, others_fewer, same_of_others, outs_first, outs_from_front, outs_to_front, outs_swapped, all_given_swapped, change_keeps_out, change_keeps_others, head_apart, holder_keeps_outs}
+use Rattle.page_pool.proofs.Leases.{out_kept, outs_kept, others_kept, others_trans, others_fewer, same_of_others, outs_first, outs_from_front, outs_to_front, outs_swapped, all_given-append, all_given_swapped, all_given_to_front, change_keeps_out, change_keeps_others, head_apart, holder_keeps_outs}
 use Rattle.flash_pages.specs.declared.cursor.RunCursor.{RunCursor}
-use Rattle.std.specs.Prelude.{Option, Some, Ok}
+use Rattle.std.specs.Prelude.{Option, Some, Ok, Err, Result, MatchOption, slice_set}
 use Rattle.ghost_model.specs.forms.Runs.{ids_from}
+use Rattle.ghost_base.specs.declared.runs.ListRef.{ListRef}
 use Rattle.ghost_base.specs.Runs.{run_of}
+use Rattle.flash_pages.specs.declared.fault.PageFault.{PageFault}
+use Rattle.flash_pages.specs.declared.fault.PageFault.TheVariants.{Flash, Damaged}
+use Rattle.flash_pages.specs.Faults.{BlamesNoSlot}
 use Rattle.flash_pages.specs.Cursors.{IsReady, SameList, GivesNext, GivesId, ids_left, place}
 use Rattle.flash_pages.specs.Reads.{WasGiven}
 use Rattle.flash_pages.proofs.LeaseFrames.{ready_kept, given_kept}
 use Rattle.bloom_post.specs.Filters.{StandsFor, KeepsBeside}
 use Rattle.bloom_post.specs.Laws.{FiltersStay}
 use Rattle.bloom_post.proofs.LeasedBits.{beside_keeps_out}
+use Rattle.id_merge.specs.Cursors.{ListAscends, id_in}
+use Rattle.id_merge.proofs.ListReads.{id_same, next_id}
+use Rattle.candidate_lists.specs.Reduces.{TakesOver}
 use Rattle.candidate_filter.specs.declared.filling.Filling.{Filling}
 use Rattle.candidate_filter.specs.Fills.{Fills, IsFilling, GoesFilling, filling_leases}
 
@@ -48,6 +55,19 @@ joins_out before now lease leases is are others size =
     subst P (append-nil leases)
     (outs_to_front now leases lease [] (holder_keeps_outs before now [] leases (lease ∷ []) (is, tt) are others size))
 
+-- a filter that was leased beside a lease is held with it
+pub joins_takes :
+    (before now : Pool) (lease : ℕ) (leases : List ℕ) → IsOut before lease → AreOut now leases → others_out now leases ≡ before.out
+    → KeepsOthers before.out before now → TakesOver before now (lease ∷ []) (lease ∷ leases)
+joins_takes before now lease leases is are others keeps = record {
+  still = joins_out before now lease leases is are others keeps.size;
+  beside =
+      ap (λ (ls : List ℕ). others_out now (lease ∷ ls)) (sym (append-nil leases))
+      ∙ ap (λ (p : Pool). p.out) (sym (all_given_to_front now leases lease []) ∙ all_given-append now leases (lease ∷ []))
+      ∙ ap (λ (out : List Bool). slice_set out lease false) others;
+  others = others_fewer (λ other out. other_was_out before.out lease other out) keeps;
+}
+
 -- the buffers of a filter stay where another lease was used
 pub filter_bytes :
     {pool later : Pool} {lease : ℕ} (leases : List ℕ) → AreOut pool (lease ∷ leases) → ChangesPage pool later lease
@@ -72,7 +92,7 @@ went_next {now = now} {later = later} filling cursor is kept buffer list ready g
       given = λ since from given.
           let W : ℕ → Type 0 = λ lease. WasGiven since now later lease in
           subst W (sym list.lease) (gives since from given);
-      filling = record { ready = ready; leases = subst P (sym list.lease) (outs_kept (filling_leases filling) (change_keeps_out buffer) is.leases) };
+      filling = record { ready = ready; leases = subst P (sym list.lease) (outs_kept (filling_leases filling) (change_keeps_out buffer) is.leases); some = is.some };
     }
 
 -- the filter was written
@@ -92,6 +112,7 @@ went_add {device = device} {pool = pool} filling is beside =
       filling = record {
         ready = ready_kept refl (λ is_told i within. refl) (out_kept keeps is.ready.buffer.out) same is.ready;
         leases = outs_kept (filling_leases filling) keeps is.leases;
+        some = is.some;
       };
     }
 
@@ -125,6 +146,43 @@ goes_none {device = device} {pool = pool} filling is = record {
   filling = is;
 }
 
+-- the leases are held as before, and nothing beside them changed
+pub filling_takes : {told : Bool} {before now : Device} {pool later : Pool} {old new : Filling} → GoesFilling told before now pool later old new → TakesOver pool later (filling_leases old) (filling_leases new)
+filling_takes {later = later} {old = old} {new = new} goes =
+    let held : filling_leases new ≡ filling_leases old = ap (λ lease. lease ∷ new.filter) goes.list.lease ∙ ap (λ (ls : List ℕ). old.cursor.lease ∷ ls) goes.filter in
+    record {
+      still = goes.filling.leases;
+      beside = ap (others_out later) held ∙ others_kept (filling_leases old) (record { out = goes.out; size = goes.others.size });
+      others = goes.others;
+    }
+
+-- the identifiers to come ascend still: over the same pages, and after one more
+ascends_same : {page now : ℕ → List ℕ} {cursor new : RunCursor} → now ≡ page → new ≡ cursor → ListAscends page cursor → ListAscends now new
+ascends_same {page = page} {new = new} pages same was =
+    let P : RunCursor → Type 0 = λ run. ListAscends page run in
+    let Q : (ℕ → List ℕ) → Type 0 = λ f. ListAscends f new in
+    subst Q (sym pages) (subst P (sym same) was)
+
+ascends_on :
+    {page : ℕ → List ℕ} (before now : RunCursor) (id : ℕ) → SameList before now → before.at < before.list.count → now.at ≡ before.at + 1
+    → now.last ≡ id → id ≡ id_in page before before.at → ListAscends page before → ListAscends page now
+ascends_on {page = page} before now id same some at last is was =
+    let counts : now.list.count ≡ before.list.count = ap (λ (list : ListRef). list.count) same.list in
+    record {
+      above = λ i from below. omega (arith, at, last, is, id_same page before now same i, was.order before.at i (omega arith) (omega (arith, at, from)) (omega (arith, below, counts)));
+      order = λ i j from less below.
+          omega (arith, id_same page before now same i, id_same page before now same j, was.order i j (omega (arith, at, from)) less (omega (arith, below, counts)));
+      within = λ i from below. omega (arith, id_same page before now same i, same.rows, was.within i (omega (arith, at, from)) (omega (arith, below, counts)));
+    }
+
+-- so no slot of the list is blamed
+pub ascends_sound :
+    (T : Type 0) {page : ℕ → List ℕ} (before now : RunCursor) (fault : PageFault) → ListAscends page before → GivesNext page before now (Err fault)
+    → BlamesNoSlot {T = T} (Err fault)
+ascends_sound T before now Flash ascends gives = tt
+ascends_sound T before now (Damaged number slot found) ascends gives =
+    absurd (gives.not_next (record { above = ascends.above before.at (omega arith) gives.within; within = ascends.within before.at (omega arith) gives.within }))
+
 -- what the filter stands for, where the list stands where it stood
 pub fills_still :
     {page now : ℕ → List ℕ} {pool later : Pool} (filling : Filling) (cursor : RunCursor) (ids : List ℕ) → FiltersStay
@@ -134,23 +192,26 @@ fills_still {page = page} {pool = pool} {later = later} filling cursor ids stay 
   taken = was.taken;
   stands = stay pool later filling.filter was.taken (filter_bytes filling.filter are buffer) was.stands;
   are = ap (λ (f : ℕ → List ℕ). was.taken ++ ids_left f cursor) pages ∙ ap (λ (r : RunCursor). was.taken ++ ids_left page r) same ∙ was.are;
+  ascends = ascends_same pages same was.ascends;
 }
 
 -- one identifier more
 pub fills_more :
     {page now : ℕ → List ℕ} {pool then later : Pool} (filling : Filling) (cursor : RunCursor) (ids : List ℕ) (id : ℕ) → FiltersStay
     → AreOut pool (filling_leases filling) → ChangesPage pool then filling.cursor.lease → now ≡ page
-    → ids_left page filling.cursor ≡ id ∷ ids_left page cursor
+    → SameList filling.cursor cursor → filling.cursor.at < filling.cursor.list.count → cursor.at ≡ filling.cursor.at + 1
+    → GivesId page filling.cursor cursor id
     → ((taken : List ℕ) → StandsFor then filling.filter taken → StandsFor later filling.filter (taken ++ id ∷ []))
     → Fills page pool filling ids → Fills now later (record { cursor = cursor; filter = filling.filter }) ids
-fills_more {page = page} {pool = pool} {then = then} filling cursor ids id stay are buffer pages left added was = record {
+fills_more {page = page} {pool = pool} {then = then} filling cursor ids id stay are buffer pages same some at gives added was = record {
   taken = was.taken ++ id ∷ [];
   stands = added was.taken (stay pool then filling.filter was.taken (filter_bytes filling.filter are buffer) was.stands);
   are =
       ap (λ (f : ℕ → List ℕ). (was.taken ++ id ∷ []) ++ ids_left f cursor) pages
       ∙ append_assoc was.taken (id ∷ []) (ids_left page cursor)
-      ∙ ap (λ (xs : List ℕ). was.taken ++ xs) (sym left)
+      ∙ ap (λ (xs : List ℕ). was.taken ++ xs) (sym gives.left)
       ∙ was.are;
+  ascends = ascends_same pages refl (ascends_on filling.cursor cursor id same some at gives.last (next_id some gives) was.ascends);
 }
 
 -- the list has none left: the filter stands for all
@@ -169,6 +230,13 @@ fills_all {page = page} {pool = pool} filling ids end was =
 
 pub gives_some : {page : ℕ → List ℕ} {old new : RunCursor} {next : Option ℕ} {id : ℕ} → next ≡ Some id → GivesNext page old new (Ok next) → GivesId page old new id
 gives_some {page = page} {old = old} {new = new} is gives = let P : Option ℕ → Type 0 = λ next. GivesNext page old new (Ok next) in subst P is gives
+
+pub steps_on :
+    (old new : RunCursor) {next : Option ℕ} {id : ℕ} → next ≡ Some id
+    → MatchOption next ((old.at ≡ old.list.count) × (new ≡ old)) (λ _. (old.at < old.list.count) × (new.at ≡ old.at + 1)) → new.at ≡ old.at + 1
+steps_on old new is step =
+    let P : Option ℕ → Type 0 = λ next. MatchOption next ((old.at ≡ old.list.count) × (new ≡ old)) (λ _. (old.at < old.list.count) × (new.at ≡ old.at + 1)) in
+    (subst P is step).1
 
 -- what was added to a count is how many calls were made
 pub counts_again : {a b c : ℕ} (old mid new : ℕ) → old ≤ mid → mid ≤ new → Counts (mid - old) a b → Counts (new - mid) b c → Counts (new - old) a c

@@ -2,3 +2,4 @@ pub mod FillLemmas
 pub mod SiftLemmas
 pub mod SiftContents
 pub mod Sparing
+pub mod Opening

@@ -1,23 +1,25 @@
 -- What stays of a filling and of a sifting where others write elsewhere.
-use Rattle.std.proofs.Common.{◌≡◌, ◌∙◌, ℕ, suc, ◌+◌, ◌-◌, ◌/◌, ◌%◌, ◌<◌, ◌≤◌, Bool, true, List, [], ◌∷◌, ◌++◌, length, get_or, eq-eqb, refl, ap, sym, subst, arith}
+use Rattle.std.proofs.Common.{◌≡◌, ◌∙◌, ℕ, suc, ◌+◌, ◌-◌, ◌/◌, ◌%◌, ◌^◌, ◌<◌, ◌≤◌, Bool, true, List, [], ◌∷◌, ◌++◌, length, get_or, eq-eqb, refl, ap, sym, subst, arith}
 use Rattle.std.specs.Prelude.{Option, Some, None, IfSome}
 use Rattle.std.proofs.lemmas.Bool.{or_left, or_right}
 use Rattle.std.proofs.lemmas.Nat.{mod_below}
-use Rattle.std.proofs.lemmas.List.{get_or_append_left, length-append}
-use Rattle.ghost_model.specs.forms.Runs.{page_of, pages_of, per_page}
+use Rattle.std.proofs.lemmas.List.{get_or_append_left, get_or_default, length-append}
+use Rattle.ghost_model.specs.forms.Runs.{number_in, page_of, pages_of, per_page}
 use Rattle.ghost_base.specs.declared.runs.Run.{Run}
 use Rattle.ghost_base.specs.Runs.{run_of}
 use Rattle.edge_traits.specs.Devices.{Device, ChangesOnly}
 use Rattle.page_pool.specs.Pools.{Pool, page_at}
 use Rattle.page_pool.specs.Laws.{SameBuffer}
 use Rattle.page_pool.proofs.Leases.{out_kept, outs_kept}
+use Rattle.flash_pages.specs.declared.cursor.RunCursor.{RunCursor}
 use Rattle.flash_pages.specs.Cursors.{IsPageOf}
 use Rattle.flash_pages.proofs.LeaseFrames.{put_kept, some_then, can_read_kept, ids_kept, ready_kept}
-use Rattle.flash_pages.proofs.RunFrames.{record_kept, run_kept, stores_kept}
+use Rattle.flash_pages.proofs.RunFrames.{ids_from-get, ids_from-length, record_kept, run_kept, stores_kept}
 use Rattle.bloom_post.specs.Places.{size_of, spread}
 use Rattle.bloom_post.specs.Filters.{is_set}
 use Rattle.bloom_post.specs.Laws.{FiltersStay}
 use Rattle.bloom_post.proofs.LeasedBits.{bit_of_member}
+use Rattle.id_merge.specs.Cursors.{ListAscends, id_in}
 use Rattle.id_merge.specs.declared.merge.Merge.{Merge}
 use Rattle.id_merge.specs.Spared.{CursorsStayRight, Spares}
 use Rattle.spill_pass.specs.Grouping.{AreApart}
@@ -25,12 +27,14 @@ use Rattle.spill_pass.specs.Merging.{IsPlaced, area_end, area_pages, leases_held
 use Rattle.spill_pass.proofs.SparedLemmas.{next_within}
 use Rattle.spill_pass.proofs.SparedMerging.{area_spared}
 use Rattle.spill_pass.proofs.Writing.{pages_below}
-use Rattle.spill_pass.specs.Sparing.{MergingStays, MergingLeftStays}
+use Rattle.spill_pass.specs.Sparing.{MergingIsSmall, MergingLeftStays, MergingStays}
+use Rattle.candidate_lists.specs.Closes.{closing_left}
 use Rattle.candidate_filter.specs.declared.sifting.Sifting.{Sifting}
-use Rattle.candidate_filter.specs.Fills.{filling_leases}
+use Rattle.candidate_filter.specs.Fills.{filling_leases, ids_in}
 use Rattle.subtree_keys.specs.Tables.{row_spelled, slot_row}
-use Rattle.candidate_filter.specs.Sifts.{IsSifted, IsUnderWay, SiftsSoFar, SiftingHasBy, Tests, HasKeys, IsSiftingBy, sift_leases, sift_left}
-use Rattle.candidate_filter.specs.Laws.{RepliedRowsPass, FillingStays, FillsStay, SiftingOutside, SiftingStays, SiftingHasStays, SiftLeftStays}
+use Rattle.candidate_filter.specs.Sifts.{IsSifted, IsUnderWay, SiftsSoFar, SiftingHasBy, Tests, HasKeys, IsSiftingBy, may_have, passes_row, sift_leases}
+use Rattle.candidate_filter.specs.Outside.{SiftingOutside}
+use Rattle.candidate_filter.specs.Laws.{RepliedRowsPass, ListedRowsPass, LedCandidatesPass, FillingStays, FillsStay, SiftingStays, SiftingHasStays, SiftingLeftStays, SiftingIsSmall}
 use Rattle.candidate_filter.proofs.SiftLemmas.{all_three, beside_page, may_stays}
 
 pub rows_pass : RepliedRowsPass
@@ -45,6 +49,47 @@ rows_pass pool filter ids row some stands has =
     (bit_of_member pool filter ids row second stands has (mod_below (spread 2654435761 row) size positive) (or_right _ _ (or_left _ _ (eq-eqb second second refl))))
     (bit_of_member pool filter ids row third stands has (mod_below (spread 2246822519 row) size positive) (or_right _ _ (or_right _ _ (or_left _ _ (eq-eqb third third refl)))))
 
+-- one that stands for a list's identifiers has each of them
+pub listed_pass : ListedRowsPass
+listed_pass page pool filter list row some stands has =
+    let ids = ids_in page list in
+    let within : has.at < length ids = omega (arith, has.within, ids_from-length page (run_of list.run) list.first list.count) in
+    rows_pass pool filter ids row some stands
+    (
+      has.at,
+      within,
+      get_or_default ids has.at row 0 within ∙ ids_from-get page (run_of list.run) list.first list.count has.at has.within ∙ sym has.is,
+    )
+
+led_by :
+    (pool : Pool) (place : ℕ) (filter : List ℕ) (slot : Option (List ℕ)) → ((rows : List ℕ) → slot ≡ Some rows → may_have pool filter (get_or rows place 0) ≡ true)
+    → passes_row pool place filter slot ≡ true
+led_by pool place filter None all = refl
+led_by pool place filter (Some rows) all = all rows refl
+
+pub led_pass : LedCandidatesPass
+led_pass page pool keys place filter id all = led_by pool place filter (slot_row page keys id) all
+
+-- the identifiers to come of a list whose pages stay
+id_kept :
+    (page now : ℕ → List ℕ) (cursor : RunCursor) (i : ℕ) → cursor.list.first + i < cursor.list.run.count
+    → ((place : ℕ) → place < cursor.list.run.count → now (page_of (run_of cursor.list.run) place) ≡ page (page_of (run_of cursor.list.run) place))
+    → id_in now cursor i ≡ id_in page cursor i
+id_kept page now cursor i within same =
+    ap (λ bytes. number_in bytes 0) (record_kept page now (run_of cursor.list.run) (cursor.list.first + i) (same (cursor.list.first + i) within))
+
+ascends_kept :
+    (page now : ℕ → List ℕ) (cursor : RunCursor) → cursor.list.first + cursor.list.count ≤ cursor.list.run.count
+    → ((place : ℕ) → place < cursor.list.run.count → now (page_of (run_of cursor.list.run) place) ≡ page (page_of (run_of cursor.list.run) place))
+    → ListAscends page cursor → ListAscends now cursor
+ascends_kept page now cursor inside same was =
+    let kept = λ (i : ℕ) (below : i < cursor.list.count). id_kept page now cursor i (omega arith) same in
+    record {
+      above = λ i from below. omega (arith, kept i below, was.above i from below);
+      order = λ i j from less below. omega (arith, kept i (omega arith), kept j below, was.order i j from less below);
+      within = λ i from below. omega (arith, kept i below, was.within i from below);
+    }
+
 pub filling_stays : FillingStays
 filling_stays low high told before now pool later filling spares outside is = record {
   ready =
@@ -52,6 +97,7 @@ filling_stays low high told before now pool later filling spares outside is = re
       (λ is_told i within. beside_page (page_of (run_of filling.cursor.list.run) i) spares.changes (outside i within))
       (out_kept spares.out is.ready.buffer.out) (spares.buffers 0 (omega arith)) is.ready;
   leases = outs_kept (filling_leases filling) spares.out is.leases;
+  some = is.some;
 }
 
 pub fills_stay : FiltersStay → FillsStay
@@ -63,6 +109,9 @@ fills_stay stay low high told before now pool later filling ids spares outside i
       (ids_kept before.page now.page filling.cursor is.ready.list
       (λ i within. beside_page (page_of (run_of filling.cursor.list.run) i) spares.changes (outside i within)))
       ∙ was.are;
+  ascends =
+      ascends_kept before.page now.page filling.cursor is.ready.list
+      (λ i within. beside_page (page_of (run_of filling.cursor.list.run) i) spares.changes (outside i within)) was.ascends;
 }
 
 -- the leases of the first holder, and those of the second
@@ -130,14 +179,23 @@ sifting_by told s (Some run) stays spares outside is = record { placed = is.plac
 pub sifting_stays : MergingStays → SiftingStays
 sifting_stays stays low high told before now pool later s spares outside is = sifting_by told s s.run stays spares outside is
 
-left_by : (pool later : Pool) (s : Sifting) (run : Option Run) → sift_left later s.into None ≡ sift_left pool s.into None → sift_left later s.into run ≡ sift_left pool s.into run
+left_by : (pool later : Pool) (s : Sifting) (run : Option Run) → closing_left later s.into None ≡ closing_left pool s.into None → closing_left later s.into run ≡ closing_left pool s.into run
 left_by pool later s None same = same
 left_by pool later s (Some run) same = refl
 
-pub left_stays : MergingLeftStays → SiftLeftStays
+pub left_stays : MergingLeftStays → SiftingLeftStays
 left_stays stays low high before now pool later s spares =
     left_by pool later s s.run
     (ap (λ n. n + 1) (stays low high before now pool later s.into (spares_first (leases_held s.into) (s.lease ∷ s.filter) spares)))
+
+small_by :
+    (told : Bool) (device : Device) (pool : Pool) (s : Sifting) (run : Option Run) → MergingIsSmall → s.into.rows < 2 ^ 32
+    → length s.into.merge.cursors.items ≤ 96 → IsSiftingBy told device pool s run → closing_left pool s.into run ≤ 2 ^ 48
+small_by told device pool s None small few cursors is = small told device pool s.into few cursors is.can.merging
+small_by told device pool s (Some run) small few cursors is = omega arith
+
+pub sifting_small : MergingIsSmall → SiftingIsSmall
+sifting_small small told device pool s few cursors is = small_by told device pool s s.run small few cursors is
 
 -- what the list has so far
 tests_spared :

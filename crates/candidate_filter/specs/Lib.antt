@@ -1,3 +1,4 @@
 pub mod Fills
 pub mod Sifts
+pub mod Outside
 pub mod Laws

@@ -1,14 +1,21 @@
 //! Laws of the pass of a filter.
 
-ghost use Rattle.candidate_filter.specs.Laws.{RepliedRowsPass, FillingStays, FillsStay, SiftingStays, SiftingHasStays, SiftLeftStays};
+ghost use Rattle.candidate_filter.specs.Laws.{RepliedRowsPass, ListedRowsPass, LedCandidatesPass, PassingListsOpen, FillingStays, FillsStay, SiftingStays, SiftingHasStays, SiftingLeftStays, SiftingIsSmall};
 
 use bloom_post::laws::filters_stay;
 use id_merge::spared::cursors_are_spared;
 use spill_pass::spared::merging_is_spared;
 
-/// A law: each row of a reply passes the filter that stands for it.
+/// A law: each row of a reply passes the filter that stands for it, and so does each candidate that leads to one.
 pub fn replied_rows_pass()
     ensures pass { RepliedRowsPass }
+    ensures listed { ListedRowsPass }
+    ensures candidates { LedCandidatesPass }
+{}
+
+/// A law: a sifted list that is opened again has as candidates exactly those that pass.
+pub fn passing_lists_open()
+    ensures opened { PassingListsOpen }
 {}
 
 /// A law: where others write only pages of a region in which no page of the list lies, and use other buffers, the filter may still be
@@ -21,11 +28,13 @@ pub fn filling_is_spared()
 }
 
 /// A law: where others write only pages of a region in which no page of the lists, of the area and of the table lies, and use other
-/// buffers, the candidates may still be sifted, their list has what it had, and as much is left to do.
+/// buffers, the candidates may still be sifted, their list has what it had, and as much is left to do, no more than the pages that a
+/// device may have.
 pub fn sifting_is_spared()
     ensures sifting { SiftingStays }
     ensures has { SiftingHasStays }
-    ensures left { SiftLeftStays }
+    ensures left { SiftingLeftStays }
+    ensures small { SiftingIsSmall }
 {
     cursors_are_spared();
     merging_is_spared();
