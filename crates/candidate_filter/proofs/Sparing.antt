@@ -13,7 +13,7 @@ use Rattle.page_pool.specs.Laws.{SameBuffer}
 use Rattle.page_pool.proofs.Leases.{out_kept, outs_kept}
 use Rattle.flash_pages.specs.declared.cursor.RunCursor.{RunCursor}
 use Rattle.flash_pages.specs.Cursors.{IsPageOf}
-use Rattle.flash_pages.proofs.LeaseFrames.{put_kept, some_then, can_read_kept, ids_kept, ready_kept}
+use Rattle.flash_pages.proofs.LeaseFrames.{put_kept, some_then, can_read_kept, given_kept, ids_kept, ready_kept}
 use Rattle.flash_pages.proofs.RunFrames.{ids_from-get, ids_from-length, record_kept, run_kept, stores_kept}
 use Rattle.bloom_post.specs.Places.{size_of, spread}
 use Rattle.bloom_post.specs.Filters.{is_set}
@@ -21,7 +21,7 @@ use Rattle.bloom_post.specs.Laws.{FiltersStay}
 use Rattle.bloom_post.proofs.LeasedBits.{bit_of_member}
 use Rattle.id_merge.specs.Cursors.{ListAscends, id_in}
 use Rattle.id_merge.specs.declared.merge.Merge.{Merge}
-use Rattle.id_merge.specs.Spared.{CursorsStayRight, Spares}
+use Rattle.id_merge.specs.Spared.{CursorsStayGiven, CursorsStayRight, Spares}
 use Rattle.spill_pass.specs.Grouping.{AreApart}
 use Rattle.spill_pass.specs.Merging.{IsPlaced, area_end, area_pages, leases_held}
 use Rattle.spill_pass.proofs.SparedLemmas.{next_within}
@@ -34,7 +34,7 @@ use Rattle.candidate_filter.specs.Fills.{filling_leases, ids_in}
 use Rattle.subtree_keys.specs.Tables.{row_spelled, slot_row}
 use Rattle.candidate_filter.specs.Sifts.{IsSifted, IsUnderWay, SiftsSoFar, SiftingHasBy, Tests, HasKeys, IsSiftingBy, may_have, passes_row, sift_leases}
 use Rattle.candidate_filter.specs.Outside.{SiftingOutside}
-use Rattle.candidate_filter.specs.Laws.{RepliedRowsPass, ListedRowsPass, LedCandidatesPass, FillingStays, FillsStay, SiftingStays, SiftingHasStays, SiftingLeftStays, SiftingIsSmall}
+use Rattle.candidate_filter.specs.Laws.{RepliedRowsPass, ListedRowsPass, LedCandidatesPass, FillingStays, FillingStaysGiven, FillsStay, SiftingStays, SiftingStaysGiven, SiftingHasStays, SiftingLeftStays, SiftingIsSmall}
 use Rattle.candidate_filter.proofs.SiftLemmas.{all_three, beside_page, may_stays}
 
 pub rows_pass : RepliedRowsPass
@@ -100,6 +100,9 @@ filling_stays low high told before now pool later filling spares outside is = re
   some = is.some;
 }
 
+pub filling_given : FillingStaysGiven
+filling_given low high since before now pool later filling spares given = given_kept since before now spares.changes.gave (spares.buffers 0 (omega arith)) given
+
 pub fills_stay : FiltersStay → FillsStay
 fills_stay stay low high told before now pool later filling ids spares outside is was = record {
   taken = was.taken;
@@ -161,6 +164,9 @@ has_stays {told = told} {before = before} {now = now} {pool = pool} {later = lat
           has.read;
       some = has.some;
       page = subst S (sym same.filled) has.page;
+      since = has.since;
+      early = omega (arith, has.early, spares.changes.never_falls);
+      given = given_kept has.since before now spares.changes.gave same has.given;
     }
 
 sifting_by :
@@ -178,6 +184,15 @@ sifting_by told s (Some run) stays spares outside is = record { placed = is.plac
 
 pub sifting_stays : MergingStays → SiftingStays
 sifting_stays stays low high told before now pool later s spares outside is = sifting_by told s s.run stays spares outside is
+
+pub sifting_given : CursorsStayGiven → SiftingStaysGiven
+sifting_given stays low high since before now pool later s spares given =
+    let held = spares_first (leases_held s.into) (s.lease ∷ s.filter) spares in
+    record {
+      lists = stays low high since before now pool later s.into.merge.cursors.items
+          (record { changes = held.changes; out = held.out; buffers = λ i within. held.buffers (suc i) (omega (arith, within)) }) given.lists;
+      record_of = given_kept since before now spares.changes.gave (spares_rest (leases_held s.into) (s.lease ∷ s.filter) spares 0 (omega arith)) given.record_of;
+    }
 
 left_by : (pool later : Pool) (s : Sifting) (run : Option Run) → closing_left later s.into None ≡ closing_left pool s.into None → closing_left later s.into run ≡ closing_left pool s.into run
 left_by pool later s None same = same

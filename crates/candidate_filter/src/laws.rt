@@ -1,6 +1,6 @@
 //! Laws of the pass of a filter.
 
-ghost use Rattle.candidate_filter.specs.Laws.{RepliedRowsPass, ListedRowsPass, LedCandidatesPass, PassingListsOpen, FillingStays, FillsStay, SiftingStays, SiftingHasStays, SiftingLeftStays, SiftingIsSmall};
+ghost use Rattle.candidate_filter.specs.Laws.{RepliedRowsPass, ListedRowsPass, LedCandidatesPass, PassingListsOpen, FillingStays, FillsStay, FillingStaysGiven, SiftingStays, SiftingHasStays, SiftingStaysGiven, SiftingLeftStays, SiftingIsSmall};
 
 use bloom_post::laws::filters_stay;
 use id_merge::spared::cursors_are_spared;
@@ -19,20 +19,22 @@ pub fn passing_lists_open()
 {}
 
 /// A law: where others write only pages of a region in which no page of the list lies, and use other buffers, the filter may still be
-/// filled, and stands for what it stood for.
+/// filled, and stands for what it stood for; its buffer still has what a read gave.
 pub fn filling_is_spared()
     ensures filling { FillingStays }
     ensures fills { FillsStay }
+    ensures given { FillingStaysGiven }
 {
     filters_stay();
 }
 
 /// A law: where others write only pages of a region in which no page of the lists, of the area and of the table lies, and use other
-/// buffers, the candidates may still be sifted, their list has what it had, and as much is left to do, no more than the pages that a
-/// device may have.
+/// buffers, the candidates may still be sifted, their list has what it had, the buffers have what reads gave, and as much is left to do,
+/// no more than the pages that a device may have.
 pub fn sifting_is_spared()
     ensures sifting { SiftingStays }
     ensures has { SiftingHasStays }
+    ensures given { SiftingStaysGiven }
     ensures left { SiftingLeftStays }
     ensures small { SiftingIsSmall }
 {
