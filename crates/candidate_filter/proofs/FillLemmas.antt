@@ -7,7 +7,7 @@ use Rattle.page_pool.specs.Pools.{Pool, AreOut, IsOut, ChangesPage, KeepsOthers,
 use Rattle.page_pool.proofs.Marks.{other_was_out}
 use Rattle.page_pool.proofs.Leases.{out_kept, outs_kept, others_kept, others_trans, others_fewer, same_of_others, outs_first, outs_from_front, outs_to_front, outs_swapped, all_given-append, all_given_swapped, all_given_to_front, change_keeps_out, change_keeps_others, head_apart, holder_keeps_outs}
 use Rattle.flash_pages.specs.declared.cursor.RunCursor.{RunCursor}
-use Rattle.std.specs.Prelude.{Option, Some, Ok, Err, Result, MatchOption, slice_set}
+use Rattle.std.specs.Prelude.{Option, Some, Ok, Err, MatchOption, slice_set}
 use Rattle.ghost_model.specs.forms.Runs.{ids_from}
 use Rattle.ghost_base.specs.declared.runs.ListRef.{ListRef}
 use Rattle.ghost_base.specs.Runs.{run_of}
@@ -147,7 +147,9 @@ goes_none {device = device} {pool = pool} filling is = record {
 }
 
 -- the leases are held as before, and nothing beside them changed
-pub filling_takes : {told : Bool} {before now : Device} {pool later : Pool} {old new : Filling} → GoesFilling told before now pool later old new → TakesOver pool later (filling_leases old) (filling_leases new)
+pub filling_takes :
+    {told : Bool} {before now : Device} {pool later : Pool} {old new : Filling} → GoesFilling told before now pool later old new
+    → TakesOver pool later (filling_leases old) (filling_leases new)
 filling_takes {later = later} {old = old} {new = new} goes =
     let held : filling_leases new ≡ filling_leases old = ap (λ lease. lease ∷ new.filter) goes.list.lease ∙ ap (λ (ls : List ℕ). old.cursor.lease ∷ ls) goes.filter in
     record {
@@ -169,7 +171,9 @@ ascends_on :
 ascends_on {page = page} before now id same some at last is was =
     let counts : now.list.count ≡ before.list.count = ap (λ (list : ListRef). list.count) same.list in
     record {
-      above = λ i from below. omega (arith, at, last, is, id_same page before now same i, was.order before.at i (omega arith) (omega (arith, at, from)) (omega (arith, below, counts)));
+      above = λ i from below.
+          let order = was.order before.at i (omega arith) (omega (arith, at, from)) (omega (arith, below, counts)) in
+          omega (arith, at, last, is, id_same page before now same i, order);
       order = λ i j from less below.
           omega (arith, id_same page before now same i, id_same page before now same j, was.order i j (omega (arith, at, from)) less (omega (arith, below, counts)));
       within = λ i from below. omega (arith, id_same page before now same i, same.rows, was.within i (omega (arith, at, from)) (omega (arith, below, counts)));

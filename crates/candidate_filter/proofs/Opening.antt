@@ -1,8 +1,7 @@
 -- A sifted list is what some merge has to give: one of this list alone. So it is opened as candidates.
-use Rattle.std.proofs.Common.{◌≡◌, ◌∙◌, ℕ, ◌+◌, ◌^◌, ◌<◌, ◌≤◌, ◌↔◌, Bool, List, [], ◌∷◌, length, get_or, refl, subst, arith}
+use Rattle.std.proofs.Common.{◌≡◌, ℕ, ◌+◌, ◌^◌, ◌<◌, ◌≤◌, Bool, List, [], ◌∷◌, length, get_or, refl, subst, arith}
 use Rattle.ghost_base.specs.declared.runs.Run.{Run}
 use Rattle.flash_pages.specs.declared.cursor.RunCursor.{RunCursor}
-use Rattle.id_merge.specs.declared.cursor.Cursor.{Cursor}
 use Rattle.id_merge.specs.declared.cursor.Cursor.TheVariants.{List as OfList}
 use Rattle.id_merge.specs.declared.merge.Merge.{Merge}
 use Rattle.id_merge.specs.Cursors.{HasAhead, cursor_at}

@@ -54,8 +54,7 @@ pub listed_pass : ListedRowsPass
 listed_pass page pool filter list row some stands has =
     let ids = ids_in page list in
     let within : has.at < length ids = omega (arith, has.within, ids_from-length page (run_of list.run) list.first list.count) in
-    rows_pass pool filter ids row some stands
-    (
+    rows_pass pool filter ids row some stands (
       has.at,
       within,
       get_or_default ids has.at row 0 within ∙ ids_from-get page (run_of list.run) list.first list.count has.at has.within ∙ sym has.is,
