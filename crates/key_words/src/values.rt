@@ -8,7 +8,7 @@ ghost use Rattle.key_words.specs.Words as words;
 
 use crate::words::MAX_NUMBERS;
 use arrayvec::ArrayVec;
-use leakless_plan::{Plan, plan_named};
+use leakless_plan::{Form, Plan, plan_named};
 
 /// The most digits of a number.
 const MAX_DIGITS: usize = 9;
@@ -34,12 +34,12 @@ const MAX_BUFFERS: u32 = 64;
 /// The page buffers of a key where nothing is said of them.
 const DEFAULT_BUFFERS: u32 = 32;
 
-/// The plan that its option says: `scan` where it is left out, and `None` where its value names no plan.
+/// The plan that its option says: `pre` where it is left out, and `None` where its value names no plan.
 pub fn read_plan(given: Option<&str>) -> Option<Plan>
     ensures value { result ≡ words.plan_said (option_map (λ text. text.now) given.entry) }
 {
     match given {
-        None => Some(Plan::Scan),
+        None => Some(Plan::Linked(Some(Form::Pre))),
         Some(name) => plan_named(name),
     }
 }
