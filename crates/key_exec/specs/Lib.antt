@@ -9,4 +9,5 @@ pub mod Texts
 pub mod Telling
 pub mod Laws
 pub mod Costs
+pub mod Lending
 pub mod Within
