@@ -27,3 +27,4 @@ pub mod ReadLemmas
 pub mod ByLemmas
 pub mod CalledLemmas
 pub mod CostLemmas
+pub mod PhaseLemmas
