@@ -54,7 +54,7 @@ jobs_spare plans.Scan cat side before now low kept = record {
   never_falls = kept.never_falls;
   gave = kept.gave;
 }
-jobs_spare plans.Pre cat side before now low changes = record {
+jobs_spare (plans.Linked forced) cat side before now low changes = record {
   page_count = changes.page_count;
   static = λ number within. changes.below number (spool_low (static_end cat) (half_pages cat) number within);
   half = λ number from to. changes.below number (half_low side (static_end cat) (half_pages cat) number low to);
@@ -64,8 +64,8 @@ jobs_spare plans.Pre cat side before now low changes = record {
 
 pub readers_keep : (by : Plan) (cat : Catalog) (before now : Device) → KeepsPages before now → KeepsBy by cat before now
 readers_keep plans.Scan cat before now kept = kept
-readers_keep plans.Pre cat before now kept = changes_kept kept _ _
+readers_keep (plans.Linked forced) cat before now kept = changes_kept kept _ _
 
 pub kept_stays : (by : Plan) (cat : Catalog) (first before now : Device) → KeepsBy by cat first before → KeepsBy by cat before now → KeepsBy by cat first now
 kept_stays plans.Scan cat first before now one two = kept_trans one two
-kept_stays plans.Pre cat first before now one two = changes_trans one two
+kept_stays (plans.Linked forced) cat first before now one two = changes_trans one two

@@ -24,6 +24,7 @@ use Rattle.ghost_model.specs.laws.LayoutLaws.{IsLimited}
 use Rattle.ghost_model.specs.laws.FlashLaws.{HoldingsAreKept}
 use Rattle.climbing_index.specs.Laws.{IsOf}
 use Rattle.candidate_knowledge.specs.Laws.{HeldFilesAreKnown, KnowledgeStays}
+use Rattle.key_exec.specs.Plans.{by_indexes}
 use Rattle.key_exec.specs.Reading.{Knows, KnowsBut, KnowsBy, KnowsButBy}
 use Rattle.key_exec.specs.Blaming.{IsDamaged, IsDamagedInScan}
 use Rattle.key_exec.specs.Laws.{KeepsStatic}
@@ -76,14 +77,14 @@ no_scan_damage columns told page cat asked top side half database number slot fo
 -- ---- by either plan
 
 -- pages that hold all files
-database_is : (told : Bool) (page : ℕ → List ℕ) (cat : Catalog) (database : Database) → KnowsBy plans.Pre told page cat database → IsOf cat database
+database_is : (told : Bool) (page : ℕ → List ℕ) (cat : Catalog) (database : Database) → KnowsBy by_indexes told page cat database → IsOf cat database
 database_is told page cat database knows = record { limited = knows.1.limited; is = knows.0.is; counts = knows.0.counts }
 
 pub held_but_by :
     ColumnsGiveValues → HeldFilesAreKnown → (by : Plan) (told : Bool) (page : ℕ → List ℕ) (cat : Catalog) (database : Database) → IsTree cat.schema
     → KnowsBy by told page cat database → KnowsButBy by told page cat database
 held_but_by columns known plans.Scan told page cat database tree knows = held_but columns told page cat database tree knows
-held_but_by columns known plans.Pre told page cat database tree knows = (
+held_but_by columns known (plans.Linked forced) told page cat database tree knows = (
   held_but columns told page cat database tree knows.0,
   record { right = page; are = known page cat database (database_is told page cat database knows) knows.1.files },
 )
@@ -98,7 +99,7 @@ pub held_known :
     (by : Plan) (told : Bool) (page : ℕ → List ℕ) (cat : Catalog) (database : Database) → told ≡ true → IsDatabase cat.schema database
     → row_counts database ≡ cat.counts → IsLimited cat → HoldsFiles page cat (hidden_of cat.schema database) → KnowsBy by told page cat database
 held_known plans.Scan told page cat database is_told is counts limited files = scan_known told page cat database is_told is counts files
-held_known plans.Pre told page cat database is_told is counts limited files =
+held_known (plans.Linked forced) told page cat database is_told is counts limited files =
     (scan_known told page cat database is_told is counts files, record { limited = limited; files = files })
 
 pub no_damage :
@@ -106,8 +107,8 @@ pub no_damage :
     → IsTree cat.schema → KnowsBy by told page cat database → IsDamaged by told page cat asked top side half number slot found → ⊥
 no_damage columns known plans.Scan told page cat asked top side half database number slot found tree knows is =
     no_scan_damage columns told page cat asked top side half database number slot found tree knows is
-no_damage columns known plans.Pre told page cat asked top side half database number slot found tree knows is =
-    (is database (held_but_by columns known plans.Pre told page cat database tree knows)).never knows.1.files
+no_damage columns known (plans.Linked forced) told page cat asked top side half database number slot found tree knows is =
+    (is database (held_but_by columns known by_indexes told page cat database tree knows)).never knows.1.files
 
 -- ---- static pages
 
@@ -254,7 +255,7 @@ pub columns_kept_by :
     LayoutIsSmall → FilesLieInOrder → RecordsStandWithin → KnowledgeStays → (by : Plan) (told : Bool) (page now : ℕ → List ℕ) (cat : Catalog) (database : Database) → IsTree cat.schema
     → KeepsStatic cat page now → KnowsButBy by told page cat database → KnowsButBy by told now cat database
 columns_kept_by small order stand stays plans.Scan told page now cat database tree keeps knows = columns_kept small order stand told page now cat database tree keeps knows
-columns_kept_by small order stand stays plans.Pre told page now cat database tree keeps knows = (
+columns_kept_by small order stand stays (plans.Linked forced) told page now cat database tree keeps knows = (
   columns_kept small order stand told page now cat database tree keeps knows.0,
   record { right = knows.1.right; are = stays.pages page now knows.1.right cat database keeps knows.1.are },
 )
@@ -264,16 +265,16 @@ pub damage_kept :
     → IsTree cat.schema → KeepsStatic cat page now → IsDamaged by told page cat asked top side half number slot found → IsDamaged by told now cat asked top side half number slot found
 damage_kept small order stand stays plans.Scan told page now cat asked top side half number slot found tree keeps is =
     scan_damage_kept small order stand told page now cat asked top side half number slot found tree keeps is
-damage_kept small order stand stays plans.Pre told page now cat asked top side half number slot found tree keeps is = λ database knows.
+damage_kept small order stand stays (plans.Linked forced) told page now cat asked top side half number slot found tree keeps is = λ database knows.
     stays.bad page now cat asked top database tree keeps number slot found
-    (is database (columns_kept_by small order stand stays plans.Pre told now page cat database tree (λ at low. sym (keeps at low)) knows))
+    (is database (columns_kept_by small order stand stays by_indexes told now page cat database tree (λ at low. sym (keeps at low)) knows))
 
 pub files_kept :
     LayoutIsSmall → FilesLieInOrder → FilesLieAsSummed → RecordsStandWithin → HoldingsAreKept → (by : Plan) (told : Bool) (page now : ℕ → List ℕ) (cat : Catalog) (database : Database) → IsTree cat.schema
     → KeepsStatic cat page now → KnowsBy by told page cat database → KnowsBy by told now cat database
 files_kept small order summed stand holdings plans.Scan told page now cat database tree keeps knows =
     scan_files_kept small order summed stand told page now cat database tree keeps knows
-files_kept small order summed stand holdings plans.Pre told page now cat database tree keeps knows = (
+files_kept small order summed stand holdings (plans.Linked forced) told page now cat database tree keeps knows = (
   scan_files_kept small order summed stand told page now cat database tree keeps knows.0,
   record {
     limited = knows.1.limited;

@@ -1,10 +1,11 @@
 -- How many steps are left of a text at most.
-use Rattle.std.proofs.Common.{◌≡◌, ◌^◌, ◌≤◌, ℕ, Bool, false, arith}
+use Rattle.std.proofs.Common.{◌≡◌, ◌^◌, ◌≤◌, ℕ, Bool, false, arith, Option}
 use Rattle.ghost_model.specs.core.Channel.{Catalog}
 use Rattle.ghost_model.specs.core.Query.{Query}
 use Rattle.edge_traits.specs.Devices.{Device}
 use Rattle.page_pool.specs.Pools.{Pool}
 use Rattle.visible_spool.specs.declared.half.Half.{Half}
+use Rattle.leakless_plan.specs.declared.form.Form.{Form}
 use Rattle.leakless_plan.specs.declared.plan.Plan.{Plan}
 use Rattle.leakless_plan.specs.declared.plan.Plan.TheVariants as plans
 use Rattle.candidate_rows.specs.declared.plan.RowPlan.{RowPlan}
@@ -26,25 +27,25 @@ scan_few cat asked side told device pool half plan rows left given spent work (G
 scan_few cat asked side told device pool half plan rows left given spent work (Walking leases merge scan) small at = omega arith
 scan_few cat asked side told device pool half plan rows left given spent work Over small at = omega arith
 
-not_scan : plans.Pre ≡ plans.Scan → ⊥
-not_scan e = cc
+not_scan : (forced : Option Form) → plans.Linked forced ≡ plans.Scan → ⊥
+not_scan forced e = cc
 
 -- by the indexes a job that goes on counts them
-index_few : (cat : Catalog) (asked : Query) (side : ℕ) (told : Bool) (device : Device) (pool : Pool) (half : Half) (plan : RowPlan) (rows left given spent : ℕ) (work : RowWork) (phase : Phase)
-    → jobs.is_ended phase ≡ false → IsAtPhase plans.Pre cat asked side told device pool half plan rows left given spent work phase → left ≤ 2 ^ 56
-index_few cat asked side told device pool half plan rows left given spent work Begun going at = absurd (not_scan at.0)
-index_few cat asked side told device pool half plan rows left given spent work (Scanning leases scan) going at = absurd (not_scan at.0)
-index_few cat asked side told device pool half plan rows left given spent work (Gathering gathering) going at = omega (arith, at.1.counted.most)
-index_few cat asked side told device pool half plan rows left given spent work (Walking leases merge scan) going at = omega (arith, at.1.1.most)
-index_few cat asked side told device pool half plan rows left given spent work Over going at = cc
+index_few : (forced : Option Form) (cat : Catalog) (asked : Query) (side : ℕ) (told : Bool) (device : Device) (pool : Pool) (half : Half) (plan : RowPlan) (rows left given spent : ℕ) (work : RowWork) (phase : Phase)
+    → jobs.is_ended phase ≡ false → IsAtPhase (plans.Linked forced) cat asked side told device pool half plan rows left given spent work phase → left ≤ 2 ^ 56
+index_few forced cat asked side told device pool half plan rows left given spent work Begun going at = absurd (not_scan forced at.0)
+index_few forced cat asked side told device pool half plan rows left given spent work (Scanning leases scan) going at = absurd (not_scan forced at.0)
+index_few forced cat asked side told device pool half plan rows left given spent work (Gathering gathering) going at = omega (arith, at.1.counted.most)
+index_few forced cat asked side told device pool half plan rows left given spent work (Walking leases merge scan) going at = omega (arith, at.1.1.most)
+index_few forced cat asked side told device pool half plan rows left given spent work Over going at = cc
 
 job_few : (by : Plan) (cat : Catalog) (asked : Query) (side : ℕ) (told : Bool) (device : Device) (pool : Pool) (half : Half) (plan : RowPlan) (rows left given spent : ℕ) (work : RowWork) (phase : Phase)
     → rows ≤ 1000000 → jobs.is_ended phase ≡ false → IsAtPhase by cat asked side told device pool half plan rows left given spent work phase
     → jobs.left_in by plan rows left work phase ≤ 2 ^ 56
 job_few plans.Scan cat asked side told device pool half plan rows left given spent work phase small going at =
     scan_few cat asked side told device pool half plan rows left given spent work phase small at
-job_few plans.Pre cat asked side told device pool half plan rows left given spent work phase small going at =
-    index_few cat asked side told device pool half plan rows left given spent work phase going at
+job_few (plans.Linked forced) cat asked side told device pool half plan rows left given spent work phase small going at =
+    index_few forced cat asked side told device pool half plan rows left given spent work phase going at
 
 pub few_left : (by : Plan) (told : Bool) (cat : Catalog) (side : ℕ) (device : Device) (pool : Pool) (one : Telling) → CanTell by told cat side device pool one → left_of one ≤ 2 ^ 56
 few_left by told cat side device pool one can = at one.stage can.needs

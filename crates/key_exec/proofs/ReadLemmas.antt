@@ -8,39 +8,30 @@ use Rattle.ghost_model.specs.core.Channel.{Catalog}
 use Rattle.ghost_model.specs.core.Query.{Query}
 use Rattle.ghost_model.specs.forms.Layout.{column_file, descendants_of, subtree_table, width_at}
 use Rattle.ghost_model.specs.laws.LayoutSums as sums
-use Rattle.ghost_model.specs.forms.Runs.{Run, cell_in, found_in, page_of, run_end, slot_of}
+use Rattle.ghost_model.specs.forms.Runs.{Run, page_of, run_end}
 use Rattle.ghost_model.specs.forms.Slots.{Cells, Subtrees}
 use Rattle.ghost_model.specs.laws.LayoutLaws.{LayoutIsSmall, RecordsStandWithin}
 use Rattle.ghost_model.specs.laws.SchemaTrees.{IsTree}
 use Rattle.ghost_base.specs.Runs.{run_of}
-use Rattle.edge_traits.specs.Devices.{Device, GaveSince}
+use Rattle.edge_traits.specs.Devices.{Device}
 use Rattle.page_pool.specs.Pools.{Pool}
 use Rattle.flash_pages.specs.declared.fault.PageFault.{PageFault}
 use Rattle.flash_pages.specs.declared.fault.PageFault.TheVariants.{Flash, Damaged}
-use Rattle.flash_pages.specs.Reads.{WasRead}
 use Rattle.visible_spool.specs.declared.half.Half.{Half}
 use Rattle.visible_spool.specs.Sparing.{IsHalf}
 use Rattle.id_merge.specs.declared.cursor.Cursor.{Cursor}
 use Rattle.id_merge.specs.Cursors.{AllReady, BlamesList}
-use Rattle.leakless_plan.specs.declared.plan.Plan.TheVariants as plans
 use Rattle.candidate_rows.specs.declared.plan.RowPlan.{RowPlan}
 use Rattle.candidate_rows.specs.Working.{IsNeed, Need, NoNeed, OfSlot, OfRow, OfRecord}
 use Rattle.candidate_rows.specs.Steps.{BlamesNeeded}
-use Rattle.candidate_search.specs.Given.{ListsBlame, WasFound}
+use Rattle.candidate_search.specs.Given.{ListsBlame}
+use Rattle.candidate_search.proofs.ReadsGiven.{slot_found}
 use Rattle.candidate_knowledge.specs.Found.{InFile, InReplies, ListPagesAreRead, is_list_page}
 use Rattle.candidate_gathering.specs.Given.{ListsRead}
+use Rattle.key_exec.specs.Plans.{by_indexes}
 use Rattle.key_exec.specs.declared.job.Went.{Went}
 use Rattle.key_exec.specs.Blaming.{BlamesRead}
 use Rattle.key_exec.proofs.ChosenLemmas.{IsChosen}
-
-was_found : (since : ℕ) (device : Device) (run : Run) (place : ℕ) (bytes : List ℕ) (number slot found : ℕ) → WasRead since device run place bytes
-    → number ≡ page_of run place → slot ≡ slot_of run place → found ≡ found_in bytes → WasFound since device number slot found
-was_found since device run place bytes number slot found read page_is slot_is found_is = record {
-  bytes = read.bytes;
-  gave = subst (GaveSince since device read.bytes) (sym page_is) read.gave;
-  width = run.width;
-  found_is = found_is ∙ ap found_in (read.record_is ∙ ap (cell_in read.bytes run.width) (sym slot_is));
-}
 
 -- the page of a record is one of its run
 in_run : RecordsStandWithin → (run : Run) (place number : ℕ) → 0 < run.width → run.width ≤ 2048 → place < run.count → number ≡ page_of run place
@@ -64,7 +55,7 @@ module _ (small : LayoutIsSmall) (stand : RecordsStandWithin) (told : Bool) (sin
   some_of (x ∷ xs) none = omega arith
 
   need_was_read : (need : Need) (fault : PageFault) → IsNeed cat plan need → IsChosen cat asked plan.top need → BlamesNeeded since now half need fault
-      → BlamesRead plans.Pre told since now cat asked plan.top side half fault
+      → BlamesRead by_indexes told since now cat asked plan.top side half fault
   need_was_read need Flash needed chosen blames = tt
   need_was_read NoNeed (Damaged number slot found) needed chosen blames = absurd blames
   need_was_read (OfSlot at) (Damaged number slot found) needed chosen blames =
@@ -73,7 +64,9 @@ module _ (small : LayoutIsSmall) (stand : RecordsStandWithin) (told : Bool) (sin
       let narrow = small.narrow cat tree in
       let most : width_at cat.schema chosen.table chosen.column ≤ 64 = narrow.most chosen.table chosen.column in
       record {
-        was = was_found since now (run_of at.file.run) place blames.bytes number slot found blames.read blames.page_is blames.slot_is blames.found_is;
+        was = slot_found (run_of at.file.run) place number slot found blames.bytes
+            (subst (λ (r : Run). 0 < r.width) (sym run) (narrow.least chosen.table chosen.column chosen.file.hidden))
+            (subst (λ (r : Run). r.width ≤ 2048) (sym run) (omega (arith, most))) blames.page_is blames.slot_is blames.read blames.found_is;
         page = InFile (record {
           file = Cells chosen.table chosen.column;
           has = chosen.file.hidden;
@@ -85,8 +78,9 @@ module _ (small : LayoutIsSmall) (stand : RecordsStandWithin) (told : Bool) (sin
       }
   need_was_read (OfRow look) (Damaged number slot found) needed chosen blames =
       let lies = is_half.lies look.table needed blames.place blames.within in
+      let readable = is_half.readable look.table needed in
       record {
-        was = was_found since now _ blames.place blames.bytes number slot found blames.read blames.page_is blames.slot_is blames.found_is;
+        was = slot_found _ blames.place number slot found blames.bytes readable.has.some readable.has.fits blames.page_is blames.slot_is blames.read blames.found_is;
         page = InReplies (omega (arith, lies.0, blames.page_is)) (omega (arith, lies.1, blames.page_is));
       }
   need_was_read (OfRecord file identifier) (Damaged number slot found) needed chosen blames =
@@ -96,7 +90,8 @@ module _ (small : LayoutIsSmall) (stand : RecordsStandWithin) (told : Bool) (sin
       let least : 0 < length (descendants_of cat.schema plan.top) = some_of (descendants_of cat.schema plan.top) of.some_below in
       let most : sums.subtree_width cat.schema plan.top ≤ 48 = (small.narrow cat tree).subtree plan.top in
       record {
-        was = was_found since now (run_of file.table.run) place blames.bytes number slot found blames.read blames.page_is blames.slot_is blames.found_is;
+        was = slot_found (run_of file.table.run) place number slot found blames.bytes (subst (λ (r : Run). 0 < r.width) (sym run) (omega (arith, least)))
+            (subst (λ (r : Run). r.width ≤ 2048) (sym run) (omega (arith, most))) blames.page_is blames.slot_is blames.read blames.found_is;
         page = InFile (record {
           file = Subtrees plan.top;
           has = ap not of.some_below;
@@ -108,7 +103,7 @@ module _ (small : LayoutIsSmall) (stand : RecordsStandWithin) (told : Bool) (sin
       }
 
   pub needed_was_read : (need : Need) (result : Result Went PageFault) → IsNeed cat plan need → IsChosen cat asked plan.top need → IfErr result (BlamesNeeded since now half need)
-      → IfErr result (BlamesRead plans.Pre told since now cat asked plan.top side half)
+      → IfErr result (BlamesRead by_indexes told since now cat asked plan.top side half)
   needed_was_read need (Ok went) needed chosen blames = tt
   needed_was_read need (Err fault) needed chosen blames = need_was_read need fault needed chosen blames
 
@@ -116,9 +111,9 @@ module _ (small : LayoutIsSmall) (stand : RecordsStandWithin) (told : Bool) (sin
 
 pub list_was_read : ListsBlame → ListPagesAreRead → (told : Bool) (since : ℕ) (now : Device) (later : Pool) (cat : Catalog) (asked : Query) (top side : ℕ) (half : Half) (cursors : List Cursor) (number slot found : ℕ)
     → AllReady told now later cursors → ListsRead cat asked top side cursors
-    → BlamesList since now cursors number slot found → BlamesRead plans.Pre told since now cat asked top side half (Damaged number slot found)
+    → BlamesList since now cursors number slot found → BlamesRead by_indexes told since now cat asked top side half (Damaged number slot found)
 list_was_read law reads told since now later cat asked top side half cursors number slot found ready pages blames = record {
-  was = law.found since now cursors number slot found blames;
+  was = law.found since now cursors (law.inside told now later cursors ready) number slot found blames;
   page = reads cat asked top side number (listed (is_list_page cat asked top side number) refl);
 }
   where

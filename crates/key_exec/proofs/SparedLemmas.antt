@@ -36,7 +36,7 @@ use Rattle.candidate_knowledge.specs.Laws.{KnowledgeStays}
 use Rattle.candidate_gathering.specs.declared.gathering.Gathering.{Gathering as GatheringModel}
 use Rattle.candidate_gathering.specs.Stages as gathered
 use Rattle.candidate_gathering.specs.Stages.{IsGathering, gathering_left}
-use Rattle.candidate_gathering.specs.Contents.{GatheringHas, Walks}
+use Rattle.candidate_gathering.specs.Contents.{GatheringHas, Walks, WalksUnited}
 use Rattle.candidate_gathering.specs.Given.{GatheringGiven}
 use Rattle.candidate_gathering.specs.Laws.{SparesGathering}
 use Rattle.key_exec.proofs.HalfLemmas.{others_spare}
@@ -277,25 +277,6 @@ phase_given_still give cursors cat side before now pool later since (Walking lea
 )
 phase_given_still give cursors cat side before now pool later since Over law spares given = tt
 
--- it costs as much as before
-pub costs_still :
-    UnreadStays → (by : Plan) (cat : Catalog) (asked : Query) (side : ℕ) (told : Bool) (before now : Device) (pool later : Pool) (half : Half) (plan : RowPlan) (rows left count spent : ℕ)
-    (work : RowWork) (phase : Phase) (database : Database) (given : List Reply) (cost : ℕ) → SparedIn phase → Spares cat side before now pool later (leases_in phase)
-    → IsAtPhase by cat asked side told before pool half plan rows left count spent work phase
-    → PhaseCosts cat asked database given told before.page pool half plan rows work phase cost → PhaseCosts cat asked database given told now.page later half plan rows work phase cost
-costs_still unread by cat asked side told before now pool later half plan rows left count spent work Begun database given cost law spares at costs = costs
-costs_still unread by cat asked side told before now pool later half plan rows left count spent work (Scanning leases scan) database given cost law spares at costs = costs
-costs_still unread by cat asked side told before now pool later half plan rows left count spent work (Gathering gathering) database given cost law spares at costs = record {
-  gather = costs.gather;
-  costs = law.costs told before now pool later cat asked plan.top side half (spares_all spares) at.1.is database given costs.gather costs.costs;
-  enough = costs.enough;
-}
-costs_still unread by cat asked side told before now pool later half plan rows left count spent work (Walking leases merge scan) database given cost law spares at costs =
-    let same : unread_in later merge.cursors.items ≡ unread_in pool merge.cursors.items =
-    unread _ _ before now pool later merge.cursors.items (spares_second leases.items (leases_of merge.cursors.items) spares) in
-    omega (arith, costs, same)
-costs_still unread by cat asked side told before now pool later half plan rows left count spent work Over database given cost law spares at costs = tt
-
 -- ---- what a job stands for
 
 work_stands_still :
@@ -311,7 +292,7 @@ static_kept : {cat : Catalog} {side : ℕ} {before now : Device} → SparesHalf 
 static_kept spares number low = (spares.static number low).bytes
 
 -- a merge has the rows that it had
-pub walks_still :
+abbrev pub walks_still :
     CursorsStayRight → DamageStays → (bad : KnowledgeStays) → (cat : Catalog) (asked : Query) (side : ℕ) (told : Bool) (before now : Device) (pool : Pool) (database : Database) (given : List Reply)
     (top : ℕ) (merge : Merge) → IsTree cat.schema → KeepsStatic cat before.page now.page
     → ChangesOnly (half_begin cat (1 - side)) (half_end cat (1 - side)) before now → AllOutside (half_begin cat (1 - side)) (half_end cat (1 - side)) merge.cursors.items
@@ -320,6 +301,7 @@ pub walks_still :
 walks_still right damage bad cat asked side told before now pool database given top merge tree keeps changes outside ready walks = record {
   whole = walks.whole;
   lists = right _ _ told before now pool walks.whole merge.cursors.items changes outside ready walks.lists;
+  forms = walks.forms;
   terms = walks.terms;
   terms_are = walks.terms_are;
   rows = walks.rows;
@@ -368,3 +350,37 @@ knowledge_still pages stay by told cat side before now asked database half given
   all_asked = knows.all_asked;
   of_rows = knows.of_rows;
 }
+
+-- the same where the lists of all replies are united
+united_still :
+    CursorsStayRight → DamageStays → (bad : KnowledgeStays) → (cat : Catalog) (asked : Query) (side : ℕ) (told : Bool) (before now : Device) (pool : Pool) (database : Database) (given : List Reply)
+    (top : ℕ) (merge : Merge) → IsTree cat.schema → KeepsStatic cat before.page now.page
+    → ChangesOnly (half_begin cat (1 - side)) (half_end cat (1 - side)) before now → AllOutside (half_begin cat (1 - side)) (half_end cat (1 - side)) merge.cursors.items
+    → AllReady told before pool merge.cursors.items
+    → WalksUnited before.page cat asked database given top merge → WalksUnited now.page cat asked database given top merge
+united_still right damage bad cat asked side told before now pool database given top merge tree keeps changes outside ready united = record {
+  walks = walks_still right damage bad cat asked side told before now pool database given top merge tree keeps changes outside ready united.walks;
+  unites = united.unites;
+}
+
+-- it costs as much as before
+pub costs_still :
+    CursorsStayRight → DamageStays → KnowledgeStays → UnreadStays → (by : Plan) (cat : Catalog) (asked : Query) (side : ℕ) (told : Bool) (before now : Device) (pool later : Pool) (half : Half) (plan : RowPlan) (rows left count spent : ℕ)
+    (work : RowWork) (phase : Phase) (database : Database) (given : List Reply) (cost : ℕ) → SparedIn phase → Spares cat side before now pool later (leases_in phase)
+    → IsAtPhase by cat asked side told before pool half plan rows left count spent work phase
+    → PhaseCosts cat asked database given told before.page pool half plan rows work phase cost → PhaseCosts cat asked database given told now.page later half plan rows work phase cost
+costs_still right damage bad unread by cat asked side told before now pool later half plan rows left count spent work Begun database given cost law spares at costs = costs
+costs_still right damage bad unread by cat asked side told before now pool later half plan rows left count spent work (Scanning leases scan) database given cost law spares at costs = costs
+costs_still right damage bad unread by cat asked side told before now pool later half plan rows left count spent work (Gathering gathering) database given cost law spares at costs = record {
+  gather = costs.gather;
+  costs = law.costs told before now pool later cat asked plan.top side half (spares_all spares) at.1.is database given costs.gather costs.costs;
+  enough = costs.enough;
+}
+costs_still right damage bad unread by cat asked side told before now pool later half plan rows left count spent work (Walking leases merge scan) database given cost law spares at costs =
+    let same : unread_in later merge.cursors.items ≡ unread_in pool merge.cursors.items =
+    unread _ _ before now pool later merge.cursors.items (spares_second leases.items (leases_of merge.cursors.items) spares) in
+    record {
+      walks = united_still right damage bad cat asked side told before now pool database given plan.top merge at.1.0.tree (static_kept (half_spared spares)) spares.device at.1.0.outside at.1.0.merge_is.cursors costs.walks;
+      enough = (let enough = costs.enough in omega (arith, enough, same));
+    }
+costs_still right damage bad unread by cat asked side told before now pool later half plan rows left count spent work Over database given cost law spares at costs = tt

@@ -29,6 +29,7 @@ use Rattle.key_exec.specs.Jobs.{ForScan, is_over, rows_left}
 use Rattle.key_exec.specs.Costs.{JobCosts}
 use Rattle.leakless_plan.specs.declared.plan.Plan.{Plan}
 use Rattle.leakless_plan.specs.declared.plan.Plan.TheVariants as plan
+use Rattle.key_exec.specs.Plans.{by_pre}
 use Rattle.key_exec.specs.Reading.{KnowsButBy, AreOfAsked, AreAllAsked, AreOfRows}
 use Rattle.key_exec.specs.Ready.{IsReady, JobGiven, Stands}
 use Rattle.channel_pump.specs.declared.state.ReplyState.{ReplyState}
@@ -163,7 +164,7 @@ pub record HasGiven (by : Plan) (pages_told : Bool) (cat : Catalog) (side : ℕ)
   pub left : (database : Database) (replies : List Reply) → KnowsText by pages_told start.page cat text half replies database
       → AreLeft cat asked read.meant replies pages_told device.page pool given job database
   -- by the indexes, where the host is honest, and as long as the flash's calls are counted exactly
-  pub paid : by ≡ plan.Pre → (database : Database) (replies : List Reply) → KnowsText by pages_told start.page cat text half replies database
+  pub paid : by ≡ by_pre → (database : Database) (replies : List Reply) → KnowsText by pages_told start.page cat text half replies database
       → AreHonest cat database read.meant replies → device.calls < last_count → IsPaid cat asked read.meant replies pages_told device.page pool job database
 
 abbrev pub IsAtStage : Plan → (pages_told : Bool) (cat : Catalog) (side : ℕ) (text : List ℕ) → ReplyState → (is_marked : Bool) → Half → (start device : Device) (before now : Handed) → Pool → Stage → Type 0
@@ -216,7 +217,7 @@ pub record HasReplies (page : ℕ → List ℕ) (cat : Catalog) (text : List ℕ
 
 abbrev pub AreThere : Plan → (pages_told : Bool) (page : ℕ → List ℕ) → Catalog → (text : List ℕ) → ReplyState → (is_marked : Bool) → Half → Type 0
 AreThere plan.Scan pages_told page cat text state is_marked half = ⊤
-AreThere plan.Pre pages_told page cat text state is_marked half = IsDone state is_marked false → pages_told ≡ true → HasReplies page cat text half
+AreThere (plan.Linked forced) pages_told page cat text state is_marked half = IsDone state is_marked false → pages_told ≡ true → HasReplies page cat text half
 
 -- The text was told to its end, since the flash and the sink were as at the first. Where the pages are those of a database, but
 -- for slots that may not stand as they do, its lines are of its answer over it.

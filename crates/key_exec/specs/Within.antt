@@ -10,8 +10,8 @@ use Rattle.ghost_model.specs.readings.QueryReading.{reading}
 use Rattle.visible_spool.specs.declared.half.Half.{Half}
 -- the replies are those of an honest host
 pub use Rattle.condition_lists.specs.CostLaws.{AreHonest}
-use Rattle.leakless_plan.specs.declared.plan.Plan.TheVariants as plan
 use Rattle.channel_pump.specs.declared.state.ReplyState.{ReplyState}
+use Rattle.key_exec.specs.Plans.{by_pre}
 use Rattle.key_exec.specs.Reading.{KnowsButBy}
 use Rattle.key_exec.specs.Texts.{IsDone}
 use Rattle.key_exec.specs.Telling.{AreRepliesOf}
@@ -28,7 +28,7 @@ text_work schema database text = reading_work schema database (reading schema te
 
 -- the pages are those of a database, but for damaged slots, and the half has the replies of an honest host to the asks of a text
 pub record IsServed (pages_told : Bool) (page : ℕ → List ℕ) (cat : Catalog) (text : List ℕ) (state : ReplyState) (is_marked : Bool) (half : Half) (database : Database) (replies : List Reply) : Type 0 where
-  pub pages : KnowsButBy plan.Pre pages_told page cat database
+  pub pages : KnowsButBy by_pre pages_told page cat database
   pub of_text : IsDone state is_marked false → AreRepliesOf page cat text half replies
   pub honest : IsDone state is_marked false → (asked : Query) → reading cat.schema text ≡ Ok asked → AreHonest cat database asked replies
 

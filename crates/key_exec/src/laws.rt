@@ -76,12 +76,13 @@ pub fn what_jobs_keep_adds_up()
     ghost_model::layout::layout_is_small();
 }
 
-/// Where the replies are those of an honest host each candidate is one row of the answer.
+/// Where the replies are those of an honest host, and the lists of all of them are united, each candidate is one row of the answer.
 pub fn candidates_are_answers()
     ensures answers { CandidatesAreAnswers }
 {
     candidate_rows::costs::rows_that_meet_all_are_answers();
     condition_lists::laws::terms_are_those_of_queries();
+    condition_lists::laws::all_are_united();
 }
 
 /// A text goes on for 2 ^ 56 steps at most.
