@@ -7,10 +7,11 @@ use edge_traits::mem_sink::MemSink;
 use key_local::{LocalEnd, local};
 use key_plain::plain;
 use key_words::{LocalWords, PlainWords};
-use leakless_plan::Plan;
+use leakless_plan::{Form, Plan};
 use std::alloc::{AllocError, Global};
 use std::fmt::Write;
 
+/// The two tables, each row of `top` with a row of `leaf`.
 const SCHEMA: &str =
     "CREATE TABLE leaf (id INTEGER PRIMARY KEY, tag INTEGER, mark INTEGER HIDDEN);\nCREATE TABLE top (id INTEGER PRIMARY KEY, num INTEGER, val INTEGER HIDDEN, lf INTEGER REFERENCES leaf(id) HIDDEN);\n";
 
@@ -24,8 +25,8 @@ const PLAIN_WORDS: PlainWords<'static> = PlainWords {
     script: "script",
 };
 
-/// The words of `local`, with a plan and a pace of one number.
-fn local_words(plan: Plan) -> LocalWords<'static> {
+/// The words of `local`, with a plan, a pace of one number and so many page buffers.
+fn local_words(plan: Plan, buffers: u32) -> LocalWords<'static> {
     let mut pace = ArrayVec::new();
     pace.push(1);
     LocalWords {
@@ -36,12 +37,53 @@ fn local_words(plan: Plan) -> LocalWords<'static> {
         journal: None,
         plan,
         pace,
-        buffers: 8,
+        buffers,
+    }
+}
+
+/// The files of the two tables and of a script.
+pub fn files_of(
+    alloc: Global,
+    leaves: &str,
+    tops: &str,
+    script: &str,
+) -> Result<MemDepot, AllocError> {
+    let room = Room {
+        files: 4,
+        name_bytes: 32,
+        file_bytes: 800_000,
+    };
+    let mut depot = MemDepot::new(alloc, room, &[])?;
+    for (name, text) in [
+        ("schema", SCHEMA),
+        ("tables/leaf.csv", leaves),
+        ("tables/top.csv", tops),
+        ("script", script),
+    ] {
+        depot.put(name, text.as_bytes());
+    }
+    Ok(depot)
+}
+
+/// How many calls of the flash `local` makes by a plan with so many page buffers, if it ends well and prints these lines.
+pub fn calls_of(
+    alloc: Global,
+    depot: &mut MemDepot,
+    plan: Plan,
+    buffers: u32,
+    lines: &str,
+) -> Result<Option<u64>, AllocError> {
+    let mut flash = MemFlash::new(alloc, 60, &[])?;
+    let mut out = MemSink::new(alloc, 300_000, 300_000, &[])?;
+    let words = local_words(plan, buffers);
+    match local(alloc, &words, depot, &mut flash, &mut out) {
+        Ok(LocalEnd::Ok) if out.bytes() == lines.as_bytes() => Ok(Some(flash.script.calls)),
+        _ => Ok(None),
     }
 }
 
 /// The file of the leaves: each has its own number as its mark, and tag 0 up to row 40,000 and then 1.
-fn leaves(alloc: Global) -> Result<String, AllocError> {
+pub fn leaves(alloc: Global) -> Result<String, AllocError> {
     let mut lines = String::from_str(alloc, "id,tag,mark\n")?;
     for row in 1..=41_000u32 {
         let tag = row / 40_001;
@@ -62,7 +104,11 @@ fn tops(alloc: Global) -> Result<String, AllocError> {
 }
 
 /// The lines of a text: every so many numbers from one to another.
-fn put_lines(lines: &mut String, text: u32, numbers: (u32, u32, u32)) -> Result<(), AllocError> {
+pub fn put_lines(
+    lines: &mut String,
+    text: u32,
+    numbers: (u32, u32, u32),
+) -> Result<(), AllocError> {
     let (first, last, step) = numbers;
     let mut count = 0u32;
     for number in first..=last {
@@ -84,27 +130,19 @@ fn columns_and_replies_of_many_pages_are_answered_in_order(
     put_lines(&mut lines, 2, (1, 11_000, 1))?;
     put_lines(&mut lines, 3, (1_000, 11_000, 1))?;
     put_lines(&mut lines, 4, (40_990, 41_000, 1))?;
-    let room = Room {
-        files: 4,
-        name_bytes: 32,
-        file_bytes: 800_000,
-    };
-    let mut depot = MemDepot::new(rt.alloc(), room, &[])?;
-    for (name, bytes) in [
-        ("schema", SCHEMA.as_bytes()),
-        ("tables/leaf.csv", leaves(rt.alloc())?.as_bytes()),
-        ("tables/top.csv", tops(rt.alloc())?.as_bytes()),
-        ("script", SCRIPT.as_bytes()),
+    let mut depot = files_of(
+        rt.alloc(),
+        leaves(rt.alloc())?.as_str(),
+        tops(rt.alloc())?.as_str(),
+        SCRIPT,
+    )?;
+    for plan in [
+        Plan::Scan,
+        Plan::Linked(Some(Form::Pre)),
+        Plan::Linked(Some(Form::Post)),
     ] {
-        depot.put(name, bytes);
-    }
-    for plan in [Plan::Scan, Plan::Pre] {
-        let mut flash = MemFlash::new(rt.alloc(), 60, &[])?;
-        let mut out = MemSink::new(rt.alloc(), 300_000, 300_000, &[])?;
-        let words = local_words(plan);
-        let ended = local(rt.alloc(), &words, &mut depot, &mut flash, &mut out);
-        assert!(rt; matches!(&ended, Ok(LocalEnd::Ok)));
-        assert!(rt; out.bytes() == lines.as_bytes());
+        let calls = calls_of(rt.alloc(), &mut depot, plan, 8, lines.as_str())?;
+        assert!(rt; calls.is_some());
     }
     let mut out = MemSink::new(rt.alloc(), 300_000, 300_000, &[])?;
     assert!(rt; plain(rt.alloc(), &PLAIN_WORDS, &mut depot, &mut out).is_ok());

@@ -1,9 +1,11 @@
 //! Tests of the crates of a session: the plain answer, the asks of a script, the printed lines, the key's answer and whole
-//! sessions, each shown by a worked example over the clinic, and `local` over tables of many pages.
+//! sessions, each shown by a worked example over the clinic, and `local` over tables of many pages, by each plan.
 #![tactic(auto)]
 
 #[cfg(test)]
 mod clinic;
+#[cfg(test)]
+mod filters;
 #[cfg(test)]
 mod key_answers;
 #[cfg(test)]
