@@ -1,6 +1,6 @@
-//! Tests of merges and of reductions over a device in memory, against sets.
+//! Tests of merges, of reductions and of candidates that are sifted, over a device in memory, against sets.
 //!
-//! Lists of identifiers come from a seeded generator; what a merge or a reduction gives is compared with a table of the rows.
+//! Lists of identifiers come from a seeded generator; what a merge, a reduction or a sifting gives is compared with a table of the rows.
 #![tactic(auto)]
 
 pub mod areas;
@@ -12,3 +12,5 @@ pub mod pieces;
 mod reducing;
 pub mod reductions;
 pub mod rows;
+#[cfg(test)]
+mod sifting;
