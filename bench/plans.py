@@ -1,15 +1,16 @@
 #!/usr/bin/env python3
 """Counts the calls of the flash of each text of a generated clinic, plan by plan, and times some texts beside sqlite3.
 
-    plans.py calls KEY_PROGRAM HOST_PROGRAM VISITS[,VISITS..] [FOLDER]
-    plans.py growth KEY_PROGRAM HOST_PROGRAM VISITS[,VISITS..] [FOLDER]
-    plans.py times KEY_PROGRAM HOST_PROGRAM VISITS[,VISITS..] [FOLDER]
+    plans.py calls [--plans PLAN[,PLAN..]] KEY_PROGRAM HOST_PROGRAM VISITS[,VISITS..] [FOLDER]
+    plans.py growth [--plans PLAN[,PLAN..]] KEY_PROGRAM HOST_PROGRAM VISITS[,VISITS..] [FOLDER]
+    plans.py times [--plans PLAN[,PLAN..]] KEY_PROGRAM HOST_PROGRAM VISITS[,VISITS..] [FOLDER]
 
 `calls` prints a line for each text: the calls of its job by each plan, counted from outside by `strace`; the bound of the
-plan by indexes, and the least that is possible, one read for each page that holds what the answer needs. `growth` does so
-over tables in which the answer, what satisfies, and what is replied stay the same while the visits grow. `times` prints
-seconds of a session of each plan beside those of sqlite3 with an index on each column. FOLDER (a temporary one, where none
-is named) gets the clinic and all that is written. README.md says what is compared.
+plan pre, and the least that is possible, one read for each page that holds what the answer needs. `growth` does so over
+tables in which the answer, what satisfies, and what is replied stay the same while the visits grow. `times` prints seconds
+of a session of each plan beside those of sqlite3 with an index on each column, and compares the rows. The plans are scan,
+pre and post, where none is named. FOLDER (a temporary one, where none is named) gets the clinic and all that is written.
+README.md says what is compared.
 """
 import os
 import re
@@ -18,13 +19,14 @@ import subprocess
 import sys
 import tempfile
 
-from beside import INDEXES, SQLITE, build_indexes, end, figures, import_into, into_file, least, main, run
+from beside import INDEXES, SQLITE, build_indexes, end, figures, import_into, into_file, least, main, run, tell_rows
 from clinic import SCHEMA, text, write_clinic, write_table, write_text
 from clinic_pages import Clinic
 
 STRACE = shutil.which('strace')
 CALL = re.compile(r'(?:\d+ +)?(pread64|pwrite64)\((\d+), .*, (\d+), (\d+)\) += \d+$')
-PLANS = ('scan', 'pre')
+PLANS = ['scan', 'pre', 'post']
+BOUNDED = 'pre'
 BUFFERS = 32
 SELECTIVE = [
     "SELECT visit.id, purpose FROM visit, patient WHERE pat = patient.id AND name = 'n7' AND purpose = 'p3';",
@@ -89,21 +91,22 @@ def same_lines(name):
 
 
 def calls(key, host, visits, folder):
-    """The calls of each text's job by each plan, and by the indexes beside the bound and the least that is possible."""
+    """The calls of each text's job by each plan; those by the plan that has a bound beside it and the least that is possible."""
     write_clinic(folder, visits)
     name = lambda of: os.path.join(folder, of)
     load(key, name)
     clinic = Clinic(visits)
     spool, same = scratch_begins(clinic, visits), True
-    print('%8s %8s %8s %8s %8s %10s %10s  %s' % ('rows', *PLANS, 'bound', 'least', 'of bound', 'of least', 'text'))
+    line = ' '.join(['%8s'] * (len(PLANS) + 3)) + ' %10s %10s  %s'
+    print(line % ('rows', *PLANS, 'bound', 'least', 'of bound', 'of least', 'text'))
     for one in [text(number).strip() for number in range(1, 41)] + SELECTIVE:
         read = clinic.read(one)
         rows = clinic.answer(read)
         bound, fewest = clinic.bound(read, rows), clinic.least(read, rows)
         made = [job_calls(key, host, folder, one, plan, spool) for plan in PLANS]
         same = same and same_lines(name)
-        print('%8d %8d %8d %8d %8d %10.3f %10.3f  %s' % (len(rows), *made, bound, fewest, made[-1] / bound, made[-1] / max(fewest, 1), one),
-              flush=True)
+        of = ['%.3f' % (made[PLANS.index(BOUNDED)] / most) if BOUNDED in PLANS else '-' for most in (bound, max(fewest, 1))]
+        print(line % (len(rows), *made, bound, fewest, *of, one), flush=True)
     return same, {}
 
 
@@ -164,11 +167,16 @@ def times(key, host, visits, folder):
             print('  %-6s %s%s' % (plan, figures(one), beside), flush=True)
         if theirs:
             print('  sqlite3 %s' % figures(theirs), flush=True)
+            same = tell_rows(name('out.' + PLANS[0]), name('sqlite.out')) and same
     return same, spent
 
 
 if __name__ == '__main__':
     ways = {'calls': calls, 'growth': growth, 'times': times}
     if sys.argv[1:2] and sys.argv[1] in ways:
-        main(ways[sys.argv.pop(1)], 2)
+        way = ways[sys.argv.pop(1)]
+        if sys.argv[1:2] == ['--plans'] and sys.argv[2:3]:
+            PLANS[:] = sys.argv[2].split(',')
+            del sys.argv[1:3]
+        main(way, 2)
     sys.exit(__doc__)
