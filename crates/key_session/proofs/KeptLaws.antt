@@ -52,6 +52,25 @@ none_kept nothing told device spool text table small = record {
   whole = λ is_told. record { rows = []; holds = (nothing 0 (omega arith)).holds device.page };
 }
 
+-- a pool of which a buffer is out
+pub out_somewhere : (lease : ℕ) → (pool : Pool) × IsOut pool lease
+out_somewhere zero = (record { pages = [] ∷ []; out = true ∷ []; filled = [] }, record { within = omega arith; out = refl })
+out_somewhere (suc lease) =
+    let below = out_somewhere lease in
+    let within : lease < length below.0.pages = below.1.within in
+    (record { pages = [] ∷ below.0.pages; out = true ∷ below.0.out; filled = [] }, record { within = omega (arith, within); out = below.1.out })
+
+-- a spool without a reply at hand, with any buffer
+pub spooling_with : (device : Device) (before pool : Pool) (spool : Spool) (lease : ℕ) → spool.hand.text ≡ 0 → IsSpooling device before spool → IsOut pool lease
+    → IsSpooling device pool (record spool { hand = record (spool.hand) { writer = record (spool.hand.writer) { lease = lease } } })
+spooling_with device before pool spool lease none is out = record {
+  out = out;
+  areas = is.areas;
+  few = is.few;
+  small = is.small;
+  hand = λ some. absurd (some none);
+}
+
 pub first_kept : TextsWithoutRows → (told : Bool) (device : Device) (pool : Pool) (catalog : Catalog) (replies : Replies) → device.page_count < 2 ^ 32 → IsSpooling device pool replies.spool
     → AreAreasOf catalog replies.spool.areas.items → replies.spool.hand.text ≡ 0 → replies.spool.sides.even.text ≡ 0 → replies.spool.sides.odd.text ≡ 0 → replies.is_open ≡ false
     → IsKept told device pool catalog (none_heard catalog) 1 0 replies

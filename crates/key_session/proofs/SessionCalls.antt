@@ -25,8 +25,8 @@ use Rattle.key_exec.specs.Within.{text_work}
 use Rattle.key_session.specs.Calls.{pages_of_reply, reply_pages, session_calls}
 use Rattle.key_session.specs.Counting.{is_flash, one_if}
 use Rattle.key_session.specs.Filling.{FillsPages, full_pages, pages_heard}
-use Rattle.key_session.specs.Going.{WasMoved, WasSliced, WentOn, due_by_rule}
-use Rattle.key_session.specs.Kept.{is_lost}
+use Rattle.key_session.specs.Going.{WasAmid, WasMoved, WasSliced, WentOn, due_by_rule}
+use Rattle.key_session.specs.Kept.{is_lost, with_lease}
 use Rattle.key_session.specs.Laws.{LaterTextsAreUnmarked}
 use Rattle.key_session.specs.Pacing.{Stage, AreStages, IsNextStage, RunsTakeFewCalls}
 use Rattle.key_session.specs.Spending.{CountsStay, IsServedText, SpendsCalls, spent_by, spent_for}
@@ -38,6 +38,7 @@ use Rattle.key_session.specs.declared.teller.Teller.{Teller}
 use Rattle.key_session.proofs.Attending.{unsettled}
 use Rattle.key_session.proofs.CallSums.{whole_pages, all_calls}
 use Rattle.key_session.proofs.HonestRuns.{no_flash}
+use Rattle.key_session.proofs.Leasing.{was_amid}
 use Rattle.key_session.proofs.Marking.{awaited_accepted}
 use Rattle.key_session.proofs.Settings.{stored}
 
@@ -141,9 +142,12 @@ module _ (laws : CallLaws) (told : Bool) (cat : Catalog) (database : Database) (
       its_journal : last.journal ≡ before.journal ++ moved.made ∷ []
       its_journal = journal_is ∙ ap (λ (m : Journal). before.journal ++ m) (sym moved.went)
 
+      was : WasAmid Pre told last.session.cat.now texts (before.journal ++ moved.made ∷ []) since last.side last.session.exchange.pump last.session.teller last.session.replies
+      was = was_amid Pre told texts (before.journal ++ moved.made ∷ []) since last.side last.pool last.session moved.live
+
       no_marks : marks_behind last.session.replies last.session.teller.count ≡ 0
       no_marks =
-          let telling = moved.live.amid.going.telling in
+          let telling = was.amid.going.telling in
           let none = no_flash since.flash.faults (count_by is_flash telling.reasons.reasons + marks_behind last.session.replies last.session.teller.count) last.side.flash.faults telling.reasons.counted.faults.blamed unfailed in
           omega (arith, none)
 
@@ -159,9 +163,9 @@ module _ (laws : CallLaws) (told : Bool) (cat : Catalog) (database : Database) (
           let is : text ≡ last.session.teller.count + 2 = omega (arith, e) in
           ap (is_lost last.session.replies) is ∙ none_of (is_lost last.session.replies (last.session.teller.count + 2)) second
       unmarked_from (suc (suc more)) text e =
-          let going = moved.live.amid.going in
+          let going = was.amid.going in
           let near = going.telling.near in
-          laws.later told last.side.flash last.pool last.session.cat.now (heard_in last.session.cat.now texts (before.journal ++ moved.made ∷ [])) (last.session.teller.count + 1) going.top text last.session.replies going.telling.kept (omega (arith, near, e))
+          laws.later told last.side.flash was.had last.session.cat.now (heard_in last.session.cat.now texts (before.journal ++ moved.made ∷ [])) (last.session.teller.count + 1) going.top text (with_lease was.lease last.session.replies) going.telling.kept (omega (arith, near, e))
 
       same_count : last.session.teller.count ≡ before.session.teller.count
       same_count = ap (λ (teller : Teller). teller.count) moved.teller

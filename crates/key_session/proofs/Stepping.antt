@@ -1,16 +1,16 @@
 -- A session from step to step.
-use Rattle.std.proofs.Common.{◌≡◌, ◌≤◌, ◌<◌, ◌+◌, ℕ, arith, Bool, true, false, List, [], ◌∷◌, ◌++◌, length, refl, sym, ap, ◌∙◌, subst, append-nil, Option, Some, None}
+use Rattle.std.proofs.Common.{◌≡◌, ◌≤◌, ◌<◌, ℕ, arith, Bool, true, false, List, [], ◌∷◌, ◌++◌, length, refl, sym, ap, ◌∙◌, subst, append-nil, Option, Some, None}
 use Rattle.std.specs.Prelude.{◌^◌, is_some}
 use Rattle.ghost_model.specs.core.Channel.{Catalog, Journal}
 use Rattle.ghost_model.specs.core.Asks.{asked_of}
 use Rattle.edge_traits.specs.Devices.{Device}
-use Rattle.page_pool.specs.Pools.{Pool, IsIdle, IsOut, leased, given, free_count}
+use Rattle.page_pool.specs.Pools.{Pool}
 use Rattle.ghost_model.specs.forms.Layout.{need}
 use Rattle.ghost_model.specs.laws.SchemaTrees.{IsTree}
 use Rattle.key_exec.specs.Laws.{KnowledgeIsEnough, DamageIsNeverMet}
 use Rattle.key_exec.specs.Plans.{Suffices}
 use Rattle.leakless_plan.specs.declared.plan.Plan.{Plan}
-use Rattle.key_session.specs.Kept.{lease_of}
+use Rattle.key_session.specs.Kept.{with_lease}
 use Rattle.key_session.specs.Laws.{LaterTextsAreUnmarked}
 use Rattle.channel_pump.specs.declared.state.Pump.{Pump}
 use Rattle.channel_pump.specs.Sessions as moves
@@ -22,7 +22,7 @@ use Rattle.key_session.specs.Order.{is_closed}
 use Rattle.key_session.specs.Refusing.{first_code}
 use Rattle.key_session.specs.TextOrder.{TextsComeInOrder}
 use Rattle.key_session.specs.Telling.{SessionSide, texts_left}
-use Rattle.key_session.specs.Going.{CanStep, CanRun, IsOutAlone, IsAmid, IsGoing, IsLive, leases_of, WentOn, due_in, due_by_rule}
+use Rattle.key_session.specs.Going.{IsAmid, IsGoing, IsLive, WasAmid, WentOn, due_in, due_by_rule}
 use Rattle.key_session.specs.Pacing.{HasCome, RunsTakeFewCalls}
 use Rattle.key_session.specs.declared.pace.Due.{Due}
 use Rattle.key_session.specs.declared.pace.Due.TheVariants as due
@@ -43,19 +43,13 @@ use Rattle.key_session.proofs.HonestRuns.{answers_all}
 use Rattle.key_session.proofs.Running.{IsLast, has_run}
 use Rattle.key_session.proofs.Settings.{setting}
 use Rattle.key_session.proofs.Beginning.{none_taken}
+use Rattle.key_session.proofs.Leasing.{none_running, was_amid}
 
 -- what a step needs stays where the pages of the device do
 pub still_suffices : (catalog : Catalog) (before now : Device) → now.page_count ≡ before.page_count → Suffices catalog before → Suffices catalog now
 still_suffices catalog before now same suffices = record {
   pages = (let pages : need catalog ≤ before.page_count = suffices.pages in omega (arith, pages, same));
   small = (let small : before.page_count < 2 ^ 32 = suffices.small in omega (arith, small, same));
-}
-
-pub can_still : (told : Bool) (device : Device) (pool : Pool) (old new : Session) → new.cat ≡ old.cat → new.teller ≡ old.teller → lease_of new.replies ≡ lease_of old.replies
-    → Suffices old.cat.now device → CanRun old.teller.plan told old.cat.now device pool (old.teller.count + 1) (lease_of old.replies) old.teller.running → CanStep told device pool new
-can_still told device pool old new cat teller lease suffices run = record {
-  suffices = rw cat suffices;
-  run = rw (cat, teller, lease) run;
 }
 
 -- what is due of a session is due by the rule
@@ -70,7 +64,7 @@ by_rule over order decided catalog texts journal session owed settled =
 pub by_rule_live : OverTextsAreSettled → TextsComeInOrder → TextsAreDecided → (plan : Plan) (told : Bool) (texts : List (List ℕ)) (journal : Journal) (since now : SessionSide) (pool : Pool) (session : Session)
     → IsLive plan told texts journal since now pool session → due_in session.cat.now (asked_of session.cat.now.schema texts) journal session ≡ due_by_rule session.cat.now texts journal session
 by_rule_live over order decided plan told texts journal since now pool session live =
-    by_rule over order decided session.cat.now texts journal session live.owed (λ opened. live.amid.going.settled opened)
+    by_rule over order decided session.cat.now texts journal session live.owed (λ opened. (was_amid plan told texts journal since now pool session live).amid.going.settled opened)
 
 pub come_on : (before_it made later : Journal → Type 0) (plan : Plan) (told : Bool) (texts : List (List ℕ)) (numbers : List ℕ) (since before now : SessionSide) (pool more : Pool) (old new : Session)
     → ((first then : Journal) → before_it first → made then → later (first ++ then))
@@ -114,7 +108,7 @@ come_on before_it made later plan told texts numbers since before now pool more 
 -- the live session over the catalog and the address that it was begun with
 pub record IsLiveAt (plan : Plan) (told : Bool) (cat : Catalog) (at : List ℕ) (texts : List (List ℕ)) (journal : Journal) (since now : SessionSide) (pool : Pool) (session : Session) : Type 0 where
   pub channel : moves.IsLive cat at (asked_of cat.schema texts) journal session.exchange
-  pub amid : IsAmid plan told cat texts journal since now pool session.exchange.pump session.teller session.replies
+  pub was : WasAmid plan told cat texts journal since now session.exchange.pump session.teller session.replies
   pub refusal_is : session.refusal ≡ first_code (heard_in cat texts journal).ended
 
 pub live_at : (plan : Plan) (told : Bool) (cat : Catalog) (at : List ℕ) (texts : List (List ℕ)) (journal : Journal) (since now : SessionSide) (pool : Pool) (session : Session) → session.cat.now ≡ cat → session.at.now ≡ at
@@ -122,54 +116,12 @@ pub live_at : (plan : Plan) (told : Bool) (cat : Catalog) (at : List ℕ) (texts
 live_at plan told cat at texts journal since now pool session cat_is at_is live =
     subst (λ (c : Catalog). IsLiveAt plan told c at texts journal since now pool session) cat_is
     (subst (λ (a : List ℕ). IsLiveAt plan told session.cat.now a texts journal since now pool session) at_is
-    (record { channel = live.channel; amid = live.amid; refusal_is = live.refusal_is }))
-
-none_running : (teller : Teller) → is_some teller.ahead ≡ false → is_some teller.running ≡ false
-none_running teller none = by (is_some teller.running) refl
-  where
-    true_false : true ≡ false → ⊥
-    true_false e = cc
-
-    by : (some : Bool) → is_some teller.running ≡ some → is_some teller.running ≡ false
-    by false e = e
-    by true e = absurd (true_false (sym (teller.told_now e) ∙ none))
+    (record { channel = live.channel; was = was_amid plan told texts journal since now pool session live; refusal_is = live.refusal_is }))
 
 -- where no text is left all were told
 pub all_over : (plan : Plan) (told : Bool) (cat : Catalog) (texts : List (List ℕ)) (journal : Journal) (since now : SessionSide) (pool : Pool) (pump : Pump) (teller : Teller) (kept : Replies) → is_some teller.ahead ≡ false
     → IsAmid plan told cat texts journal since now pool pump teller kept → IsGoing plan told cat texts journal since now.sink now.flash pool pump (texts_left teller) teller.count teller.counts kept
 all_over plan told cat texts journal since now pool pump teller kept none amid = none_taken plan told cat texts journal since now pool pump teller kept (none_running teller none) amid
-
--- and no buffer is out but that of the replies
-pub alone_over : (plan : Plan) (told : Bool) (cat : Catalog) (device : Device) (pool : Pool) (number lease : ℕ) (teller : Teller) → is_some teller.ahead ≡ false → CanRun plan told cat device pool number lease teller.running → IsOutAlone [] pool lease
-alone_over plan told cat device pool number lease teller none run = by teller.running (none_running teller none) run.alone
-  where
-    by : (running : Option Telling) → is_some running ≡ false → IsOutAlone (leases_of running) pool lease → IsOutAlone [] pool lease
-    by None e alone = alone
-    by (Some telling) e alone = cc
-
--- a buffer was leased of an idle pool
-pub leased_alone : (pool more : Pool) (lease : ℕ) → IsIdle pool → more ≡ leased pool lease → IsOut more lease → free_count more + 1 ≡ free_count pool → IsOutAlone [] more lease
-leased_alone pool more lease idle is out counted =
-    let size : length more.pages ≡ length pool.pages = ap (λ (p : Pool). length p.pages) is in
-    let enough : 8 ≤ length pool.pages = idle.enough in
-    record {
-      enough = omega (arith, size, enough);
-      within = out.within;
-      out = out.out;
-      free = counted ∙ (idle.free ∙ sym size);
-    }
-
-pub out_over : (pool : Pool) (lease : ℕ) → IsOutAlone [] pool lease → IsOut pool lease
-out_over pool lease alone = record { within = alone.within; out = alone.out }
-
-pub idle_over : (pool : Pool) (lease : ℕ) (more : Pool) → IsOutAlone [] pool lease → more ≡ given pool lease → free_count more ≡ free_count pool + 1 → IsIdle more
-idle_over pool lease more alone is counted =
-    let size : length more.pages ≡ length pool.pages = ap (λ (p : Pool). length p.pages) is in
-    let enough : 8 ≤ length pool.pages = alone.enough in
-    record {
-      enough = omega (arith, size, enough);
-      free = counted ∙ (alone.free ∙ sym size);
-    }
 
 pub cat_still : (old new : Session) → new.cat ≡ old.cat → new.cat.now ≡ old.cat.now
 cat_still old new e = rw e refl
@@ -195,8 +147,9 @@ last_of runs later enough never smooth prints closed cat proper tree texts few w
     let now = session_side session.teller.printer.failed faults written device in
     let live = live_at plan told cat at texts come.journal since now pool session cat_is at_is come.live in
     let finished = closed cat at (asked_of cat.schema texts) come.journal session.exchange live.channel shut in
-    let going = all_over plan told cat texts come.journal since now pool session.exchange.pump session.teller session.replies none live.amid in
-    has_run later never went link_before link_now plan told cat at texts numbers since now session.exchange come.journal going.top pool (texts_left session.teller) session.teller.count session.teller.counts session.replies tally
+    let kept = with_lease live.was.lease session.replies in
+    let going = all_over plan told cat texts come.journal since now live.was.had session.exchange.pump session.teller kept none live.was.amid in
+    has_run later never went link_before link_now plan told cat at texts numbers since now session.exchange come.journal going.top live.was.had (texts_left session.teller) session.teller.count session.teller.counts kept tally
     tree come.went live.channel finished going.telling (empty _ session.teller.ahead session.teller.texts none (session.teller.last none)) many refused faulted
     (status cat (asked_of cat.schema texts) come.journal live.channel.after live.refusal_is)
     (record { pool = pool; session = session; catalog_is = cat_is; earlier = come.earlier; stages = come.stages; ended = rw (ap is_closed shut, none) refl })

@@ -1,5 +1,5 @@
 -- A session that answers all its texts: the host is honest and holds the public part of a database, the flash holds its
--- hidden part, and neither the flash nor the sink failed.
+-- hidden part, and neither the flash nor the sink failed. And how often such a session calls the flash, whatever the sink did.
 use Rattle.std.specs.Prelude.{◌≡◌, ℕ, ◌+◌, ◌≤◌, ◌<◌, Bool, false, List}
 use Rattle.ghost_model.specs.core.Causes.{Rose, last_count}
 use Rattle.ghost_model.specs.core.Values.{Database}

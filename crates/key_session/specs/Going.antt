@@ -7,7 +7,7 @@ use Rattle.ghost_model.specs.core.Asks.{NumberedAsk, asked_of}
 use Rattle.ghost_model.specs.core.NextMove.{standing_after}
 use Rattle.ghost_model.specs.core.Replies.{replies}
 use Rattle.edge_traits.specs.Devices.{Device}
-use Rattle.page_pool.specs.Pools.{Pool, others_out}
+use Rattle.page_pool.specs.Pools.{Pool, IsIdle, IsOut, others_out}
 use Rattle.visible_spool.specs.declared.half.Half.{Half}
 use Rattle.key_lines.specs.Handing.{Handed}
 use Rattle.session_laws.specs.TextEnds.{heard_in, is_settled_in}
@@ -23,7 +23,9 @@ use Rattle.channel_pump.specs.declared.exchange.Exchange.{Exchange}
 use Rattle.key_session.specs.Filling.{FillsPages}
 use Rattle.key_session.specs.Hearing.{WritesHalf, pages_on}
 use Rattle.key_session.specs.Spending.{CountsStay, SpendsCalls}
-use Rattle.key_session.specs.Kept.{is_lost, lease_of}
+use Rattle.key_session.specs.Kept.{is_lost, lease_of, with_lease}
+use Rattle.key_session.specs.declared.buffers.Buffers.{Buffers}
+use Rattle.key_session.specs.declared.buffers.Buffers.TheVariants as buffers
 use Rattle.key_session.specs.declared.replies.Replies.{Replies}
 use Rattle.leakless_plan.specs.declared.plan.Plan.{Plan}
 use Rattle.leakless_plan.specs.declared.plan.Plan.TheVariants as plan
@@ -85,9 +87,58 @@ pub record IsSomeRun (pages_told : Bool) (device : Device) (pool : Pool) (number
   pub lease : ℕ
   pub run : CanRun by pages_told catalog device pool number lease running
 
-pub record CanStep (pages_told : Bool) (device : Device) (pool : Pool) (session : Session) : Type 0 where
+-- what a session needs that has its buffer
+pub record CanWork (pages_told : Bool) (device : Device) (pool : Pool) (session : Session) : Type 0 where
   pub suffices : Suffices session.cat.now device
   pub run : CanRun session.teller.plan pages_told session.cat.now device pool (session.teller.count + 1) (lease_of session.replies) session.teller.running
+
+-- something is due
+abbrev pub IsLeft : Session → Type 0
+IsLeft session = is_closed (want_of session.exchange.pump) ≡ true → is_some session.teller.ahead ≡ true
+
+-- before the first step
+pub record IsUnbegun (pool : Pool) (session : Session) : Type 0 where
+  pub idle : IsIdle pool
+  pub none : session.teller.running ≡ None
+  pub opened : is_closed (want_of session.exchange.pump) ≡ false
+
+pub record IsAtWork (pages_told : Bool) (device : Device) (pool : Pool) (session : Session) : Type 0 where
+  pub run : CanRun session.teller.plan pages_told session.cat.now device pool (session.teller.count + 1) (lease_of session.replies) session.teller.running
+  pub left : IsLeft session
+
+-- after the last step
+pub record IsAtEnd (pool : Pool) (session : Session) : Type 0 where
+  pub idle : IsIdle pool
+  pub closed : is_closed (want_of session.exchange.pump) ≡ true
+  pub none : is_some session.teller.ahead ≡ false
+
+-- the buffer of a session is out as long as something is due, from its first step on, and no other but those of the text that is told
+abbrev pub HasBuffers : Buffers → (pages_told : Bool) → Device → Pool → Session → Type 0
+HasBuffers buffers.Untaken pages_told device pool session = IsUnbegun pool session
+HasBuffers buffers.Taken pages_told device pool session = IsAtWork pages_told device pool session
+HasBuffers buffers.GivenBack pages_told device pool session = IsAtEnd pool session
+
+pub record CanStep (pages_told : Bool) (device : Device) (pool : Pool) (session : Session) : Type 0 where
+  pub suffices : Suffices session.cat.now device
+  pub buffers : HasBuffers session.buffers pages_told device pool session
+
+-- for a device whose pages are told or not
+pub record IsSomeStep (pool : Pool) (session : Session) : Type 0 where
+  pub told : Bool
+  pub device : Device
+  pub can : CanStep told device pool session
+
+pub record IsSomeWork (pool : Pool) (session : Session) : Type 0 where
+  pub told : Bool
+  pub device : Device
+  pub can : CanWork told device pool session
+
+-- the session with another lease
+abbrev pub leased_to : (buffers : Buffers) (lease : ℕ) → Session → Session
+leased_to buffers lease session = record session { buffers = buffers; replies = with_lease lease session.replies }
+
+abbrev pub IsLeased : (before now : Session) → Type 0
+IsLeased before now = now ≡ leased_to now.buffers (lease_of now.replies) before
 
 -- ---- how much is left at most
 
@@ -174,12 +225,25 @@ pub record IsBegun (by : Plan) (pages_told : Bool) (catalog : Catalog) (texts : 
   pub runs : teller.running ≡ Some telling
   pub taken : IsTaken by pages_told catalog texts journal teller.count state (is_lost kept (teller.count + 1)) half since.flash first now pool telling
 
+-- it was so with the buffer that the session had
+pub record WasAmid (by : Plan) (pages_told : Bool) (catalog : Catalog) (texts : List (List ℕ)) (journal : Journal) (since now : SessionSide) (pump : Pump) (teller : Teller) (kept : Replies) : Type 0 where
+  pub had : Pool
+  pub lease : ℕ
+  pub amid : IsAmid by pages_told catalog texts journal since now had pump teller (with_lease lease kept)
+
+-- so it is with any buffer before the first step, with its own as long as it has it, and so it was with that one after the last step
+abbrev pub Stands : Buffers → (by : Plan) (pages_told : Bool) → Catalog → (texts : List (List ℕ)) → Journal → (since now : SessionSide) → Pool → Pump → Teller → Replies → Type 0
+Stands buffers.Untaken by pages_told catalog texts journal since now pool pump teller kept =
+    (later : Pool) (lease : ℕ) → IsOut later lease → IsAmid by pages_told catalog texts journal since now later pump teller (with_lease lease kept)
+Stands buffers.Taken by pages_told catalog texts journal since now pool pump teller kept = IsAmid by pages_told catalog texts journal since now pool pump teller kept
+Stands buffers.GivenBack by pages_told catalog texts journal since now pool pump teller kept = WasAmid by pages_told catalog texts journal since now pump teller kept
+
 -- A session that went by a journal: its moves and its end of the channel; the texts that were told, with their lines, reasons
 -- and counts, the replies that are kept for the others, and the rows given and to come of the text that is told now; and the
 -- first ask that the host refused.
 pub record IsLive (by : Plan) (pages_told : Bool) (texts : List (List ℕ)) (journal : Journal) (since now : SessionSide) (pool : Pool) (session : Session) : Type 0 where
   pub channel : moves.IsLive session.cat.now session.at.now (asked_of session.cat.now.schema texts) journal session.exchange
-  pub amid : IsAmid by pages_told session.cat.now texts journal since now pool session.exchange.pump session.teller session.replies
+  pub amid : Stands session.buffers by pages_told session.cat.now texts journal since now pool session.exchange.pump session.teller session.replies
   pub refusal_is : session.refusal ≡ first_code (heard_in session.cat.now texts journal).ended
   -- slices are allowed only behind rows of a reply, the end of which is awaited then
   pub owed : 0 < session.pace.owed → is_some (moves.asked_in (heard_in session.cat.now texts journal).awaits) ≡ true

@@ -38,6 +38,9 @@ is_lost replies text = is_marked replies.spool.sides text
 abbrev pub lease_of : Replies → ℕ
 lease_of replies = replies.spool.hand.writer.lease
 
+abbrev pub with_lease : (lease : ℕ) → Replies → Replies
+with_lease lease replies = record replies { spool = record (replies.spool) { hand = record (replies.spool.hand) { writer = record (replies.spool.hand.writer) { lease = lease } } } }
+
 -- before the first byte
 abbrev pub none_heard : Catalog → Heard
 none_heard catalog = at_first catalog

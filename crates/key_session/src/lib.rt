@@ -6,9 +6,13 @@
 //!
 //! Rows of a reply go to the spool on the flash as they come. It has two halves: a text has that of its number's parity, so the
 //! replies of a text go over those of the text two before it.
+//!
+//! The page of the spool that is being written lies in a page buffer, which the first step takes, and which the step gives back
+//! after which nothing more is due.
 #![tactic(auto)]
 
 mod ask;
+pub mod buffers;
 mod counts;
 mod fits;
 pub mod laws;
@@ -22,6 +26,7 @@ mod teller;
 mod telling;
 mod texts;
 
+pub use buffers::Buffers;
 pub use options::Options;
 pub use pace::Due;
 pub use replies::Replies;

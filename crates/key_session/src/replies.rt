@@ -19,7 +19,7 @@ ghost use Rattle.visible_spool.specs.Sides.{is_marked, replies_of};
 ghost use Rattle.visible_spool.specs.Spools.{IsSpooling, IsNextRow, HasPushed, is_at, last_of, pages_written};
 ghost use Rattle.key_session.specs.Pushing.{CanPush, MayCome, AreNext, Writes, Ends};
 ghost use Rattle.key_session.specs.Rows.{cells_at, rows_at};
-ghost use Rattle.key_session.specs.Kept.{IsKept, none_heard, half_in, is_lost, lease_of};
+ghost use Rattle.key_session.specs.Kept.{IsKept, none_heard, half_in, is_lost, lease_of, with_lease};
 ghost use Rattle.key_session.specs.Hearing.{Hears, IsSomeHeard, HasHeard, MarkTells, pages_on, pages_tried};
 
 use crate::ask::AskAtHand;
@@ -28,6 +28,7 @@ use channel_codec::reading::size_in;
 use channel_pump::state::Event;
 use edge_traits::flash::Flash;
 use page_pool::{Lease, PagePool};
+use std::mem;
 use tree_schema::{Catalog, Schema};
 use visible_spool::{Half, Spool};
 
@@ -59,17 +60,16 @@ fn payload_of(page: &[u8; 2048]) -> &[u8]
 }
 
 impl Replies {
-    /// No replies. The lease is that of the buffer of the rows at hand.
-    pub(crate) fn begin(cat: &Catalog, lease: Lease) -> Replies
-        ensures kept { (told : Bool) (device : Device) (pool : Pool) → layout.need cat.now ≤ device.page_count → device.page_count < 2 ^ 32 → IsOut pool lease
-            → IsKept told device pool cat.now (none_heard cat.now) 1 0 result }
+    /// No replies. With any buffer for the rows at hand they are kept, and as yet they have none.
+    pub(crate) fn begin(cat: &Catalog) -> Replies
+        ensures kept { (told : Bool) (device : Device) (pool : Pool) (lease : ℕ) → layout.need cat.now ≤ device.page_count → device.page_count < 2 ^ 32 → IsOut pool lease
+            → IsKept told device pool cat.now (none_heard cat.now) 1 0 (with_lease lease result) }
         ensures closed { result.is_open ≡ false }
-        ensures lease { lease_of result ≡ lease }
         ensures unmarked { (text : ℕ) → 0 < text → is_lost result text ≡ false }
     {
         visible_spool::laws::texts_without_rows();
         Replies {
-            spool: Spool::begin(cat, lease),
+            spool: Spool::begin(cat, Lease::default()),
             hand: AskAtHand::none(),
             is_open: false,
         }
@@ -235,10 +235,18 @@ impl Replies {
         }
     }
 
-    /// Gives the lease back.
-    pub(crate) fn end(self) -> Lease
-        ensures lease { result ≡ lease_of self }
+    /// Takes the lease of the buffer of the rows at hand.
+    pub(crate) fn take(&mut self, lease: Lease)
+        ensures taken { self.new ≡ with_lease lease self.old }
     {
-        self.spool.end()
+        self.spool.hand.writer.lease = lease;
+    }
+
+    /// Gives the lease back.
+    pub(crate) fn give(&mut self) -> Lease
+        ensures lease { result ≡ lease_of self.old }
+        ensures given { self.new ≡ with_lease (lease_of self.new) self.old }
+    {
+        mem::take(&mut self.spool.hand.writer.lease)
     }
 }

@@ -28,16 +28,18 @@ ghost use Rattle.leakless_plan.specs.declared.plan.Plan.{Plan};
 ghost use Rattle.leakless_plan.specs.declared.plan.Plan.TheVariants as plan_is;
 ghost use Rattle.key_exec.specs.Plans.{Suffices};
 ghost use Rattle.key_exec.specs.Reading.{KeepsBy};
-ghost use Rattle.page_pool.specs.Pools.{Pool, IsIdle, IsOut, ChangesPage, given, free_count};
+ghost use Rattle.page_pool.specs.Pools.{Pool, IsIdle, ChangesPage};
 ghost use Rattle.key_exec.specs.Rows.{PrintsSome, TakesTurn};
-ghost use Rattle.key_session.specs.Going.{CanRun, CanStep, IsAmid, IsLive, IsNear, IsNext, IsMove, IsSomeLive, IsSomeMove, MovedOn, RunIsSpared, WasMoved, WentOn, MadeStep, due_by_rule, due_in, left_of, steps_left};
+ghost use Rattle.key_session.specs.Going.{CanRun, CanStep, CanWork, IsAmid, IsLeased, IsLeft, IsLive, IsNear, IsNext, IsMove, IsSomeLive, IsSomeMove, IsSomeStep, IsSomeWork, MovedOn, RunIsSpared, WasMoved, WentOn, MadeStep, due_by_rule, due_in, left_of, steps_left};
+ghost use Rattle.key_session.specs.declared.buffers.Buffers.TheVariants as buffers;
 ghost use Rattle.key_session.specs.Order.{IsSliced, IsUnpaced, is_closed, is_first};
 ghost use Rattle.key_session.specs.Pacing.{RunsAtPace};
-ghost use Rattle.key_session.specs.Running.{HasRun, is_sink, status_with, blames_flash, is_damaged, spares_flash};
+ghost use Rattle.key_session.specs.Running.{is_sink, status_with, blames_flash, is_damaged, spares_flash};
 ghost use Rattle.key_session.specs.Spending.{CountsStay, SpendsCalls};
 ghost use Rattle.key_session.specs.Telling.{SessionSide, session_side};
 
 use crate::Replies;
+use crate::buffers::Buffers;
 use crate::fits::replies_fit;
 use crate::laws::{kept_halves_are_halves, later_texts_are_unmarked, runs_take_few_calls};
 use crate::options::Options;
@@ -55,7 +57,7 @@ use edge_traits::sink::Sink;
 use flash_layout::limits::a_catalog_has_a_layout;
 use key_exec::laws::{damage_is_never_met, knowledge_is_enough};
 use key_lines::printer::pieces_join;
-use page_pool::{Lease, PagePool};
+use page_pool::PagePool;
 use session_laws::honest_sessions::{honest_lines_are_printed, honest_sessions_are_smooth};
 use session_laws::text_cases::{texts_are_decided, texts_have_outcomes};
 use session_laws::text_ends::{
@@ -82,20 +84,20 @@ pub struct Session<'a> {
     pub pace: Pace<'a>,
     /// The code of the first ask that the host refused.
     pub refusal: Option<u8>,
+    /// Where its page buffer is.
+    pub buffers: Buffers,
 }
 
 impl<'a> Session<'a> {
-    /// The session of a script, which has at most 64 texts, before its first step. The replies that come pass through the buffer
-    /// of the lease.
-    pub fn begin(cat: &'a Catalog, script: &'a [u8], options: &Options<'a>, lease: Lease) -> Self
+    /// The session of a script, which has at most 64 texts, before its first step.
+    pub fn begin(cat: &'a Catalog, script: &'a [u8], options: &Options<'a>) -> Self
         requires few { length (texts_of script.now) ≤ 64 }
-        ensures live { (told : Bool) (now : SessionSide) (pool : Pool) → Suffices cat.now now.flash → IsOut pool lease → IsLive options.now.plan told (texts_of script.now) [] now now pool result }
-        ensures lease { lease_of result.replies ≡ lease }
+        ensures live { (told : Bool) (now : SessionSide) (pool : Pool) → Suffices cat.now now.flash → IsLive options.now.plan told (texts_of script.now) [] now now pool result }
+        ensures can { (told : Bool) (device : Device) (pool : Pool) → Suffices cat.now device → IsIdle pool → CanStep told device pool result }
         ensures cat { result.cat.now ≡ cat.now }
         ensures at { result.at.now ≡ options.now.at.now }
         ensures plan { result.teller.plan ≡ options.now.plan }
         ensures fresh { result.teller.printer.failed ≡ false }
-        ensures running { result.teller.running ≡ None }
         ensures pace { IsUnpaced options.now.pace.now result.pace }
     {
         pieces_join();
@@ -103,10 +105,11 @@ impl<'a> Session<'a> {
             cat,
             at: options.at,
             exchange: Exchange::begin(Pump::begin(cat, script)),
-            replies: Replies::begin(cat, lease),
+            replies: Replies::begin(cat),
             teller: Teller::new(script, options.plan),
             pace: Pace::new(options.pace),
             refusal: None,
+            buffers: Buffers::Untaken,
         }
     }
 
@@ -149,7 +152,8 @@ impl<'a> Session<'a> {
         }
     }
 
-    /// Makes one step: the move or the slice that is due.
+    /// Makes one step: the move or the slice that is due. The first step takes the page buffer of the session before it, and the step
+    /// after which nothing is due gives it back.
     pub fn step<F: Flash, L: Link, O: Sink>(
         &mut self,
         pool: &mut PagePool,
@@ -157,7 +161,7 @@ impl<'a> Session<'a> {
         link: &mut L,
         out: &mut O,
     )
-        requires going { is_closed (want_of self.old.exchange.pump) ≡ true → is_some self.old.teller.ahead ≡ true }
+        requires going { IsLeft self.old }
         requires can { CanStep F.told (F.state flash.old) pool.old self.old }
         requires some { IsSomeLive F.told (session_side self.old.teller.printer.failed (O.faults out.old) (O.written out.old) (F.state flash.old)) pool.old self.old }
         ensures can { CanStep F.told (F.state flash.new) pool.new self.new }
@@ -170,6 +174,68 @@ impl<'a> Session<'a> {
         ensures fewer { steps_left self.new < steps_left self.old }
         ensures cat { self.new.cat ≡ self.old.cat }
         ensures at { self.new.at ≡ self.old.at }
+        ensures faults { L.faults link.old ≤ L.faults link.new }
+    {
+        self.take_buffers(pool);
+        self.go_on(pool, flash, link, out);
+        self.give_back(pool);
+    }
+
+    /// Takes the page buffer of the session, unless it has it.
+    fn take_buffers(&mut self, pool: &mut PagePool)
+        requires going { IsLeft self.old }
+        requires can { IsSomeStep pool.old self.old }
+        ensures can { (told : Bool) (device : Device) → CanStep told device pool.old self.old → CanWork told device pool.new self.new }
+        ensures live { (by : Plan) (told : Bool) (texts : List (List ℕ)) (journal : Journal) (since now : SessionSide) → IsLive by told texts journal since now pool.old self.old → IsLive by told texts journal since now pool.new self.new }
+        ensures taken { self.new.buffers ≡ buffers.Taken }
+        ensures same { IsLeased self.old self.new }
+    {
+        if let Buffers::Untaken = self.buffers {
+            let Some(lease) = pool.lease() else {
+                unreachable!()
+            };
+            self.replies.take(lease);
+            self.buffers = Buffers::Taken;
+        }
+    }
+
+    /// Gives the page buffer of the session back, where nothing more is due.
+    fn give_back(&mut self, pool: &mut PagePool)
+        requires taken { self.old.buffers ≡ buffers.Taken }
+        requires can { IsSomeWork pool.old self.old }
+        ensures can { (told : Bool) (device : Device) → CanWork told device pool.old self.old → CanStep told device pool.new self.new }
+        ensures live { (by : Plan) (told : Bool) (texts : List (List ℕ)) (journal : Journal) (since now : SessionSide) → IsLive by told texts journal since now pool.old self.old → IsLive by told texts journal since now pool.new self.new }
+        ensures same { IsLeased self.old self.new }
+    {
+        if let Due::Ended = self.due() {
+            pool.give(self.replies.give());
+            self.buffers = Buffers::GivenBack;
+        }
+    }
+
+    /// Makes the move or the slice that is due, with its page buffer.
+    fn go_on<F: Flash, L: Link, O: Sink>(
+        &mut self,
+        pool: &mut PagePool,
+        flash: &mut F,
+        link: &mut L,
+        out: &mut O,
+    )
+        requires going { IsLeft self.old }
+        requires taken { self.old.buffers ≡ buffers.Taken }
+        requires can { CanWork F.told (F.state flash.old) pool.old self.old }
+        requires some { IsSomeLive F.told (session_side self.old.teller.printer.failed (O.faults out.old) (O.written out.old) (F.state flash.old)) pool.old self.old }
+        ensures can { CanWork F.told (F.state flash.new) pool.new self.new }
+        ensures live { (by : Plan) (texts : List (List ℕ)) (journal : Journal) (since : SessionSide) → IsLive by F.told texts journal since (session_side self.old.teller.printer.failed (O.faults out.old) (O.written out.old) (F.state flash.old)) pool.old self.old
+            → WentOn (due_by_rule self.old.cat.now texts journal self.old) (WentBy (λ more. L.went link.old more link.new) (L.faults link.old) (L.faults link.new)) by F.told texts journal since
+            (session_side self.old.teller.printer.failed (O.faults out.old) (O.written out.old) (F.state flash.old)) (session_side self.new.teller.printer.failed (O.faults out.new) (O.written out.new) (F.state flash.new)) pool.new self.old self.new }
+        ensures made { (catalog : channel.Catalog) (asks : List NumberedAsk) (journal : Journal) → IsAfter catalog asks journal self.old.exchange.pump
+            → MadeStep (due_in catalog asks journal self.old) (session_side self.old.teller.printer.failed (O.faults out.old) (O.written out.old) (F.state flash.old)) (session_side self.new.teller.printer.failed (O.faults out.new) (O.written out.new) (F.state flash.new)) self.old self.new }
+        ensures plan { self.new.teller.plan ≡ self.old.teller.plan }
+        ensures fewer { steps_left self.new < steps_left self.old }
+        ensures cat { self.new.cat ≡ self.old.cat }
+        ensures at { self.new.at ≡ self.old.at }
+        ensures taken { self.new.buffers ≡ buffers.Taken }
         ensures faults { L.faults link.old ≤ L.faults link.new }
     {
         a_catalog_is_short(self.cat);
@@ -189,9 +255,10 @@ impl<'a> Session<'a> {
     /// Makes the next move.
     fn go<F: Flash, L: Link>(&mut self, pool: &mut PagePool, flash: &mut F, link: &mut L)
         requires going { want_of self.old.exchange.pump ≢ Want.Closed }
-        requires can { CanStep F.told (F.state flash.old) pool.old self.old }
+        requires taken { self.old.buffers ≡ buffers.Taken }
+        requires can { CanWork F.told (F.state flash.old) pool.old self.old }
         requires some { IsMove F.told self.old.cat.now self.old.at.now (F.state flash.old) pool.old self.old.exchange self.old.teller self.old.replies }
-        ensures can { CanStep F.told (F.state flash.new) pool.new self.new }
+        ensures can { CanWork F.told (F.state flash.new) pool.new self.new }
         ensures live { (by : Plan) (texts : List (List ℕ)) (journal : Journal) (since : SessionSide) (sink : Handed)
             → IsNear self.old.cat.now texts journal (self.old.teller.count + 2) → IsLive by F.told texts journal since (record { sink = sink; flash = F.state flash.old }) pool.old self.old
             → WasMoved (WentBy (λ more. L.went link.old more link.new) (L.faults link.old) (L.faults link.new)) by F.told texts journal since (record { sink = sink; flash = F.state flash.old }) (record { sink = sink; flash = F.state flash.new }) pool.new self.old self.new }
@@ -199,6 +266,7 @@ impl<'a> Session<'a> {
         ensures teller { self.new.teller ≡ self.old.teller }
         ensures cat { self.new.cat ≡ self.old.cat }
         ensures at { self.new.at ≡ self.old.at }
+        ensures taken { self.new.buffers ≡ buffers.Taken }
         ensures fewer { moves_left self.new.exchange.pump < moves_left self.old.exchange.pump }
         ensures faults { L.faults link.old ≤ L.faults link.new }
     {
@@ -220,15 +288,17 @@ impl<'a> Session<'a> {
     /// Makes a slice of the text that comes next.
     fn tell<F: Flash, O: Sink>(&mut self, pool: &mut PagePool, flash: &mut F, out: &mut O)
         requires left { is_some self.old.teller.ahead ≡ true }
-        requires can { CanStep F.told (F.state flash.old) pool.old self.old }
+        requires taken { self.old.buffers ≡ buffers.Taken }
+        requires can { CanWork F.told (F.state flash.old) pool.old self.old }
         requires some { IsSomeLive F.told (session_side self.old.teller.printer.failed (O.faults out.old) (O.written out.old) (F.state flash.old)) pool.old self.old }
-        ensures can { CanStep F.told (F.state flash.new) pool.new self.new }
+        ensures can { CanWork F.told (F.state flash.new) pool.new self.new }
         ensures live { (by : Plan) (texts : List (List ℕ)) (journal : Journal) (since : SessionSide) → IsNext self.old.cat.now texts journal self.old.exchange.pump (self.old.teller.count + 1)
             → IsLive by F.told texts journal since (session_side self.old.teller.printer.failed (O.faults out.old) (O.written out.old) (F.state flash.old)) pool.old self.old
             → IsLive by F.told texts journal since (session_side self.new.teller.printer.failed (O.faults out.new) (O.written out.new) (F.state flash.new)) pool.new self.new }
         ensures exchange { self.new.exchange ≡ self.old.exchange }
         ensures cat { self.new.cat ≡ self.old.cat }
         ensures at { self.new.at ≡ self.old.at }
+        ensures taken { self.new.buffers ≡ buffers.Taken }
         ensures turn { TakesTurn (handed self.old.teller.printer.failed (O.faults out.old) (O.written out.old)) (handed self.new.teller.printer.failed (O.faults out.new) (O.written out.new))
             (F.state flash.old).calls (F.state flash.new).calls }
         ensures few { (F.state flash.new).calls ≤ (F.state flash.old).calls + 8 }
@@ -249,26 +319,8 @@ impl<'a> Session<'a> {
         self.pace.sliced();
     }
 
-    /// Gives the buffer back, and answers what it counted and how it ended.
-    pub fn end(self, pool: &mut PagePool) -> Tally
-        requires out { IsOut pool.old (lease_of self.replies) }
-        ensures given { pool.new ≡ given pool.old (lease_of self.entry.replies) }
-        ensures counted { free_count pool.new ≡ free_count pool.old + 1 }
-        ensures texts { result.texts ≡ self.entry.teller.count }
-        ensures refused { result.refused ≡ self.entry.teller.counts.refused }
-        ensures faulted { result.faulted ≡ self.entry.teller.counts.faulted }
-        ensures sink { is_sink result.status ≡ self.entry.teller.printer.failed }
-        ensures status { (catalog : channel.Catalog) (asks : List NumberedAsk) (journal : Journal) → IsAfter catalog asks journal self.entry.exchange.pump
-            → self.entry.refusal ≡ first_code (standing_after catalog asks journal).heard.ended
-            → result.status ≡ status_with self.entry.teller.printer.failed (standing_after catalog asks journal) self.entry.teller.counts.by_flash self.entry.teller.counts.damage }
-    {
-        let tally = self.tally();
-        pool.give(self.replies.end());
-        tally
-    }
-
     /// What it counted, and how it ended.
-    fn tally(&self) -> Tally
+    pub fn tally(&self) -> Tally
         ensures texts { result.texts ≡ self.now.teller.count }
         ensures refused { result.refused ≡ self.now.teller.counts.refused }
         ensures faulted { result.faulted ≡ self.now.teller.counts.faulted }
@@ -374,9 +426,7 @@ pub fn run_session<F: Flash, L: Link, O: Sink>(
     requires few { length (texts_of script.now) ≤ 64 }
     requires suffices { Suffices cat.now (F.state flash.old) }
     requires idle { IsIdle pool.old }
-    ensures ran { HasRun (λ journal. L.went link.old journal link.new) (L.faults link.old) (L.faults link.new) options.now.plan F.told cat.now options.now.at.now (texts_of script.now)
-        (session_side false (O.faults out.old) (O.written out.old) (F.state flash.old)) (session_side (is_sink result.status) (O.faults out.new) (O.written out.new) (F.state flash.new)) result }
-    ensures paced { RunsAtPace options.now.pace.now (λ journal. L.went link.old journal link.new) (L.faults link.old) (L.faults link.new) options.now.plan F.told cat.now options.now.at.now (texts_of script.now)
+    ensures ran { RunsAtPace options.now.pace.now (λ journal. L.went link.old journal link.new) (L.faults link.old) (L.faults link.new) options.now.plan F.told cat.now options.now.at.now (texts_of script.now)
         (session_side false (O.faults out.old) (O.written out.old) (F.state flash.old)) (session_side (is_sink result.status) (O.faults out.new) (O.written out.new) (F.state flash.new)) result }
     ensures texts { result.texts ≡ length (texts_of script.now) }
     ensures prints { PrintsSome (handed false (O.faults out.old) (O.written out.old)) (handed (is_sink result.status) (O.faults out.new) (O.written out.new)) }
@@ -403,13 +453,10 @@ pub fn run_session<F: Flash, L: Link, O: Sink>(
     knowledge_is_enough();
     damage_is_never_met();
     runs_take_few_calls();
-    let Some(lease) = pool.lease() else {
-        unreachable!()
-    };
-    let mut session = Session::begin(cat, script, options, lease);
+    let mut session = Session::begin(cat, script, options);
     'steps: loop {
         match session.due() {
-            Due::Ended => return session.end(pool),
+            Due::Ended => return session.tally(),
             Due::Move | Due::Slice => session.step(pool, flash, link, out),
         }
     }

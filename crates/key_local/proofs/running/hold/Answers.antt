@@ -19,7 +19,7 @@ end_of-requires g c =
     let cat = c.args.cat.now in
     let texts = texts_of c.args.script.now in
     let is = c.a_catalog_is_short.ensures.catalog in
-    let ran = c.run_session-tally.ensures.ran in
+    let ran = c.run_session-tally.ensures.ran.ran in
     let some = c.requires.hosted in
     let setting = setting_of cat texts is c.requires.few in
     let goes = c.sessions_are_local.ensures.is_local cat some.database [] texts ran.journal _ _ setting some.stored ran.proper ran.went.moved some.hosted.is_sure some.hosted.at_first in
@@ -35,7 +35,7 @@ returns-clause-ran g c = λ database stored hosted known.
     let cat = c.args.cat.now in
     let texts = texts_of c.args.script.now in
     let is = c.a_catalog_is_short.ensures.catalog in
-    let ran = c.run_session-tally.ensures.paced.ran in
+    let ran = c.run_session-tally.ensures.ran.ran in
     let setting = setting_of cat texts is c.requires.few in
     let goes = c.sessions_are_local.ensures.is_local cat database [] texts ran.journal _ _ setting stored ran.proper ran.went.moved hosted.is_sure hosted.at_first in
     let wrote = c.proper_journals_are_written.ensures.written cat [] texts ran.journal _ _ setting ran.proper ran.went in
@@ -43,7 +43,7 @@ returns-clause-ran g c = λ database stored hosted known.
     goes.is_local ran.finished
     (subst (λ (numbers : List ℕ). KeepsPace c.args.words.now.plan g.F.Flash.told cat texts ran.journal numbers
     (session_side false (g.O.Sink.faults c.args.out.now) (g.O.Sink.written c.args.out.now) (g.F.Flash.state c.args.flash.now))
-    (session_side (is_sink c.run_session-tally.result.status) (g.O.Sink.faults c.run_session-tally.new.out) (g.O.Sink.written c.run_session-tally.new.out) (g.F.Flash.state c.run_session-tally.new.flash))) c.as_slice.ensures.value c.run_session-tally.ensures.paced.paced)
+    (session_side (is_sink c.run_session-tally.result.status) (g.O.Sink.faults c.run_session-tally.new.out) (g.O.Sink.written c.run_session-tally.new.out) (g.F.Flash.state c.run_session-tally.new.flash))) c.as_slice.ensures.value c.run_session-tally.ensures.ran.paced)
     (λ calm. lines_kept _ ran.journal _ _ wrote c.requires.going calm)
     (λ fine. lines_written _ ran.journal _ _ wrote (sym c.failed.ensures.failed ∙ c.end_of.ensures.no_depot (ap clears_journal fine)))
     (λ t. let knows = known t in

@@ -1,15 +1,18 @@
-use Rattle.std.proofs.Common.{◌+◌, ℕ, arith, refl, sym, subst}
+use Rattle.std.proofs.Common.{◌+◌, ◌++◌, ◌∷◌, [], ℕ, arith, refl, sym, subst}
 use Rattle.leakless_plan.specs.declared.plan.Plan.{Plan}
 use Rattle.key_session.specs.Kept.{lease_of}
-use Rattle.key_session.specs.Going.{CanRun}
+use Rattle.key_session.specs.Going.{CanRun, Stands}
+use Rattle.key_session.specs.declared.buffers.Buffers.{Buffers}
+use Rattle.key_session.proofs.Leasing.{taken_amid}
 use Rattle.key_session.proofs.Attending.{owed_behind}
 use Rattle.key_session.proofs.Stepping.{still_suffices}
 use Rattle.key_session.proofs.session.Session.go.Goals as goal
 
 pub returns-clause-live : goal.returns-clause-live
 returns-clause-live g c = λ plan texts journal since sink near live.
-    let run = subst (λ (by : Plan). CanRun by g.F.Flash.told c.args.self.now.cat.now (g.F.Flash.state c.args.flash.now) c.args.pool.now (c.args.self.now.teller.count + 1) (lease_of c.args.self.now.replies) c.args.self.now.teller.running) live.amid.plan c.requires.can.run in
-    let moved = c.make_move-refusal.ensures.moved plan texts journal since sink c.args.self.now.teller c.spared.ensures.spared near live.channel live.amid live.refusal_is run in
+    let amid = taken_amid plan g.F.Flash.told texts journal since (record { sink = sink; flash = g.F.Flash.state c.args.flash.now }) c.args.pool.now c.args.self.now c.requires.taken live in
+    let run = subst (λ (by : Plan). CanRun by g.F.Flash.told c.args.self.now.cat.now (g.F.Flash.state c.args.flash.now) c.args.pool.now (c.args.self.now.teller.count + 1) (lease_of c.args.self.now.replies) c.args.self.now.teller.running) amid.plan c.requires.can.run in
+    let moved = c.make_move-refusal.ensures.moved plan texts journal since sink c.args.self.now.teller c.spared.ensures.spared near live.channel amid live.refusal_is run in
     record {
       made = moved.made;
       went = moved.went;
@@ -23,7 +26,8 @@ returns-clause-live g c = λ plan texts journal since sink near live.
       teller = refl;
       live = record {
         channel = moved.channel;
-        amid = moved.amid;
+        amid = subst (λ (b : Buffers). Stands b plan g.F.Flash.told c.args.self.now.cat.now texts (journal ++ moved.made ∷ []) since (record { sink = sink; flash = g.F.Flash.state c.make_move-refusal.new.flash }) c.make_move-refusal.new.pool
+            c.make_move-refusal.new.exchange.pump c.args.self.now.teller c.make_move-refusal.new.replies) (sym c.requires.taken) moved.amid;
         refusal_is = moved.refusal_is;
         owed = owed_behind c.args.self.now.cat.now _ c.make_move-refusal.result.1 _ _ _ _ _ moved.tells moved.same_ask c.moved.ensures.paced.owed;
       };

@@ -4,7 +4,9 @@ use Rattle.key_exec.specs.Rows.{TakesTurn}
 use Rattle.key_session.specs.Telling.{session_side}
 use Rattle.session_laws.specs.TextEnds.{heard_in}
 use Rattle.key_session.specs.Kept.{lease_of}
-use Rattle.key_session.specs.Going.{CanRun, IsBegun}
+use Rattle.key_session.specs.Going.{CanRun, IsBegun, Stands}
+use Rattle.key_session.specs.declared.buffers.Buffers.{Buffers}
+use Rattle.key_session.proofs.Leasing.{taken_amid}
 use Rattle.leakless_plan.specs.declared.plan.Plan.{Plan}
 use Rattle.leakless_plan.specs.declared.plan.Plan.TheVariants.{Pre}
 use Rattle.key_session.specs.Spending.{IsServedText}
@@ -16,8 +18,9 @@ use Rattle.key_session.proofs.session.Session.tell.Goals as goal
 pub go_on-requires-clause-can : goal.go_on-requires-clause-can
 go_on-requires-clause-can g c =
     let some = c.requires.some in
-    let half = c.kept_halves_are_halves.ensures.half g.F.Flash.told (g.F.Flash.state c.args.flash.now) c.args.pool.now c.args.self.now.cat.now (heard_in c.args.self.now.cat.now some.texts some.journal) (c.args.self.now.teller.count + 1) some.live.amid.going.top
-    (c.args.self.now.teller.count + 1) c.args.self.now.replies some.live.amid.going.telling.kept (omega arith) in
+    let amid = taken_amid some.by g.F.Flash.told some.texts some.journal some.since _ c.args.pool.now c.args.self.now c.requires.taken some.live in
+    let half = c.kept_halves_are_halves.ensures.half g.F.Flash.told (g.F.Flash.state c.args.flash.now) c.args.pool.now c.args.self.now.cat.now (heard_in c.args.self.now.cat.now some.texts some.journal) (c.args.self.now.teller.count + 1) amid.going.top
+    (c.args.self.now.teller.count + 1) c.args.self.now.replies amid.going.telling.kept (omega arith) in
     record {
       by = c.args.self.now.teller.plan;
       catalog = c.args.self.now.cat.now;
@@ -28,8 +31,9 @@ go_on-requires-clause-can g c =
 pub returns-clause-can : goal.returns-clause-can
 returns-clause-can g c =
     let some = c.requires.some in
-    let half = c.kept_halves_are_halves.ensures.half g.F.Flash.told (g.F.Flash.state c.args.flash.now) c.args.pool.now c.args.self.now.cat.now (heard_in c.args.self.now.cat.now some.texts some.journal) (c.args.self.now.teller.count + 1) some.live.amid.going.top
-    (c.args.self.now.teller.count + 1) c.args.self.now.replies some.live.amid.going.telling.kept (omega arith) in
+    let amid = taken_amid some.by g.F.Flash.told some.texts some.journal some.since _ c.args.pool.now c.args.self.now c.requires.taken some.live in
+    let half = c.kept_halves_are_halves.ensures.half g.F.Flash.told (g.F.Flash.state c.args.flash.now) c.args.pool.now c.args.self.now.cat.now (heard_in c.args.self.now.cat.now some.texts some.journal) (c.args.self.now.teller.count + 1) amid.going.top
+    (c.args.self.now.teller.count + 1) c.args.self.now.replies amid.going.telling.kept (omega arith) in
     let run = c.take_up.ensures.can g.F.Flash.told (g.F.Flash.state c.args.flash.now) c.args.pool.now (lease_of c.args.self.now.replies) c.requires.can.suffices half c.requires.can.run in
     let keeps = keeps_spool c.args.self.now.teller.plan c.args.self.now.cat.now (g.F.Flash.state c.args.flash.now) (g.F.Flash.state c.go_on.new.flash) (c.go_on.ensures.kept c.args.self.now.teller.plan c.args.self.now.cat.now (lease_of c.args.self.now.replies) run) in
     record {
@@ -41,27 +45,31 @@ returns-clause-can g c =
 pub returns-clause-kept : goal.returns-clause-kept
 returns-clause-kept g c =
     let some = c.requires.some in
-    let half = c.kept_halves_are_halves.ensures.half g.F.Flash.told (g.F.Flash.state c.args.flash.now) c.args.pool.now c.args.self.now.cat.now (heard_in c.args.self.now.cat.now some.texts some.journal) (c.args.self.now.teller.count + 1) some.live.amid.going.top
-    (c.args.self.now.teller.count + 1) c.args.self.now.replies some.live.amid.going.telling.kept (omega arith) in
+    let amid = taken_amid some.by g.F.Flash.told some.texts some.journal some.since _ c.args.pool.now c.args.self.now c.requires.taken some.live in
+    let half = c.kept_halves_are_halves.ensures.half g.F.Flash.told (g.F.Flash.state c.args.flash.now) c.args.pool.now c.args.self.now.cat.now (heard_in c.args.self.now.cat.now some.texts some.journal) (c.args.self.now.teller.count + 1) amid.going.top
+    (c.args.self.now.teller.count + 1) c.args.self.now.replies amid.going.telling.kept (omega arith) in
     c.go_on.ensures.kept c.args.self.now.teller.plan c.args.self.now.cat.now (lease_of c.args.self.now.replies)
     (c.take_up.ensures.can g.F.Flash.told (g.F.Flash.state c.args.flash.now) c.args.pool.now (lease_of c.args.self.now.replies) c.requires.can.suffices half c.requires.can.run)
 
 pub returns-clause-live : goal.returns-clause-live
 returns-clause-live g c = λ plan texts journal since next live.
     let side = session_side c.args.self.now.teller.printer.failed (g.O.Sink.faults c.args.out.now) (g.O.Sink.written c.args.out.now) (g.F.Flash.state c.args.flash.now) in
+    let amid = taken_amid plan g.F.Flash.told texts journal since side c.args.pool.now c.args.self.now c.requires.taken live in
     let begun = c.take_up.ensures.told plan g.F.Flash.told texts journal since side c.args.pool.now c.requires.can.suffices live.channel.bytes
-    (subst (λ (by : Plan). CanRun by g.F.Flash.told c.args.self.now.cat.now (g.F.Flash.state c.args.flash.now) c.args.pool.now (c.args.self.now.teller.count + 1) (lease_of c.args.self.now.replies) c.args.self.now.teller.running) live.amid.plan c.requires.can.run)
-    live.channel.after next live.amid in
-    let half = c.kept_halves_are_halves.ensures.half g.F.Flash.told (g.F.Flash.state c.args.flash.now) c.args.pool.now c.args.self.now.cat.now (heard_in c.args.self.now.cat.now texts journal) (c.args.self.now.teller.count + 1) live.amid.going.top
-    (c.args.self.now.teller.count + 1) c.args.self.now.replies live.amid.going.telling.kept (omega arith) in
-    let run = subst (λ (by : Plan). CanRun by g.F.Flash.told c.args.self.now.cat.now (g.F.Flash.state c.args.flash.now) c.args.pool.now (c.take_up.new.self.count + 1) (lease_of c.args.self.now.replies) c.take_up.new.self.running) live.amid.plan
+    (subst (λ (by : Plan). CanRun by g.F.Flash.told c.args.self.now.cat.now (g.F.Flash.state c.args.flash.now) c.args.pool.now (c.args.self.now.teller.count + 1) (lease_of c.args.self.now.replies) c.args.self.now.teller.running) amid.plan c.requires.can.run)
+    live.channel.after next amid in
+    let half = c.kept_halves_are_halves.ensures.half g.F.Flash.told (g.F.Flash.state c.args.flash.now) c.args.pool.now c.args.self.now.cat.now (heard_in c.args.self.now.cat.now texts journal) (c.args.self.now.teller.count + 1) amid.going.top
+    (c.args.self.now.teller.count + 1) c.args.self.now.replies amid.going.telling.kept (omega arith) in
+    let run = subst (λ (by : Plan). CanRun by g.F.Flash.told c.args.self.now.cat.now (g.F.Flash.state c.args.flash.now) c.args.pool.now (c.take_up.new.self.count + 1) (lease_of c.args.self.now.replies) c.take_up.new.self.running) amid.plan
     (c.take_up.ensures.can g.F.Flash.told (g.F.Flash.state c.args.flash.now) c.args.pool.now (lease_of c.args.self.now.replies) c.requires.can.suffices half c.requires.can.run) in
     record {
       channel = live.channel;
-      amid = c.go_on.ensures.told plan c.args.self.now.cat.now texts journal since c.args.self.now.exchange.pump c.args.self.now.replies c.a_catalog_has_a_layout.ensures.layout.tree run
+      amid = subst (λ (b : Buffers). Stands b plan g.F.Flash.told c.args.self.now.cat.now texts journal since
+          (session_side c.go_on.new.self.printer.failed (g.O.Sink.faults c.go_on.new.out) (g.O.Sink.written c.go_on.new.out) (g.F.Flash.state c.go_on.new.flash)) c.go_on.new.pool c.args.self.now.exchange.pump c.go_on.new.self c.args.self.now.replies)
+          (sym c.requires.taken) (c.go_on.ensures.told plan c.args.self.now.cat.now texts journal since c.args.self.now.exchange.pump c.args.self.now.replies c.a_catalog_has_a_layout.ensures.layout.tree run
           (subst (λ (failed : Bool). IsBegun plan g.F.Flash.told c.args.self.now.cat.now texts journal since
           (session_side failed (g.O.Sink.faults c.args.out.now) (g.O.Sink.written c.args.out.now) (g.F.Flash.state c.args.flash.now)) c.args.pool.now c.args.self.now.exchange.pump c.take_up.new.self c.args.self.now.replies)
-          (sym c.take_up.ensures.printer) begun);
+          (sym c.take_up.ensures.printer) begun));
       refusal_is = live.refusal_is;
       owed = λ some. (let is = c.sliced.ensures.sliced.owed in live.owed (omega (arith, is, some)));
     }
@@ -81,12 +89,13 @@ returns-clause-fewer g c =
 pub returns-clause-spends : goal.returns-clause-spends
 returns-clause-spends g c = λ texts journal since next live database served unfailed less.
     let side = session_side c.args.self.now.teller.printer.failed (g.O.Sink.faults c.args.out.now) (g.O.Sink.written c.args.out.now) (g.F.Flash.state c.args.flash.now) in
+    let amid = taken_amid Pre g.F.Flash.told texts journal since side c.args.pool.now c.args.self.now c.requires.taken live in
     let begun = c.take_up.ensures.told Pre g.F.Flash.told texts journal since side c.args.pool.now c.requires.can.suffices live.channel.bytes
-    (subst (λ (by : Plan). CanRun by g.F.Flash.told c.args.self.now.cat.now (g.F.Flash.state c.args.flash.now) c.args.pool.now (c.args.self.now.teller.count + 1) (lease_of c.args.self.now.replies) c.args.self.now.teller.running) live.amid.plan c.requires.can.run)
-    live.channel.after next live.amid in
-    let half = c.kept_halves_are_halves.ensures.half g.F.Flash.told (g.F.Flash.state c.args.flash.now) c.args.pool.now c.args.self.now.cat.now (heard_in c.args.self.now.cat.now texts journal) (c.args.self.now.teller.count + 1) live.amid.going.top
-    (c.args.self.now.teller.count + 1) c.args.self.now.replies live.amid.going.telling.kept (omega arith) in
-    let run = subst (λ (by : Plan). CanRun by g.F.Flash.told c.args.self.now.cat.now (g.F.Flash.state c.args.flash.now) c.args.pool.now (c.take_up.new.self.count + 1) (lease_of c.args.self.now.replies) c.take_up.new.self.running) live.amid.plan
+    (subst (λ (by : Plan). CanRun by g.F.Flash.told c.args.self.now.cat.now (g.F.Flash.state c.args.flash.now) c.args.pool.now (c.args.self.now.teller.count + 1) (lease_of c.args.self.now.replies) c.args.self.now.teller.running) amid.plan c.requires.can.run)
+    live.channel.after next amid in
+    let half = c.kept_halves_are_halves.ensures.half g.F.Flash.told (g.F.Flash.state c.args.flash.now) c.args.pool.now c.args.self.now.cat.now (heard_in c.args.self.now.cat.now texts journal) (c.args.self.now.teller.count + 1) amid.going.top
+    (c.args.self.now.teller.count + 1) c.args.self.now.replies amid.going.telling.kept (omega arith) in
+    let run = subst (λ (by : Plan). CanRun by g.F.Flash.told c.args.self.now.cat.now (g.F.Flash.state c.args.flash.now) c.args.pool.now (c.take_up.new.self.count + 1) (lease_of c.args.self.now.replies) c.take_up.new.self.running) amid.plan
     (c.take_up.ensures.can g.F.Flash.told (g.F.Flash.state c.args.flash.now) c.args.pool.now (lease_of c.args.self.now.replies) c.requires.can.suffices half c.requires.can.run) in
     same_spent c.args.self.now.cat.now.schema database texts c.args.self.now.teller c.take_up.new.self c.take_up.ensures.count c.take_up.ensures.unspent (g.F.Flash.state c.go_on.new.flash).calls _
     (c.go_on.ensures.spends c.args.self.now.cat.now texts journal since c.args.self.now.exchange.pump c.args.self.now.replies c.a_catalog_has_a_layout.ensures.layout.tree run
