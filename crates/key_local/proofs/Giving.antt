@@ -23,7 +23,7 @@ use Rattle.key_session.specs.Refusing.{first_code}
 use Rattle.key_session.specs.Running.{blames_flash, is_sink as wrote_none, is_damaged as is_damage}
 use Rattle.key_session.specs.Damages.{IsSlot}
 use Rattle.leakless_plan.specs.declared.plan.Plan.{Plan}
-use Rattle.leakless_plan.specs.declared.plan.Plan.TheVariants.{Pre}
+use Rattle.key_exec.specs.Plans.{by_pre}
 use Rattle.key_session.specs.Calls.{session_calls}
 use Rattle.key_exec.specs.Laws.{DamageStays, KeepsStatic}
 use Rattle.key_exec.specs.declared.damage.Damage.{Damage}
@@ -101,7 +101,7 @@ pub ran_over : (by : Plan) (pace : List ℕ) (told : Bool) (catalog : Catalog) (
     → is_sink end ≡ wrote_none tally.status → (end ≡ ends.Ok → tally.status ≡ status.Ok) → (end ≡ ends.Flash → blames_flash tally.status ≡ true)
     → (blames_flash tally.status ≡ true → Rose before.device.calls after.device.calls) → (is_damage tally.status ≡ true → Rose before.device.calls after.device.calls)
     → ((damage : Damage) → end ≡ ends.Damaged damage → tally.status ≡ status.Damaged damage)
-    → (told ≡ true → by ≡ Pre → (Rose before.device.faults after.device.faults → ⊥) → after.device.calls < last_count
+    → (told ≡ true → by ≡ by_pre → (Rose before.device.faults after.device.faults → ⊥) → after.device.calls < last_count
     → after.device.calls ≤ before.device.calls + session_calls catalog.schema database texts)
     → RanOver by pace told catalog database texts name end before after
 ran_over by pace told catalog database texts name end tally before after journal served given stays_damaged tree is_local finished paced kept all_kept are_told lines blamed pages sink whole flash called read damaged few =

@@ -10,7 +10,7 @@ use Rattle.ghost_model.specs.core.Honest.{IsCatalogOf}
 use Rattle.ghost_model.specs.core.Values.{Database}
 use Rattle.session_laws.specs.Local.{IsLocal, holding_of}
 use Rattle.leakless_plan.specs.declared.plan.Plan.{Plan}
-use Rattle.leakless_plan.specs.declared.plan.Plan.TheVariants as plan
+use Rattle.key_exec.specs.Plans.{by_pre}
 use Rattle.edge_traits.specs.Files.{Files}
 use Rattle.edge_traits.specs.Written.{grown}
 use Rattle.local_links.specs.Journaling.{told_file}
@@ -69,8 +69,8 @@ pub record RanOver (by : Plan) (pace : List ℕ) (told : Bool) (catalog : Catalo
   pub lines : GivesLines catalog texts journal (handed false before.sink_faults before.written) (handed (is_sink end) after.sink_faults after.written)
   pub gives : told ≡ true → Gives catalog.schema database texts (session_side_in false before) (session_side_in (is_sink end) after)
   pub printed_all : told ≡ true → end ≡ ends.Ok → after.written ≡ grown before.written (printed catalog.schema texts database)
-  -- by the indexes, where the flash does not fail, it is called no more often than the texts take
-  pub few_calls : told ≡ true → by ≡ plan.Pre → (Rose before.device.faults after.device.faults → ⊥) → after.device.calls < last_count
+  -- by the plan `pre`, where the flash does not fail, it is called no more often than the texts take
+  pub few_calls : told ≡ true → by ≡ by_pre → (Rose before.device.faults after.device.faults → ⊥) → after.device.calls < last_count
       → after.device.calls ≤ before.device.calls + session_calls catalog.schema database texts
   pub cut : (t : told ≡ true) → end ≡ ends.Flash → list_any is_cut (gives t).given ≡ true
   pub called : end ≡ ends.Flash → Rose before.device.calls after.device.calls

@@ -18,7 +18,7 @@ use Rattle.session_laws.specs.Local.{IsLocal}
 use Rattle.edge_traits.specs.Devices.{Device}
 use Rattle.edge_traits.specs.Files.{Files, HasFile, SameBut}
 use Rattle.edge_traits.specs.Written.{grown}
-use Rattle.leakless_plan.specs.declared.plan.Plan.TheVariants as plan
+use Rattle.key_exec.specs.Plans.{by_pre}
 use Rattle.key_session.specs.Calls.{session_calls}
 use Rattle.key_session.specs.Pacing.{KeepsPace}
 use Rattle.key_session.specs.Damages.{IsSlot}
@@ -111,8 +111,8 @@ pub record Ran (told : Bool) (one : Subject) (end : LocalEnd) (before after : Lo
   -- each text has its lines, or a front of them where the flash failed
   pub gives : told ≡ true → Gives one.schema one.database one.texts (session_side_in false before) (session_side_in (is_sink end) after)
   pub printed_all : told ≡ true → end ≡ ends.Ok → after.written ≡ grown before.written (printed one.schema one.texts one.database)
-  -- by the indexes, where the flash does not fail, it is called no more often than the making and the texts take
-  pub few_calls : told ≡ true → one.words.plan ≡ plan.Pre → (Rose before.device.faults after.device.faults → ⊥) → after.device.calls < last_count
+  -- by the plan `pre`, where the flash does not fail, it is called no more often than the making and the texts take
+  pub few_calls : told ≡ true → one.words.plan ≡ by_pre → (Rose before.device.faults after.device.faults → ⊥) → after.device.calls < last_count
       → after.device.calls ≤ before.device.calls + (load_calls (catalog_in one) (hidden_of one.schema one.database) + session_calls one.schema one.database one.texts)
   -- the flash is blamed only where it failed a text
   pub cut : (t : told ≡ true) → end ≡ ends.Flash → list_any is_cut (gives t).given ≡ true

@@ -31,7 +31,7 @@ use Rattle.key_lines.specs.Handing.{Handed, PiecesJoin}
 use Rattle.candidate_rows.specs.Laws.{WholeRepliesAreToAsks}
 use Rattle.edge_traits.proofs.DeviceFrames.{changes_kept}
 use Rattle.leakless_plan.specs.declared.plan.Plan.{Plan}
-use Rattle.leakless_plan.specs.declared.plan.Plan.TheVariants.{Scan, Pre}
+use Rattle.leakless_plan.specs.declared.plan.Plan.TheVariants.{Scan, Linked}
 use Rattle.key_exec.specs.Reading.{KeepsBy}
 use Rattle.key_exec.specs.Laws.{WholeRepliesAreOfAsked, WholeRepliesAreOfAll}
 use Rattle.key_exec.specs.Texts.{IsAccepted, IsDone, ToldTells}
@@ -155,7 +155,7 @@ none_taken plan pages_told catalog texts journal since now pool pump teller stor
 
 pub keeps_spool : (plan : Plan) (catalog : Catalog) (before now : Device) → KeepsBy plan catalog before now → ChangesOnly (spool_end catalog) (need catalog) before now
 keeps_spool Scan catalog before now keeps = changes_kept keeps _ _
-keeps_spool Pre catalog before now keeps = keeps
+keeps_spool (Linked forced) catalog before now keeps = keeps
 
 pub telling_spared : (plan : Plan) (pages_told : Bool) (catalog : Catalog) (texts : List (List ℕ)) (journal : Journal) (top : ℕ) (since : SessionSide) (sink : Handed) (before now : Device) (pool more : Pool) (left : List (List ℕ)) (count : ℕ) (counts : Counts) (store : Replies)
     → ChangesOnly (spool_end catalog) (need catalog) before now → now.faults ≡ before.faults → IsKept pages_told now more catalog (heard_in catalog texts journal) (count + 1) top store

@@ -26,7 +26,7 @@ use Rattle.key_session.specs.Laws.{LaterTextsAreUnmarked, LowRises}
 use Rattle.key_session.specs.declared.replies.Replies.{Replies}
 use Rattle.key_lines.specs.Handing.{PiecesJoin}
 use Rattle.leakless_plan.specs.declared.plan.Plan.{Plan}
-use Rattle.leakless_plan.specs.declared.plan.Plan.TheVariants.{Scan, Pre}
+use Rattle.leakless_plan.specs.declared.plan.Plan.TheVariants.{Scan, Linked}
 use Rattle.key_exec.specs.Laws.{KeepsStatic, PagesStayKnownBut, DamageStays}
 use Rattle.key_exec.specs.Reading.{KnowsButBy}
 use Rattle.key_exec.specs.Texts.{IsDone, ToldTells, ToldBlames, ToldReads, Why}
@@ -114,13 +114,13 @@ blamed_first stays plan pages_told page now catalog text side half (told.Damaged
 -- what is known is known of pages that are told
 told_known : (plan : Plan) (pages_told : Bool) (page : ℕ → List ℕ) (catalog : Catalog) (database : Database) → KnowsButBy plan pages_told page catalog database → pages_told ≡ true
 told_known Scan pages_told page catalog database knows = knows.is_told
-told_known Pre pages_told page catalog database knows = knows.0.is_told
+told_known (Linked forced) pages_told page catalog database knows = knows.0.is_told
 
 -- and the replies of a text are there
 are_there : (plan : Plan) (pages_told : Bool) (page : ℕ → List ℕ) (catalog : Catalog) (text : List ℕ) (state : ReplyState) (marked : Bool) (half : Half) (given : List Reply)
     → (IsDone state marked false → pages_told ≡ true → AreRepliesOf page catalog text half given) → AreThere plan pages_told page catalog text state marked half
 are_there Scan pages_told page catalog text state marked half given are = tt
-are_there Pre pages_told page catalog text state marked half given are = λ done is_told. record { replies = given; are = are done is_told }
+are_there (Linked forced) pages_told page catalog text state marked half given are = λ done is_told. record { replies = given; are = are done is_told }
 
 -- what the laws say of the pages
 pub record PageLaws : Type 0 where

@@ -8,7 +8,7 @@ use Rattle.edge_traits.specs.Devices.{Device, GaveSince}
 use Rattle.flash_pages.specs.Reads as reads
 use Rattle.ghost_model.specs.forms.Runs as runs
 use Rattle.leakless_plan.specs.declared.plan.Plan.{Plan}
-use Rattle.leakless_plan.specs.declared.plan.Plan.TheVariants.{Scan, Pre}
+use Rattle.leakless_plan.specs.declared.plan.Plan.TheVariants.{Scan, Linked}
 use Rattle.key_exec.specs.Blaming.{WasDamaged}
 use Rattle.key_exec.specs.Texts.{ToldReads, WasDamagedFor}
 use Rattle.key_exec.specs.declared.damage.Damage.{Damage}
@@ -30,8 +30,8 @@ module _ (early since : ℕ) (before now : Device) (earlier : early ≤ since) (
 
   damage_on : (plan : Plan) (pages_told : Bool) (catalog : Catalog) (asked : Query) (top side : ℕ) (half : Half) (number slot found : ℕ)
       → WasDamaged plan pages_told since before catalog asked top side half number slot found → WasDamaged plan pages_told early now catalog asked top side half number slot found
-  damage_on Pre pages_told catalog asked top side half number slot found was = record {
-    was = record { bytes = was.was.bytes; gave = gave_on was.was.bytes number was.was.gave; width = was.was.width; found_is = was.was.found_is };
+  damage_on (Linked forced) pages_told catalog asked top side half number slot found was = record {
+    was = record { bytes = was.was.bytes; gave = gave_on was.was.bytes number was.was.gave; width = was.was.width; some = was.was.some; within = was.was.within; found_is = was.was.found_is };
     page = was.page;
   }
   damage_on Scan pages_told catalog asked top side half number slot found (inl was) = inl (record {

@@ -1,4 +1,4 @@
--- How often a whole session calls the flash, where its texts are answered by the indexes.
+-- How often a whole session calls the flash, where its texts are answered by the plan `pre`.
 use Rattle.std.proofs.Common.{◌≡◌, ℕ, zero, suc, ◌+◌, ◌-◌, ◌*◌, ◌≤◌, ◌<◌, min, arith, not, ◌&&◌, ◌||◌, Bool, true, false, List, [], ◌∷◌, ◌++◌, length, take, refl, sym, ◌∙◌, ap, subst, append-nil, append_assoc, Option, Some, None, Ok, slice_get}
 use Rattle.std.specs.Prelude.{sum_by, count_by, is_err, Result, Err}
 use Rattle.std.proofs.lemmas.List.Sums.{sum_by-append}
@@ -16,7 +16,7 @@ use Rattle.ghost_model.specs.core.Replies.{replies}
 use Rattle.channel_pump.specs.Progress.{Tells}
 use Rattle.channel_pump.specs.Sessions.{asked_in}
 use Rattle.leakless_plan.specs.declared.plan.Plan.{Plan}
-use Rattle.leakless_plan.specs.declared.plan.Plan.TheVariants.{Pre}
+use Rattle.key_exec.specs.Plans.{by_pre}
 use Rattle.session_laws.specs.HonestSessions.{IsHonestSession, HonestAsksAreDone, HonestSessionsAreSmooth, HonestAsksAreRepliedWhole, HonestTextsAreRepliedWhole, AreRepliedWhole, replies_in}
 use Rattle.session_laws.specs.TextCases.{TextsAreDecided, is_refused_in}
 use Rattle.session_laws.specs.TextEnds.{EndedTextsStay, OverTextsAreSettled, AsksAreAwaitedInOrder, heard_in, is_settled_in}
@@ -97,18 +97,18 @@ min_later : (since before now : ℕ) → min since last_count ≤ before → min
 min_later since before now one other = omega (arith, one, other)
 
 counts_of : (d : Due) (goes : Journal → Type 0) (told : Bool) (texts : List (List ℕ)) (journal : Journal) (since : SessionSide) (before last : Stage)
-    → WentOn d goes Pre told texts journal since before.side last.side last.pool before.session last.session → CountsStay before.side.flash last.side.flash
+    → WentOn d goes by_pre told texts journal since before.side last.side last.pool before.session last.session → CountsStay before.side.flash last.side.flash
 counts_of due.Move goes told texts journal since before last moved = moved.counts
 counts_of due.Slice goes told texts journal since before last sliced = sliced.counts
 counts_of due.Ended goes told texts journal since before last none = absurd none
 
 cat_of : (d : Due) (goes : Journal → Type 0) (told : Bool) (texts : List (List ℕ)) (journal : Journal) (since : SessionSide) (before last : Stage)
-    → WentOn d goes Pre told texts journal since before.side last.side last.pool before.session last.session → last.session.cat.now ≡ before.session.cat.now
+    → WentOn d goes by_pre told texts journal since before.side last.side last.pool before.session last.session → last.session.cat.now ≡ before.session.cat.now
 cat_of due.Move goes told texts journal since before last moved = moved.cat
 cat_of due.Slice goes told texts journal since before last sliced = sliced.cat
 cat_of due.Ended goes told texts journal since before last none = absurd none
 
-faults_low : (told : Bool) (texts : List (List ℕ)) (numbers : List ℕ) (since : SessionSide) (earlier : List Stage) (last : Stage) → AreStages Pre told texts numbers since last earlier → min since.flash.faults last_count ≤ last.side.flash.faults
+faults_low : (told : Bool) (texts : List (List ℕ)) (numbers : List ℕ) (since : SessionSide) (earlier : List Stage) (last : Stage) → AreStages by_pre told texts numbers since last earlier → min since.flash.faults last_count ≤ last.side.flash.faults
 faults_low told texts numbers since [] last first =
     let same = ap (λ (side : SessionSide). side.flash.faults) first.side_is in
     omega (arith, same)
@@ -117,7 +117,7 @@ faults_low told texts numbers since (before ∷ earlier) last stages =
     (counts_of (due_by_rule before.session.cat.now texts before.journal before.session) _ told texts before.journal since before last stages.0.went).faults
 
 module _ (laws : CallLaws) (told : Bool) (cat : Catalog) (database : Database) (at : List ℕ) (texts : List (List ℕ)) (numbers : List ℕ) (since : SessionSide) (final : Journal)
-    (knows : KnowsBy Pre told since.flash.page cat database) (honest : IsHonestSession cat database at texts final) (finished : IsFinished final) where
+    (knows : KnowsBy by_pre told since.flash.page cat database) (honest : IsHonestSession cat database at texts final) (finished : IsFinished final) where
   -- the replies to a text are whole, once all its asks came to their end
   served_at : (journal rest : Journal) → final ≡ journal ++ rest → (place : ℕ) → IsServedText told since.flash.page cat texts journal place database
   served_at journal rest whole place = record {
@@ -138,12 +138,12 @@ module _ (laws : CallLaws) (told : Bool) (cat : Catalog) (database : Database) (
   module _ (before last : Stage) (more : Journal) (journal_is : last.journal ≡ before.journal ++ more) (same : last.session.cat.now ≡ cat) (unrefused : was_refused (heard_in cat texts last.journal).ended ≡ false)
       (unfailed : Rose since.flash.faults last.side.flash.faults → ⊥) (less : last.side.flash.calls < last_count) (low : min since.flash.faults last_count ≤ before.side.flash.faults) where
     -- a move
-    module _ (moved : WasMoved (λ went. went ≡ more) Pre told texts before.journal since before.side last.side last.pool before.session last.session) where
+    module _ (moved : WasMoved (λ went. went ≡ more) by_pre told texts before.journal since before.side last.side last.pool before.session last.session) where
       its_journal : last.journal ≡ before.journal ++ moved.made ∷ []
       its_journal = journal_is ∙ ap (λ (m : Journal). before.journal ++ m) (sym moved.went)
 
-      was : WasAmid Pre told last.session.cat.now texts (before.journal ++ moved.made ∷ []) since last.side last.session.exchange.pump last.session.teller last.session.replies
-      was = was_amid Pre told texts (before.journal ++ moved.made ∷ []) since last.side last.pool last.session moved.live
+      was : WasAmid by_pre told last.session.cat.now texts (before.journal ++ moved.made ∷ []) since last.side last.session.exchange.pump last.session.teller last.session.replies
+      was = was_amid by_pre told texts (before.journal ++ moved.made ∷ []) since last.side last.pool last.session moved.live
 
       no_marks : marks_behind last.session.replies last.session.teller.count ≡ 0
       no_marks =
@@ -195,7 +195,7 @@ module _ (laws : CallLaws) (told : Bool) (cat : Catalog) (database : Database) (
           omega (arith, had, more_pages, spent, pages)
 
     -- a slice
-    module _ (rest : Journal) (whole : final ≡ last.journal ++ rest) (sliced : WasSliced (λ went. went ≡ more) Pre told texts before.journal since before.side last.side last.pool before.session last.session) where
+    module _ (rest : Journal) (whole : final ≡ last.journal ++ rest) (sliced : WasSliced (λ went. went ≡ more) by_pre told texts before.journal since before.side last.side last.pool before.session last.session) where
       still_journal : last.journal ≡ before.journal
       still_journal = journal_is ∙ (ap (λ (m : Journal). before.journal ++ m) (sym sliced.went) ∙ append-nil before.journal)
 
@@ -211,24 +211,24 @@ module _ (laws : CallLaws) (told : Bool) (cat : Catalog) (database : Database) (
           let pages = ap (λ (journal : Journal). pages_heard cat.schema (heard_in cat texts journal)) still_journal in
           omega (arith, had, calls, pages)
 
-    unrefused_by : (d : Due) → WentOn d (λ went. went ≡ more) Pre told texts before.journal since before.side last.side last.pool before.session last.session → was_refused (heard_in cat texts before.journal).ended ≡ false
+    unrefused_by : (d : Due) → WentOn d (λ went. went ≡ more) by_pre told texts before.journal since before.side last.side last.pool before.session last.session → was_refused (heard_in cat texts before.journal).ended ≡ false
     unrefused_by due.Move moved = unrefused_before moved
     unrefused_by due.Slice sliced =
         ap (λ (journal : Journal). was_refused (heard_in cat texts journal).ended) (sym (journal_is ∙ (ap (λ (m : Journal). before.journal ++ m) (sym sliced.went) ∙ append-nil before.journal))) ∙ unrefused
     unrefused_by due.Ended none = absurd none
 
-    step_holds : (rest : Journal) → final ≡ last.journal ++ rest → (d : Due) → WentOn d (λ went. went ≡ more) Pre told texts before.journal since before.side last.side last.pool before.session last.session → Holds before → Holds last
+    step_holds : (rest : Journal) → final ≡ last.journal ++ rest → (d : Due) → WentOn d (λ went. went ≡ more) by_pre told texts before.journal since before.side last.side last.pool before.session last.session → Holds before → Holds last
     step_holds rest whole due.Move moved had = move_holds moved had
     step_holds rest whole due.Slice sliced had = slice_holds rest whole sliced had
     step_holds rest whole due.Ended none had = absurd none
 
   pub stages_hold : (earlier : List Stage) (last : Stage) (rest : Journal) → final ≡ last.journal ++ rest → last.session.cat.now ≡ cat → was_refused (heard_in cat texts last.journal).ended ≡ false
-      → (Rose since.flash.faults last.side.flash.faults → ⊥) → last.side.flash.calls < last_count → AreStages Pre told texts numbers since last earlier → Holds last
+      → (Rose since.flash.faults last.side.flash.faults → ⊥) → last.side.flash.calls < last_count → AreStages by_pre told texts numbers since last earlier → Holds last
   stages_hold [] last rest whole same unrefused unfailed less first =
       let calls = ap (λ (side : SessionSide). side.flash.calls) first.side_is in
       omega (arith, calls)
   stages_hold (before ∷ earlier) last rest whole same unrefused unfailed less stages =
-      let next : IsNextStage Pre told texts since before last = stages.0 in
+      let next : IsNextStage by_pre told texts since before last = stages.0 in
       let low = faults_low told texts numbers since earlier before stages.1 in
       let d : Due = due_by_rule before.session.cat.now texts before.journal before.session in
       let counts = counts_of (due_by_rule before.session.cat.now texts before.journal before.session) (λ went. went ≡ next.more) told texts before.journal since before last next.went in
@@ -275,7 +275,7 @@ module _ (laws : CallLaws) (told : Bool) (cat : Catalog) (database : Database) (
 
   -- all texts were told, and none is told now
   pub whole_calls : (earlier : List Stage) (last : Stage) → last.journal ≡ final → last.session.cat.now ≡ cat → last.session.teller.count ≡ length texts → last.session.teller.running ≡ None
-      → (Rose since.flash.faults last.side.flash.faults → ⊥) → last.side.flash.calls < last_count → AreStages Pre told texts numbers since last earlier
+      → (Rose since.flash.faults last.side.flash.faults → ⊥) → last.side.flash.calls < last_count → AreStages by_pre told texts numbers since last earlier
       → last.side.flash.calls ≤ since.flash.calls + session_calls cat.schema database texts
   whole_calls earlier last journal_is same count none unfailed less stages =
       let unrefused : was_refused (heard_in cat texts last.journal).ended ≡ false =
@@ -296,7 +296,7 @@ module _ (laws : CallLaws) (told : Bool) (cat : Catalog) (database : Database) (
 
 pub few_calls : CallLaws → RunsTakeFewCalls
 few_calls laws plan told cat at texts numbers since last setting is_proper finished run = λ database is_pre sound less.
-    let pages : KnowsBy Pre told since.flash.page cat database = subst (λ (by : Plan). KnowsBy by told since.flash.page cat database) is_pre sound.pages in
+    let pages : KnowsBy by_pre told since.flash.page cat database = subst (λ (by : Plan). KnowsBy by told since.flash.page cat database) is_pre sound.pages in
     whole_calls laws told cat database at texts numbers since last.journal pages
-    (record { setting = setting; stored = stored Pre told since.flash.page cat database setting.proper pages; proper = is_proper; honest = sound.host }) finished
+    (record { setting = setting; stored = stored by_pre told since.flash.page cat database setting.proper pages; proper = is_proper; honest = sound.host }) finished
     run.earlier last refl run.catalog_is run.all_told run.none_told_now sound.flash less (subst (λ (by : Plan). AreStages by told texts numbers since last run.earlier) is_pre run.stages)

@@ -20,7 +20,7 @@ use Rattle.channel_pump.specs.declared.state.ReplyState.TheVariants as state_is
 use Rattle.session_laws.specs.TextCases.{TextsAreDecided}
 use Rattle.visible_spool.specs.declared.half.Half.{Half}
 use Rattle.key_lines.specs.Handing.{Handed}
-use Rattle.leakless_plan.specs.declared.plan.Plan.TheVariants.{Pre}
+use Rattle.key_exec.specs.Plans.{by_pre}
 use Rattle.edge_traits.specs.Devices.{Device}
 use Rattle.page_pool.specs.Pools.{Pool}
 use Rattle.key_exec.specs.Laws.{DamageIsNeverMet, KnowledgeIsEnough, PagesStayKnown}
@@ -48,7 +48,7 @@ pub record SpendLaws : Type 0 where
   pub decided : TextsAreDecided
 
 module _ (laws : SpendLaws) (pages_told : Bool) (catalog : Catalog) (tree : IsTree catalog.schema) (texts : List (List ℕ)) (journal : Journal) (since first before : SessionSide) (count : ℕ) (marked : Bool) (state : ReplyState) (half : Half) (pool : Pool) (text : Telling)
-    (taken : IsTaken Pre pages_told catalog texts journal count state marked half since.flash first before pool text)
+    (taken : IsTaken by_pre pages_told catalog texts journal count state marked half since.flash first before pool text)
     (database : Database) (is : IsServedText pages_told since.flash.page catalog texts journal count database) where
   number : suc count ≡ count + 1
   number = omega arith
@@ -56,8 +56,8 @@ module _ (laws : SpendLaws) (pages_told : Bool) (catalog : Catalog) (tree : IsTr
   abbrev given : List Reply
   given = replies catalog (asked_of catalog.schema texts) journal (count + 1)
 
-  pages_now : KnowsBy Pre pages_told first.flash.page catalog database
-  pages_now = laws.stays Pre pages_told since.flash.page first.flash.page catalog database tree (static_later catalog since.flash first.flash taken.files) is.pages
+  pages_now : KnowsBy by_pre pages_told first.flash.page catalog database
+  pages_now = laws.stays by_pre pages_told since.flash.page first.flash.page catalog database tree (static_later catalog since.flash first.flash taken.files) is.pages
 
   all_done_now : state ≡ state_is.Done → (query : Query) → reading catalog.schema taken.written ≡ Ok query → all_done catalog.schema query (ended_of catalog (asked_of catalog.schema texts) journal (suc count)) ≡ true
   all_done_now done query accepted =
@@ -71,7 +71,7 @@ module _ (laws : SpendLaws) (pages_told : Bool) (catalog : Catalog) (tree : IsTr
 
   pub served : IsServed pages_told first.flash.page catalog taken.written state marked half database (replies catalog (asked_of catalog.schema texts) journal (count + 1))
   served = record {
-    pages = laws.enough Pre pages_told first.flash.page catalog database tree pages_now;
+    pages = laws.enough by_pre pages_told first.flash.page catalog database tree pages_now;
     of_text = λ done. taken.given done is.pages.0.is_told;
     honest = λ done query accepted ask there.
         subst (λ (some : List Reply). reply_about ask.table some ≡ Some (whole_reply catalog.schema (public_of catalog.schema database) ask)) (sym (whole_now done.0 query accepted))
@@ -79,13 +79,13 @@ module _ (laws : SpendLaws) (pages_told : Bool) (catalog : Catalog) (tree : IsTr
   }
 
   -- no slot is damaged
-  pub undamaged : (side own : ℕ) (now : Device) (last : Handed) (damage : _) → HasTold Pre pages_told catalog side own taken.written state marked half first.flash now first.sink last (told.Damaged damage) → ⊥
+  pub undamaged : (side own : ℕ) (now : Device) (last : Handed) (damage : _) → HasTold by_pre pages_told catalog side own taken.written state marked half first.flash now first.sink last (told.Damaged damage) → ⊥
   undamaged side own now last damage ends =
       let blamed = ends.blames (λ done is_told. record { replies = replies catalog (asked_of catalog.schema texts) journal (count + 1); are = taken.given done is_told }) in
-      laws.never Pre pages_told first.flash.page catalog blamed.query blamed.top side half database damage.page damage.slot damage.found tree pages_now blamed.is
+      laws.never by_pre pages_told first.flash.page catalog blamed.query blamed.top side half database damage.page damage.slot damage.found tree pages_now blamed.is
 
 -- a step of the text is within its work, where the flash does not fail and no slot is damaged
-pub ended_within : (old_spent new_spent work before now before_faults now_faults : ℕ) (result : Told) → ToldCounts Pre (new_spent - old_spent) before now (Some result) → old_spent ≤ new_spent
+pub ended_within : (old_spent new_spent work before now before_faults now_faults : ℕ) (result : Told) → ToldCounts by_pre (new_spent - old_spent) before now (Some result) → old_spent ≤ new_spent
     → SpentWithin new_spent work (Some result) → ToldTells before_faults now_faults result → (Rose before_faults now_faults → ⊥) → ((damage : _) → result ≡ told.Damaged damage → ⊥)
     → now + old_spent ≤ before + work
 ended_within old_spent new_spent work before now before_faults now_faults told.Refused counts rises within tells unfailed undamaged = let most = counts.most in omega (arith, most, rises, within)

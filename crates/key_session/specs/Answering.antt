@@ -9,7 +9,7 @@ use Rattle.ghost_model.specs.core.Printed.{printed}
 use Rattle.ghost_model.specs.core.Split.{public_of}
 use Rattle.edge_traits.specs.Written.{grown}
 use Rattle.leakless_plan.specs.declared.plan.Plan.{Plan}
-use Rattle.leakless_plan.specs.declared.plan.Plan.TheVariants as plan
+use Rattle.key_exec.specs.Plans.{by_pre}
 use Rattle.key_exec.specs.Reading.{KnowsBy}
 use Rattle.key_session.specs.Calls.{session_calls}
 use Rattle.key_session.specs.Telling.{SessionSide}
@@ -39,8 +39,8 @@ pub record IsWellServed (by : Plan) (told : Bool) (cat : Catalog) (database : Da
   pub pages : KnowsBy by told since.flash.page cat database
   pub flash : Rose since.flash.faults now.flash.faults → ⊥
 
--- by the indexes the flash was called no more often than its texts take, as long as its count of calls did not come to its last value
+-- by the plan `pre` the flash was called no more often than its texts take, as long as its count of calls did not come to its last value
 abbrev pub CallsAreFew : (by : Plan) (told : Bool) → Catalog → (texts : List (List ℕ)) → Journal → (since now : SessionSide) → Type 0
 CallsAreFew by told cat texts journal since now =
-    (database : Database) → by ≡ plan.Pre → IsWellServed by told cat database journal since now → now.flash.calls < last_count
+    (database : Database) → by ≡ by_pre → IsWellServed by told cat database journal since now → now.flash.calls < last_count
     → now.flash.calls ≤ since.flash.calls + session_calls cat.schema database texts

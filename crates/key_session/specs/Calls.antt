@@ -1,4 +1,4 @@
--- How many calls of the flash a session takes at most where its texts are answered by the indexes, over the pages of a database and
+-- How many calls of the flash a session takes at most where its texts are answered by the plan `pre`, over the pages of a database and
 -- with an honest host: for each accepted text the work of its query, and two for each page of the spool that its replies fill, one that
 -- writes it and one that may erase its block before.
 use Rattle.std.specs.Prelude.{ℕ, ◌+◌, ◌*◌, List, length, sum_by, Result, Ok, Err}

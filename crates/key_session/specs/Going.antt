@@ -28,8 +28,7 @@ use Rattle.key_session.specs.declared.buffers.Buffers.{Buffers}
 use Rattle.key_session.specs.declared.buffers.Buffers.TheVariants as buffers
 use Rattle.key_session.specs.declared.replies.Replies.{Replies}
 use Rattle.leakless_plan.specs.declared.plan.Plan.{Plan}
-use Rattle.leakless_plan.specs.declared.plan.Plan.TheVariants as plan
-use Rattle.key_exec.specs.Plans.{Suffices}
+use Rattle.key_exec.specs.Plans.{Suffices, by_pre}
 use Rattle.key_exec.specs.Reading.{KeepsBy}
 use Rattle.key_exec.specs.Laws.{TellingStaysAble, TellingIsSpared, most_left}
 use Rattle.key_exec.specs.Rows.{TakesTurn}
@@ -274,11 +273,11 @@ pub record WasMoved (goes : Journal → Type 0) (by : Plan) (pages_told : Bool) 
   pub teller : session.teller ≡ old.teller
   pub live : IsLive by pages_told texts (journal ++ made ∷ []) since now pool session
 
--- no move was made, and the pace goes by the slice; by the indexes, its calls are spent for the text that is told
+-- no move was made, and the pace goes by the slice; by the plan `pre`, its calls are spent for the text that is told
 pub record WasSliced (goes : Journal → Type 0) (by : Plan) (pages_told : Bool) (texts : List (List ℕ)) (journal : Journal) (since before now : SessionSide) (pool : Pool) (old session : Session) : Type 0 where
   pub went : goes []
   pub sliced : IsSliced old.pace session.pace
-  pub spends : by ≡ plan.Pre → SpendsCalls pages_told since.flash.page old.cat.now texts journal before.flash now.flash old.teller session.teller
+  pub spends : by ≡ by_pre → SpendsCalls pages_told since.flash.page old.cat.now texts journal before.flash now.flash old.teller session.teller
   pub counts : CountsStay before.flash now.flash
   pub cat : session.cat.now ≡ old.cat.now
   pub live : IsLive by pages_told texts journal since now pool session

@@ -101,5 +101,5 @@ pub record HasRun (goes : Journal → Type 0) (link_before link_now : ℕ) (by :
   pub undamaged : (database : Database) → KnowsBy by pages_told since.flash.page catalog database → list_any is_damage reasons.reasons ≡ false
   -- an honest host, pages that hold and no fault: all is printed, and the status is Ok
   pub answered : AnswersWhereSound by pages_told catalog texts journal since now tally
-  -- by the indexes, an honest host, pages that hold and a flash that does not fail: it is called no more often than the texts take
+  -- by the plan `pre`, an honest host, pages that hold and a flash that does not fail: it is called no more often than the texts take
   pub few_calls : CallsAreFew by pages_told catalog texts journal since now

@@ -1,4 +1,4 @@
--- What is spent for the texts of a session: the calls of the flash that their jobs make, by the indexes.
+-- What is spent for the texts of a session: the calls of the flash that their jobs make, by the plan `pre`.
 use Rattle.std.specs.Prelude.{◌≡◌, ℕ, suc, ◌+◌, ◌≤◌, ◌<◌, min, Bool, true, List, take, sum_by, slice_get, Option, Some, None, Ok}
 use Rattle.ghost_model.specs.core.Causes.{Rose, last_count}
 use Rattle.ghost_model.specs.core.Schema.{Schema}
@@ -12,7 +12,7 @@ use Rattle.ghost_model.specs.core.Replies.{replies}
 use Rattle.ghost_model.specs.core.Split.{public_of}
 use Rattle.ghost_model.specs.laws.SessionLaws.{whole_replies}
 use Rattle.edge_traits.specs.Devices.{Device}
-use Rattle.leakless_plan.specs.declared.plan.Plan.TheVariants as plan
+use Rattle.key_exec.specs.Plans.{by_pre}
 use Rattle.key_exec.specs.Reading.{KnowsBy}
 use Rattle.key_exec.specs.Telling.{spent_of}
 use Rattle.key_exec.specs.Within.{text_work}
@@ -35,7 +35,7 @@ spent_for schema database texts teller = sum_by (text_work schema database) (tak
 
 -- the pages hold all files of a database, and once all asks of the text at a place were ended by DONE, its replies are whole
 pub record IsServedText (pages_told : Bool) (page : ℕ → List ℕ) (catalog : Catalog) (texts : List (List ℕ)) (journal : Journal) (place : ℕ) (database : Database) : Type 0 where
-  pub pages : KnowsBy plan.Pre pages_told page catalog database
+  pub pages : KnowsBy by_pre pages_told page catalog database
   pub honest : (written : List ℕ) (asked : Query) → slice_get texts place ≡ Some written → reading catalog.schema written ≡ Ok asked
       → all_done catalog.schema asked (ended_of catalog (asked_of catalog.schema texts) journal (suc place)) ≡ true
       → replies catalog (asked_of catalog.schema texts) journal (suc place) ≡ whole_replies catalog.schema (public_of catalog.schema database) asked

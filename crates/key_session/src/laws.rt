@@ -68,7 +68,7 @@ pub(crate) fn later_texts_are_unmarked()
     ensures unmarked { LaterTextsAreUnmarked }
 {}
 
-/// A session that was run to its end took few calls of the flash, by the indexes.
+/// A session that was run to its end took few calls of the flash, by the plan `pre`.
 pub(crate) fn runs_take_few_calls()
     ensures { RunsTakeFewCalls }
 {

@@ -25,8 +25,7 @@ ghost use Rattle.key_session.specs.Fits.{Fits};
 ghost use Rattle.key_session.specs.Awaiting.{IsWithin, IsAwaiting};
 ghost use Rattle.key_session.specs.Refusing.{first_code};
 ghost use Rattle.leakless_plan.specs.declared.plan.Plan.{Plan};
-ghost use Rattle.leakless_plan.specs.declared.plan.Plan.TheVariants as plan_is;
-ghost use Rattle.key_exec.specs.Plans.{Suffices};
+ghost use Rattle.key_exec.specs.Plans.{Suffices, by_pre};
 ghost use Rattle.key_exec.specs.Reading.{KeepsBy};
 ghost use Rattle.page_pool.specs.Pools.{Pool, IsIdle, ChangesPage};
 ghost use Rattle.key_exec.specs.Rows.{PrintsSome, TakesTurn};
@@ -304,7 +303,7 @@ impl<'a> Session<'a> {
         ensures few { (F.state flash.new).calls ≤ (F.state flash.old).calls + 8 }
         ensures kept { KeepsBy self.old.teller.plan self.old.cat.now (F.state flash.old) (F.state flash.new) }
         ensures spends { (texts : List (List ℕ)) (journal : Journal) (since : SessionSide) → IsNext self.old.cat.now texts journal self.old.exchange.pump (self.old.teller.count + 1)
-            → IsLive plan_is.Pre F.told texts journal since (session_side self.old.teller.printer.failed (O.faults out.old) (O.written out.old) (F.state flash.old)) pool.old self.old
+            → IsLive by_pre F.told texts journal since (session_side self.old.teller.printer.failed (O.faults out.old) (O.written out.old) (F.state flash.old)) pool.old self.old
             → SpendsCalls F.told since.flash.page self.old.cat.now texts journal (F.state flash.old) (F.state flash.new) self.old.teller self.new.teller }
         ensures counts { CountsStay (F.state flash.old) (F.state flash.new) }
         ensures plan { self.new.teller.plan ≡ self.old.teller.plan }

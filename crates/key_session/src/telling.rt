@@ -12,8 +12,7 @@ ghost use Rattle.edge_traits.specs.Devices.{Device};
 ghost use Rattle.channel_pump.specs.State.{IsAfter};
 ghost use Rattle.key_lines.specs.Handing.{handed};
 ghost use Rattle.leakless_plan.specs.declared.plan.Plan.{Plan};
-ghost use Rattle.leakless_plan.specs.declared.plan.Plan.TheVariants as plan_is;
-ghost use Rattle.key_exec.specs.Plans.{Suffices};
+ghost use Rattle.key_exec.specs.Plans.{Suffices, by_pre};
 ghost use Rattle.key_exec.specs.Reading.{KeepsBy};
 ghost use Rattle.page_pool.specs.Pools.{Pool};
 ghost use Rattle.key_exec.specs.Rows.{TakesTurn};
@@ -122,8 +121,8 @@ impl<'a> Teller<'a> {
             → KeepsBy by cat (F.state flash.old) (F.state flash.new) }
         ensures few { (F.state flash.new).calls ≤ (F.state flash.old).calls + 8 }
         ensures spends { (cat : channel.Catalog) (texts : List (List ℕ)) (journal : Journal) (since : SessionSide) (pump : pumps.Pump) (replies : held.Replies)
-            → IsTree cat.schema → CanRun plan_is.Pre F.told cat (F.state flash.old) pool.old (self.old.count + 1) (lease_of replies) self.old.running
-            → IsBegun plan_is.Pre F.told cat texts journal since (session_side self.old.printer.failed (O.faults out.old) (O.written out.old) (F.state flash.old)) pool.old pump self.old replies
+            → IsTree cat.schema → CanRun by_pre F.told cat (F.state flash.old) pool.old (self.old.count + 1) (lease_of replies) self.old.running
+            → IsBegun by_pre F.told cat texts journal since (session_side self.old.printer.failed (O.faults out.old) (O.written out.old) (F.state flash.old)) pool.old pump self.old replies
             → SpendsCalls F.told since.flash.page cat texts journal (F.state flash.old) (F.state flash.new) self.old self.new }
         ensures counts { CountsStay (F.state flash.old) (F.state flash.new) }
         ensures plan { self.new.plan ≡ self.old.plan }

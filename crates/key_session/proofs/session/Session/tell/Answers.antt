@@ -8,7 +8,7 @@ use Rattle.key_session.specs.Going.{CanRun, IsBegun, Stands}
 use Rattle.key_session.specs.declared.buffers.Buffers.{Buffers}
 use Rattle.key_session.proofs.Leasing.{taken_amid}
 use Rattle.leakless_plan.specs.declared.plan.Plan.{Plan}
-use Rattle.leakless_plan.specs.declared.plan.Plan.TheVariants.{Pre}
+use Rattle.key_exec.specs.Plans.{by_pre}
 use Rattle.key_session.specs.Spending.{IsServedText}
 use Rattle.key_session.proofs.Beginning.{keeps_spool}
 use Rattle.key_session.proofs.Spent.{same_spent}
@@ -89,8 +89,8 @@ returns-clause-fewer g c =
 pub returns-clause-spends : goal.returns-clause-spends
 returns-clause-spends g c = λ texts journal since next live database served unfailed less.
     let side = session_side c.args.self.now.teller.printer.failed (g.O.Sink.faults c.args.out.now) (g.O.Sink.written c.args.out.now) (g.F.Flash.state c.args.flash.now) in
-    let amid = taken_amid Pre g.F.Flash.told texts journal since side c.args.pool.now c.args.self.now c.requires.taken live in
-    let begun = c.take_up.ensures.told Pre g.F.Flash.told texts journal since side c.args.pool.now c.requires.can.suffices live.channel.bytes
+    let amid = taken_amid by_pre g.F.Flash.told texts journal since side c.args.pool.now c.args.self.now c.requires.taken live in
+    let begun = c.take_up.ensures.told by_pre g.F.Flash.told texts journal since side c.args.pool.now c.requires.can.suffices live.channel.bytes
     (subst (λ (by : Plan). CanRun by g.F.Flash.told c.args.self.now.cat.now (g.F.Flash.state c.args.flash.now) c.args.pool.now (c.args.self.now.teller.count + 1) (lease_of c.args.self.now.replies) c.args.self.now.teller.running) amid.plan c.requires.can.run)
     live.channel.after next amid in
     let half = c.kept_halves_are_halves.ensures.half g.F.Flash.told (g.F.Flash.state c.args.flash.now) c.args.pool.now c.args.self.now.cat.now (heard_in c.args.self.now.cat.now texts journal) (c.args.self.now.teller.count + 1) amid.going.top
@@ -99,7 +99,7 @@ returns-clause-spends g c = λ texts journal since next live database served unf
     (c.take_up.ensures.can g.F.Flash.told (g.F.Flash.state c.args.flash.now) c.args.pool.now (lease_of c.args.self.now.replies) c.requires.can.suffices half c.requires.can.run) in
     same_spent c.args.self.now.cat.now.schema database texts c.args.self.now.teller c.take_up.new.self c.take_up.ensures.count c.take_up.ensures.unspent (g.F.Flash.state c.go_on.new.flash).calls _
     (c.go_on.ensures.spends c.args.self.now.cat.now texts journal since c.args.self.now.exchange.pump c.args.self.now.replies c.a_catalog_has_a_layout.ensures.layout.tree run
-    (subst (λ (failed : Bool). IsBegun Pre g.F.Flash.told c.args.self.now.cat.now texts journal since
+    (subst (λ (failed : Bool). IsBegun by_pre g.F.Flash.told c.args.self.now.cat.now texts journal since
     (session_side failed (g.O.Sink.faults c.args.out.now) (g.O.Sink.written c.args.out.now) (g.F.Flash.state c.args.flash.now)) c.args.pool.now c.args.self.now.exchange.pump c.take_up.new.self c.args.self.now.replies)
     (sym c.take_up.ensures.printer) begun)
     database (subst (λ (n : ℕ). IsServedText g.F.Flash.told since.flash.page c.args.self.now.cat.now texts journal n database) (sym c.take_up.ensures.count) served) unfailed less)
