@@ -6,3 +6,4 @@ mod ReplyRows
 mod FillingOn
 mod SiftingOn
 mod Walking
+mod Turning
