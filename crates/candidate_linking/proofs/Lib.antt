@@ -7,3 +7,4 @@ mod FillingOn
 mod SiftingOn
 mod Walking
 mod Turning
+mod Staying
