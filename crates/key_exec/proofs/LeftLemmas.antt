@@ -11,7 +11,7 @@ use Rattle.leakless_plan.specs.declared.plan.Plan.TheVariants as plans
 use Rattle.candidate_rows.specs.declared.plan.RowPlan.{RowPlan}
 use Rattle.candidate_rows.specs.declared.work.RowWork.{RowWork}
 use Rattle.key_exec.specs.declared.job.Phase.{Phase}
-use Rattle.key_exec.specs.declared.job.Phase.TheVariants.{Begun, Scanning, Gathering, Walking, Over}
+use Rattle.key_exec.specs.declared.job.Phase.TheVariants.{Begun, Scanning, Linking, Walking, Over}
 use Rattle.key_exec.specs.Jobs as jobs
 use Rattle.key_exec.specs.Ready.{IsAtPhase}
 use Rattle.key_exec.specs.Telling.{CanTell, NeedsIn, left_of, left_in}
@@ -23,7 +23,7 @@ scan_few : (cat : Catalog) (asked : Query) (side : ℕ) (told : Bool) (device : 
     → rows ≤ 1000000 → IsAtPhase plans.Scan cat asked side told device pool half plan rows left given spent work phase → jobs.scan_left plan rows work phase ≤ 2 ^ 56
 scan_few cat asked side told device pool half plan rows left given spent work Begun small at = omega (arith, small)
 scan_few cat asked side told device pool half plan rows left given spent work (Scanning leases scan) small at = omega (arith, small, at.1.0.bound)
-scan_few cat asked side told device pool half plan rows left given spent work (Gathering gathering) small at = omega arith
+scan_few cat asked side told device pool half plan rows left given spent work (Linking linking) small at = omega arith
 scan_few cat asked side told device pool half plan rows left given spent work (Walking leases merge scan) small at = omega arith
 scan_few cat asked side told device pool half plan rows left given spent work Over small at = omega arith
 
@@ -35,7 +35,7 @@ index_few : (forced : Option Form) (cat : Catalog) (asked : Query) (side : ℕ) 
     → jobs.is_ended phase ≡ false → IsAtPhase (plans.Linked forced) cat asked side told device pool half plan rows left given spent work phase → left ≤ 2 ^ 56
 index_few forced cat asked side told device pool half plan rows left given spent work Begun going at = absurd (not_scan forced at.0)
 index_few forced cat asked side told device pool half plan rows left given spent work (Scanning leases scan) going at = absurd (not_scan forced at.0)
-index_few forced cat asked side told device pool half plan rows left given spent work (Gathering gathering) going at = omega (arith, at.1.counted.most)
+index_few forced cat asked side told device pool half plan rows left given spent work (Linking linking) going at = omega (arith, at.1.counted.most)
 index_few forced cat asked side told device pool half plan rows left given spent work (Walking leases merge scan) going at = omega (arith, at.1.1.most)
 index_few forced cat asked side told device pool half plan rows left given spent work Over going at = cc
 

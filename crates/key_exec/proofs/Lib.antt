@@ -22,7 +22,7 @@ pub mod CandidateLemmas
 pub mod WalkingLemmas
 pub mod WalkLaws
 pub mod BeginLemmas
-pub mod GatherLemmas
+pub mod LinkingLemmas
 pub mod ReadLemmas
 pub mod ByLemmas
 pub mod CalledLemmas

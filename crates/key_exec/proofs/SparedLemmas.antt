@@ -23,7 +23,7 @@ use Rattle.candidate_rows.specs.Plans.{Suffices}
 use Rattle.candidate_rows.specs.Working.{IsWorking}
 use Rattle.candidate_rows.specs.Laws.{WorkStillStands}
 use Rattle.candidate_rows.specs.Steps.{WereGiven, AreBlankOrRead}
-use Rattle.candidate_gathering.specs.Costs.{GatheringCosts}
+use Rattle.candidate_linking.specs.Costs.{LinkingCosts}
 use Rattle.key_exec.specs.Costs.{PhaseCosts}
 use Rattle.leakless_plan.specs.declared.plan.Plan.{Plan}
 use Rattle.id_merge.specs.declared.merge.Merge.{Merge}
@@ -33,21 +33,21 @@ use Rattle.id_merge.specs.Spared.{AllOutside, MergeStaysReady, CursorsStayGiven,
 use Rattle.candidate_lists.specs.Staying.{DamageStays}
 use Rattle.candidate_knowledge.specs.Known.{KeepsStatic}
 use Rattle.candidate_knowledge.specs.Laws.{KnowledgeStays}
-use Rattle.candidate_gathering.specs.declared.gathering.Gathering.{Gathering as GatheringModel}
-use Rattle.candidate_gathering.specs.Stages as gathered
-use Rattle.candidate_gathering.specs.Stages.{IsGathering, gathering_left}
-use Rattle.candidate_gathering.specs.Contents.{GatheringHas, Walks, WalksUnited}
-use Rattle.candidate_gathering.specs.Given.{GatheringGiven}
-use Rattle.candidate_gathering.specs.Laws.{SparesGathering}
+use Rattle.candidate_linking.specs.declared.linking.Linking.{Linking as LinkingModel}
+use Rattle.candidate_linking.specs.Stages as links
+use Rattle.candidate_linking.specs.Stages.{IsLinking, linking_left}
+use Rattle.candidate_linking.specs.Contents.{LinkingHas, Walks, WalksUnited}
+use Rattle.candidate_linking.specs.Given.{LinkingGiven}
+use Rattle.candidate_linking.specs.Turns.{SparesLinking}
 use Rattle.key_exec.proofs.HalfLemmas.{others_spare}
 use Rattle.key_exec.specs.declared.job.Scan.{Scan}
 use Rattle.key_exec.specs.declared.job.Phase.{Phase}
-use Rattle.key_exec.specs.declared.job.Phase.TheVariants.{Begun, Scanning, Gathering, Walking, Over}
+use Rattle.key_exec.specs.declared.job.Phase.TheVariants.{Begun, Scanning, Linking, Walking, Over}
 use Rattle.key_exec.specs.Reading.{KnowsAll}
 use Rattle.key_exec.specs.Jobs.{work_in, leases_in}
 use Rattle.key_exec.specs.Laws.{PagesStayKnownBut}
 use Rattle.key_exec.proofs.AskedLemmas.{asked_low}
-use Rattle.key_exec.specs.Ready.{IsGatheringFor, IsWalking, IsFor, IsWorkAt, IsScanning, IsAtPhase, AreHeld, AreLent, WorkStands, PhaseGiven, PhaseStands, Spares}
+use Rattle.key_exec.specs.Ready.{IsLinkingFor, IsWalking, IsFor, IsWorkAt, IsScanning, IsAtPhase, AreHeld, AreLent, WorkStands, PhaseGiven, PhaseStands, Spares}
 
 suffices_still : {cat : Catalog} {side : ℕ} {before now : Device} → SparesHalf cat side before now → Suffices cat before → Suffices cat now
 suffices_still spares is = record { pages = omega (arith, is.pages, spares.page_count); small = omega (arith, is.small, spares.page_count) }
@@ -197,38 +197,38 @@ walking_still stay fill give merges cat asked side told before now pool later ha
   most = omega (arith, is.most, spares.out.size);
 }
 
--- what a gathering keeps, where others spare it
-pub record GatheringIsSpared (gathering : GatheringModel) : Type 0 where
+-- what a linking keeps, where others spare it
+pub record LinkingIsSpared (linking : LinkingModel) : Type 0 where
   pub ready : (told : Bool) (before now : Device) (pool later : Pool) (cat : Catalog) (asked : Query) (top side : ℕ) (half : Half)
-      → SparesGathering cat side before now pool later gathering → IsGathering told before pool cat asked top side half gathering
-      → IsGathering told now later cat asked top side half gathering
+      → SparesLinking cat side before now pool later linking → IsLinking told before pool cat asked top side half linking
+      → IsLinking told now later cat asked top side half linking
   pub has : (told : Bool) (before now : Device) (pool later : Pool) (cat : Catalog) (asked : Query) (top side : ℕ) (half : Half)
-      → SparesGathering cat side before now pool later gathering → IsGathering told before pool cat asked top side half gathering
-      → (database : Database) (given : List Reply) → GatheringHas told before.page pool cat asked database given top half gathering
-      → GatheringHas told now.page later cat asked database given top half gathering
-  pub left : (before now : Device) (pool later : Pool) (cat : Catalog) (side : ℕ) → SparesGathering cat side before now pool later gathering
-      → gathering_left later gathering ≡ gathering_left pool gathering
-  pub given : (before now : Device) (pool later : Pool) (cat : Catalog) (side since : ℕ) → SparesGathering cat side before now pool later gathering
-      → GatheringGiven since before pool gathering → GatheringGiven since now later gathering
+      → SparesLinking cat side before now pool later linking → IsLinking told before pool cat asked top side half linking
+      → (database : Database) (given : List Reply) → LinkingHas told before.page pool cat asked database given top half linking
+      → LinkingHas told now.page later cat asked database given top half linking
+  pub left : (before now : Device) (pool later : Pool) (cat : Catalog) (side : ℕ) → SparesLinking cat side before now pool later linking
+      → linking_left later linking ≡ linking_left pool linking
+  pub given : (before now : Device) (pool later : Pool) (cat : Catalog) (side since : ℕ) → SparesLinking cat side before now pool later linking
+      → LinkingGiven since before pool linking → LinkingGiven since now later linking
   pub costs : (told : Bool) (before now : Device) (pool later : Pool) (cat : Catalog) (asked : Query) (top side : ℕ) (half : Half)
-      → SparesGathering cat side before now pool later gathering → IsGathering told before pool cat asked top side half gathering
-      → (database : Database) (given : List Reply) (cost : ℕ) → GatheringCosts told before.page pool cat asked database given top half gathering cost
-      → GatheringCosts told now.page later cat asked database given top half gathering cost
+      → SparesLinking cat side before now pool later linking → IsLinking told before pool cat asked top side half linking
+      → (database : Database) (given : List Reply) (cost : ℕ) → LinkingCosts told before.page pool cat asked database given top half linking cost
+      → LinkingCosts told now.page later cat asked database given top half linking cost
 
 abbrev pub SparedIn : Phase → Type 0
 SparedIn Begun = ⊤
 SparedIn (Scanning leases scan) = ⊤
-SparedIn (Gathering gathering) = GatheringIsSpared gathering
+SparedIn (Linking linking) = LinkingIsSpared linking
 SparedIn (Walking leases merge scan) = ⊤
 SparedIn Over = ⊤
 
-gather_still :
+link_still :
     (cat : Catalog) (asked : Query) (side : ℕ) (told : Bool) (before now : Device) (pool later : Pool) (half : Half)
-    (plan : RowPlan) (rows left given spent : ℕ) (gathering : GatheringModel) → GatheringIsSpared gathering
-    → Spares cat side before now pool later (gathered.leases_in gathering)
-    → IsGatheringFor cat asked side told before pool half plan rows left given spent gathering → IsGatheringFor cat asked side told now later half plan rows left given spent gathering
-gather_still cat asked side told before now pool later half plan rows left given spent gathering law spares is =
-    let same : gathering_left later gathering ≡ gathering_left pool gathering = law.left before now pool later cat side (spares_all spares) in
+    (plan : RowPlan) (rows left given spent : ℕ) (linking : LinkingModel) → LinkingIsSpared linking
+    → Spares cat side before now pool later (links.leases_in linking)
+    → IsLinkingFor cat asked side told before pool half plan rows left given spent linking → IsLinkingFor cat asked side told now later half plan rows left given spent linking
+link_still cat asked side told before now pool later half plan rows left given spent linking law spares is =
+    let same : linking_left later linking ≡ linking_left pool linking = law.left before now pool later cat side (spares_all spares) in
     record {
       none = is.none;
       is = law.ready told before now pool later cat asked plan.top side half (spares_all spares) is.is;
@@ -249,8 +249,8 @@ phase_still stay fill give merges unread by cat asked side told before now pool 
     lent_still fill give told cat side before now half pool later leases.items lies spares at.1.1,
   ),
 )
-phase_still stay fill give merges unread by cat asked side told before now pool later half plan rows left given spent work (Gathering gathering) law lies spares at =
-    (at.0, gather_still cat asked side told before now pool later half plan rows left given spent gathering law spares at.1)
+phase_still stay fill give merges unread by cat asked side told before now pool later half plan rows left given spent work (Linking linking) law lies spares at =
+    (at.0, link_still cat asked side told before now pool later half plan rows left given spent linking law spares at.1)
 phase_still stay fill give merges unread by cat asked side told before now pool later half plan rows left given spent work (Walking leases merge scan) law lies spares at =
     let same : unread_in later merge.cursors.items ≡ unread_in pool merge.cursors.items =
     unread _ _ before now pool later merge.cursors.items (spares_second leases.items (leases_of merge.cursors.items) spares) in (
@@ -269,7 +269,7 @@ pub phase_given_still :
 phase_given_still give cursors cat side before now pool later since Begun law spares given = tt
 phase_given_still give cursors cat side before now pool later since (Scanning leases scan) law spares given =
     given_still give cat side before now pool later leases.items since spares given
-phase_given_still give cursors cat side before now pool later since (Gathering gathering) law spares given =
+phase_given_still give cursors cat side before now pool later since (Linking linking) law spares given =
     law.given before now pool later cat side since (spares_all spares) given
 phase_given_still give cursors cat side before now pool later since (Walking leases merge scan) law spares given = (
   given_still give cat side before now pool later leases.items since (spares_first leases.items (leases_of merge.cursors.items) spares) given.0,
@@ -301,10 +301,8 @@ abbrev pub walks_still :
 walks_still right damage bad cat asked side told before now pool database given top merge tree keeps changes outside ready walks = record {
   whole = walks.whole;
   lists = right _ _ told before now pool walks.whole merge.cursors.items changes outside ready walks.lists;
-  forms = walks.forms;
-  terms = walks.terms;
-  terms_are = walks.terms_are;
-  rows = walks.rows;
+  met = walks.met;
+  kept = walks.kept;
   bad = λ number slot found damaged.
       bad.bad before.page now.page cat asked top database tree keeps number slot found
       (walks.bad number slot found (damage _ _ before now merge.cursors.items changes outside number slot found damaged));
@@ -318,7 +316,7 @@ pub stands_still :
 stands_still stay right damage bad by cat asked side told before now pool later half plan rows left count spent work Begun database given law spares lies at stands = tt
 stands_still stay right damage bad by cat asked side told before now pool later half plan rows left count spent work (Scanning leases scan) database given law spares lies at stands =
     work_stands_still stay cat asked side before now half plan rows scan.next (work_in scan work) database given (half_spared spares) lies at.1.0.work_is stands
-stands_still stay right damage bad by cat asked side told before now pool later half plan rows left count spent work (Gathering gathering) database given law spares lies at stands =
+stands_still stay right damage bad by cat asked side told before now pool later half plan rows left count spent work (Linking linking) database given law spares lies at stands =
     law.has told before now pool later cat asked plan.top side half (spares_all spares) at.1.is database given stands
 stands_still stay right damage bad by cat asked side told before now pool later half plan rows left count spent work (Walking leases merge scan) database given law spares lies at stands = (
   work_stands_still stay cat asked side before now half plan rows scan.next (work_in scan work) database given (half_spared spares) lies at.1.0.work_is stands.0,
@@ -360,7 +358,7 @@ united_still :
     → WalksUnited before.page cat asked database given top merge → WalksUnited now.page cat asked database given top merge
 united_still right damage bad cat asked side told before now pool database given top merge tree keeps changes outside ready united = record {
   walks = walks_still right damage bad cat asked side told before now pool database given top merge tree keeps changes outside ready united.walks;
-  unites = united.unites;
+  exact = united.exact;
 }
 
 -- it costs as much as before
@@ -371,9 +369,9 @@ pub costs_still :
     → PhaseCosts cat asked database given told before.page pool half plan rows work phase cost → PhaseCosts cat asked database given told now.page later half plan rows work phase cost
 costs_still right damage bad unread by cat asked side told before now pool later half plan rows left count spent work Begun database given cost law spares at costs = costs
 costs_still right damage bad unread by cat asked side told before now pool later half plan rows left count spent work (Scanning leases scan) database given cost law spares at costs = costs
-costs_still right damage bad unread by cat asked side told before now pool later half plan rows left count spent work (Gathering gathering) database given cost law spares at costs = record {
-  gather = costs.gather;
-  costs = law.costs told before now pool later cat asked plan.top side half (spares_all spares) at.1.is database given costs.gather costs.costs;
+costs_still right damage bad unread by cat asked side told before now pool later half plan rows left count spent work (Linking linking) database given cost law spares at costs = record {
+  link = costs.link;
+  costs = law.costs told before now pool later cat asked plan.top side half (spares_all spares) at.1.is database given costs.link costs.costs;
   enough = costs.enough;
 }
 costs_still right damage bad unread by cat asked side told before now pool later half plan rows left count spent work (Walking leases merge scan) database given cost law spares at costs =

@@ -10,7 +10,7 @@ use Rattle.visible_spool.specs.Sparing.{SparesHalf}
 use Rattle.key_lines.specs.Handing.{Handed}
 use Rattle.key_exec.specs.declared.job.Job.{Job}
 use Rattle.key_exec.specs.declared.job.Phase.{Phase}
-use Rattle.key_exec.specs.declared.job.Phase.TheVariants.{Begun, Scanning, Gathering, Walking, Over}
+use Rattle.key_exec.specs.declared.job.Phase.TheVariants.{Begun, Scanning, Linking, Walking, Over}
 use Rattle.key_exec.specs.Jobs as jobs
 use Rattle.key_exec.specs.Ready.{IsReady, IsAtPhase, Spares}
 use Rattle.leakless_plan.specs.declared.plan.Plan.{Plan}
@@ -49,7 +49,7 @@ out_ready cat asked side told device pool job ready = at job.phase ready.at
     at : (phase : Phase) → IsAtPhase job.by cat asked side told device pool job.half job.plan job.rows job.left job.given job.spent job.work phase → AreOut pool (jobs.leases_in phase)
     at Begun is = tt
     at (Scanning leases scan) is = is.1.1.usable.out
-    at (Gathering gathering) is = is.1.is.buffers.out
+    at (Linking linking) is = is.1.is.buffers.out
     at (Walking leases merge scan) is = is.1.0.out
     at Over is = tt
 

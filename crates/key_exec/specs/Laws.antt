@@ -1,6 +1,5 @@
 -- Laws of jobs, and of texts that are told.
-use Rattle.std.specs.Prelude.{◌≡◌, ℕ, ◌-◌, ◌^◌, ◌<◌, ◌≤◌, Bool, true, List, length, Option, Some}
-use Rattle.std.specs.List.{list_all}
+use Rattle.std.specs.Prelude.{◌≡◌, ℕ, ◌-◌, ◌^◌, ◌<◌, ◌≤◌, Bool, true, List}
 use Rattle.ghost_model.specs.core.Schema.{Schema}
 use Rattle.ghost_model.specs.core.Values.{Database}
 use Rattle.ghost_model.specs.core.Channel.{Catalog}
@@ -17,19 +16,10 @@ use Rattle.page_pool.specs.Pools.{Pool}
 use Rattle.visible_spool.specs.declared.half.Half.{Half}
 use Rattle.visible_spool.specs.Sparing.{AreInHalf, SparesHalf}
 use Rattle.visible_spool.specs.Areas.{half_begin, half_end}
-use Rattle.candidate_rows.specs.declared.plan.RowPlan.{RowPlan}
-use Rattle.candidate_rows.specs.Plans.{IsPlanOfCandidates}
-use Rattle.candidate_rows.specs.Working as rows
-use Rattle.candidate_rows.specs.Working.{IsRowOf}
-use Rattle.candidate_rows.specs.Steps.{WereGiven, AreBlankOrRead, row_known}
-use Rattle.condition_lists.specs.declared.term.Term.{Term}
-use Rattle.condition_lists.specs.Terms.{AreTermsBy, meets}
-use Rattle.condition_lists.specs.Laws.{UnitesAll}
-use Rattle.condition_lists.specs.CostLaws.{AreHonest}
+use Rattle.candidate_rows.specs.Steps.{WereGiven, AreBlankOrRead}
 use Rattle.key_exec.specs.declared.job.Job.{Job}
 use Rattle.key_exec.specs.Jobs.{leases_of}
 use Rattle.key_exec.specs.Costs.{JobCosts}
-use Rattle.leakless_plan.specs.declared.form.Form.{Form}
 use Rattle.leakless_plan.specs.declared.plan.Plan.{Plan}
 pub use Rattle.candidate_knowledge.specs.Known.{KeepsStatic}
 use Rattle.key_exec.specs.Reading.{KnowsBy, KnowsButBy, KnowsAll, KeepsBy, AreOfAsked, AreAllAsked}
@@ -161,12 +151,3 @@ abbrev pub FewStepsAreLeft : Type 0
 FewStepsAreLeft =
     (by : Plan) (told : Bool) (cat : Catalog) (side : ℕ) (device : Device) (pool : Pool) (one : Telling) → CanTell by told cat side device pool one
     → telling.left_of one ≤ most_left
-
--- Where the replies are those of an honest host, and the lists of all of them are united, a row that meets all terms of a query has one row
--- in the answer.
-abbrev pub CandidatesAreAnswers : Type 0
-CandidatesAreAnswers =
-    (page : ℕ → List ℕ) (cat : Catalog) (asked : Query) (database : Database) (half : Half) (given : List Reply) (plan : RowPlan)
-    → rows.Knows page cat asked database half given → IsPlanOfCandidates cat asked plan → AreHonest cat database asked given
-    → (forms : List (Option Form)) (terms : List Term) → AreTermsBy cat asked forms (Some plan.top) terms → UnitesAll cat.schema asked forms plan.top → (identifier : ℕ) → IsRowOf cat plan.top identifier
-    → list_all (meets cat.schema database given plan.top identifier) terms ≡ true → length (row_known cat asked database given identifier plan) ≡ 1

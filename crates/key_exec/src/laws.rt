@@ -1,6 +1,6 @@
 //! Laws of jobs and of texts that are told, which need no code.
 
-ghost use Rattle.key_exec.specs.Laws.{WholeRepliesAreOfAsked, WholeRepliesAreOfAll, KnowledgeIsEnough, HeldPagesAreKnown, DamageIsNeverMet, PagesStayKnown, PagesStayKnownBut, DamageStays, KnowledgeIsSpared, BuffersStayGiven, BuffersStayBlankOrRead, OthersSpareHalves, JobsSpareHalves, ReadersKeep, KeptStays, FewStepsAreLeft, CandidatesAreAnswers};
+ghost use Rattle.key_exec.specs.Laws.{WholeRepliesAreOfAsked, WholeRepliesAreOfAll, KnowledgeIsEnough, HeldPagesAreKnown, DamageIsNeverMet, PagesStayKnown, PagesStayKnownBut, DamageStays, KnowledgeIsSpared, BuffersStayGiven, BuffersStayBlankOrRead, OthersSpareHalves, JobsSpareHalves, ReadersKeep, KeptStays, FewStepsAreLeft};
 
 /// One reply to each ask of a query is about asked tables alone, and about all of them.
 pub fn whole_replies_are_of_asked()
@@ -74,15 +74,6 @@ pub fn what_jobs_keep_adds_up()
     ensures stays { KeptStays }
 {
     ghost_model::layout::layout_is_small();
-}
-
-/// Where the replies are those of an honest host, and the lists of all of them are united, each candidate is one row of the answer.
-pub fn candidates_are_answers()
-    ensures answers { CandidatesAreAnswers }
-{
-    candidate_rows::costs::rows_that_meet_all_are_answers();
-    condition_lists::laws::terms_are_those_of_queries();
-    condition_lists::laws::all_are_united();
 }
 
 /// A text goes on for 2 ^ 56 steps at most.
