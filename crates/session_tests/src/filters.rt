@@ -13,11 +13,15 @@ const SATURATED: &str = "SELECT top.id FROM top, leaf WHERE lf = leaf.id AND tag
 /// The tops with one of the first 6 of 50 leaves.
 const REMAINDERS: &str = "SELECT top.id FROM top, leaf WHERE lf = leaf.id AND tag <= 6;";
 
-/// The file of 100 tops, each with the leaf 39,950 behind it.
-fn hundred_tops(alloc: Global) -> Result<String, AllocError> {
+/// The file of so many tops: of the first 100 each has the leaf 39,950 behind it, the others have leaves above 40,000.
+fn far_tops(alloc: Global, last: u32) -> Result<String, AllocError> {
     let mut lines = String::from_str(alloc, "id,num,val,lf\n")?;
-    for row in 1..=100u32 {
-        let leaf = row + 39_950;
+    for row in 1..=last {
+        let leaf = if row <= 100 {
+            row + 39_950
+        } else {
+            row % 1_000 + 40_001
+        };
         write!(lines, "{row},{row},0,{leaf}\n")?;
     }
     Ok(lines)
@@ -55,8 +59,6 @@ fn sifted_lines(alloc: Global) -> Result<String, AllocError> {
     Ok(lines)
 }
 
-/// With 8 buffers all bits of the filter are set, so that it keeps each row and the last look-up alone decides. With 64 it keeps
-/// few besides those of the answer, and fewer rows are looked up.
 #[test]
 fn the_last_look_up_decides_where_all_bits_are_set(rt: HostRuntime) -> Result<(), AllocError> {
     let mut lines = String::new(rt.alloc());
@@ -64,11 +66,28 @@ fn the_last_look_up_decides_where_all_bits_are_set(rt: HostRuntime) -> Result<()
     let mut depot = files_of(
         rt.alloc(),
         leaves(rt.alloc())?.as_str(),
-        hundred_tops(rt.alloc())?.as_str(),
+        far_tops(rt.alloc(), 100)?.as_str(),
         SATURATED,
     )?;
-    let scan = calls_of(rt.alloc(), &mut depot, Plan::Scan, 8, lines.as_str())?;
-    assert!(rt; scan.is_some());
+    for plan in [Plan::Scan, FILTER] {
+        let calls = calls_of(rt.alloc(), &mut depot, plan, 8, lines.as_str())?;
+        assert!(rt; calls.is_some());
+    }
+    Ok(())
+}
+
+/// With 8 buffers all bits are set, and all of the 12,000 candidates are kept and looked at. With 64 few are, beside those of the
+/// answer.
+#[test]
+fn a_filter_of_more_pages_keeps_fewer_candidates(rt: HostRuntime) -> Result<(), AllocError> {
+    let mut lines = String::new(rt.alloc());
+    put_lines(&mut lines, 1, (1, 50, 1))?;
+    let mut depot = files_of(
+        rt.alloc(),
+        leaves(rt.alloc())?.as_str(),
+        far_tops(rt.alloc(), 12_000)?.as_str(),
+        SATURATED,
+    )?;
     let full = calls_of(rt.alloc(), &mut depot, FILTER, 8, lines.as_str())?;
     let sifting = calls_of(rt.alloc(), &mut depot, FILTER, 64, lines.as_str())?;
     let full = full.expect(&rt, "the lines by a full filter");
