@@ -22,7 +22,6 @@ use Rattle.channel_pump.specs.declared.state.Event.{Event}
 use Rattle.channel_pump.specs.declared.state.Event.TheVariants as event_is
 use Rattle.channel_pump.proofs.JournalLemmas.{left_more}
 use Rattle.channel_pump.specs.Sessions.{IsLive, Moved, heard_by, piece_at, asked_in, leads_on}
-use Rattle.channel_pump.specs.declared.exchange.Exchange.{Exchange}
 
 pub goes_more : (catalog : Catalog) (at : List ℕ) (asks : List NumberedAsk) (before journal : Journal) (entry : Entry) → GoesOn catalog at asks before journal → next_with catalog at asks (before ++ journal) ≡ Some entry.move → GoesOn catalog at asks before (journal ++ entry ∷ [])
 goes_more catalog at asks before [] entry goes e = (ap (λ (j : Journal). next_with catalog at asks j) (sym (append-nil before)) ∙ e, tt)
@@ -76,11 +75,11 @@ finished_more catalog at asks journal entry next shut =
     (sym (ap (λ (l : Standing). l.closed) (left_more catalog asks journal entry)) ∙ shut)))
 
 -- a session goes on by the move that is next
-pub live_more : (catalog : Catalog) (at : List ℕ) (asks : List NumberedAsk) (journal : Journal) (entry : Entry) (old new : Exchange)
-    → IsLive catalog at asks journal old → next_with catalog at asks journal ≡ Some entry.move
+pub live_more : (catalog : Catalog) (at : List ℕ) (asks : List NumberedAsk) (journal : Journal) (entry : Entry) (old new : Pump) (was page : List ℕ)
+    → IsLive catalog at asks journal old was → next_with catalog at asks journal ≡ Some entry.move
     → AreBytes (piece_of entry.answer)
-    → IsAfter catalog asks (journal ++ entry ∷ []) new.pump → Keeps catalog asks (journal ++ entry ∷ []) new.page → IsLive catalog at asks (journal ++ entry ∷ []) new
-live_more catalog at asks journal entry old new live next bytes after keeps = record {
+    → IsAfter catalog asks (journal ++ entry ∷ []) new → Keeps catalog asks (journal ++ entry ∷ []) page → IsLive catalog at asks (journal ++ entry ∷ []) new page
+live_more catalog at asks journal entry old new was page live next bytes after keeps = record {
   proper = goes_more catalog at asks [] journal entry live.proper next;
   after = after;
   keeps = keeps;
@@ -99,15 +98,15 @@ tells_nothing catalog asks journal entry page none =
     record { rows = ap (λ (h : Heard). h.rows) same; ended = ap (λ (h : Heard). h.ended) same ∙ sym (append-nil (heard_by catalog asks journal).ended); came = tt }
 
 -- a move that takes nothing was made
-pub quiet : (goes : Journal → Type 0) (catalog : Catalog) (at : List ℕ) (asks : List NumberedAsk) (journal : Journal) (entry : Entry) (old new : Exchange)
-    → goes (entry ∷ []) → IsLive catalog at asks journal old → next_with catalog at asks journal ≡ Some entry.move → piece_of entry.answer ≡ []
-    → IsAfter catalog asks (journal ++ entry ∷ []) new.pump → Keeps catalog asks (journal ++ entry ∷ []) new.page
-    → Moved goes catalog at asks journal event_is.Part new
-quiet goes catalog at asks journal entry old new went live next none after keeps = record {
+pub quiet : (goes : Journal → Type 0) (catalog : Catalog) (at : List ℕ) (asks : List NumberedAsk) (journal : Journal) (entry : Entry) (old new : Pump) (was page : List ℕ)
+    → goes (entry ∷ []) → IsLive catalog at asks journal old was → next_with catalog at asks journal ≡ Some entry.move → piece_of entry.answer ≡ []
+    → IsAfter catalog asks (journal ++ entry ∷ []) new → Keeps catalog asks (journal ++ entry ∷ []) page
+    → Moved goes catalog at asks journal event_is.Part new page
+quiet goes catalog at asks journal entry old new was page went live next none after keeps = record {
   made = entry;
   went = went;
-  live = live_more catalog at asks journal entry old new live next (subst AreBytes (sym none) no_bytes) after keeps;
-  tells = tells_nothing catalog asks journal entry new.page none;
+  live = live_more catalog at asks journal entry old new was page live next (subst AreBytes (sym none) no_bytes) after keeps;
+  tells = tells_nothing catalog asks journal entry page none;
   same_ask = λ _. ap (λ (bytes : List ℕ). asked_in (heard catalog asks bytes).awaits) (same_taken journal entry none);
   greeting = λ e. cc;
 }
@@ -139,9 +138,9 @@ take_at catalog asks journal p place most stage.Taking h e = record {
 take_at catalog asks journal p place most (stage.Closing _) h e = cc
 take_at catalog asks journal p place most (stage.Closed _) h e = cc
 
-pub is_take : (catalog : Catalog) (at : List ℕ) (asks : List NumberedAsk) (journal : Journal) (exchange : Exchange) (place most : ℕ) → IsLive catalog at asks journal exchange
-    → want_of exchange.pump ≡ want.Take place most → IsTake catalog asks journal exchange.pump place most
-is_take catalog at asks journal exchange place most live e = take_at catalog asks journal exchange.pump place most exchange.pump.stage live.after.stage e
+pub is_take : (catalog : Catalog) (at : List ℕ) (asks : List NumberedAsk) (journal : Journal) (pump : Pump) (page : List ℕ) (place most : ℕ) → IsLive catalog at asks journal pump page
+    → want_of pump ≡ want.Take place most → IsTake catalog asks journal pump place most
+is_take catalog at asks journal pump page place most live e = take_at catalog asks journal pump place most pump.stage live.after.stage e
 
 -- a page whose front is the same keeps the part
 pub front_keeps : (catalog : Catalog) (asks : List NumberedAsk) (journal : Journal) (place : ℕ) (old new : List ℕ) → length (heard_by catalog asks journal).part ≡ place
@@ -223,28 +222,28 @@ welcomed catalog before piece e =
     welcome_fits_none catalog before.awaits (frame_in part) _ (whole_fits (nat_lt (length part) 8) (not (header_fits catalog before.awaits part)) (nat_lt (length part) (8 + size_in part)) (payload_fits catalog before.awaits (frame_in part)) (8 - length part) (8 + size_in part - length part) whole) (ap (event_at catalog before part) (sym whole) ∙ e)
 
 -- a piece was taken into the page behind the part at hand
-pub took_piece : (goes : Journal → Type 0) (catalog : Catalog) (at : List ℕ) (asks : List NumberedAsk) (journal : Journal) (old new : Exchange) (place most count : ℕ) (event : Event)
-    (piece page : List ℕ) → 0 < count → count ≤ most → place + most ≤ length page → (heard_by catalog asks journal).broken ≡ false
-    → event ≡ event_after catalog (heard_by catalog asks journal) (take count (drop old.pump.have page)) → IsLive catalog at asks journal old → next_with catalog at asks journal ≡ Some (Take most) → IsTake catalog asks journal old.pump place most
+pub took_piece : (goes : Journal → Type 0) (catalog : Catalog) (at : List ℕ) (asks : List NumberedAsk) (journal : Journal) (old new : Pump) (was page : List ℕ) (place most count : ℕ) (event : Event)
+    (piece : List ℕ) → 0 < count → count ≤ most → place + most ≤ length page → (heard_by catalog asks journal).broken ≡ false
+    → event ≡ event_after catalog (heard_by catalog asks journal) (take count (drop old.have page)) → IsLive catalog at asks journal old was → next_with catalog at asks journal ≡ Some (Take most) → IsTake catalog asks journal old place most
     → (answer : Answer) → goes (entry (Take most) answer ∷ []) → answer ≡ Piece (take count (drop place page)) → piece ≡ take count (drop place page) → AreBytes piece
-    → IsAfter catalog asks (journal ++ taken_entry old.pump page count ∷ []) new.pump
-    → Keeps catalog asks (journal ++ taken_entry old.pump page count ∷ []) new.page
-    → Tells catalog new.page event (heard_by catalog asks journal) (heard_by catalog asks (journal ++ taken_entry old.pump page count ∷ []))
-    → Moved goes catalog at asks journal event new
-took_piece goes catalog at asks journal old new place most count event piece page some fits room whole is_event live next wanted answer went gave is bytes after keeps tells =
-    let same : entry (Take most) (Piece (take count (drop place page))) ≡ taken_entry old.pump page count = rw (wanted.lacks, wanted.have) refl in
-    let long : length (take count (drop old.pump.have page)) ≡ count =
-    length-take-le count (drop old.pump.have page) (let dropped : length (drop old.pump.have page) ≡ length page - old.pump.have = length-drop old.pump.have page in omega (arith, dropped, fits, room, wanted.have)) in
+    → IsAfter catalog asks (journal ++ taken_entry old page count ∷ []) new
+    → Keeps catalog asks (journal ++ taken_entry old page count ∷ []) page
+    → Tells catalog page event (heard_by catalog asks journal) (heard_by catalog asks (journal ++ taken_entry old page count ∷ []))
+    → Moved goes catalog at asks journal event new page
+took_piece goes catalog at asks journal old new was page place most count event piece some fits room whole is_event live next wanted answer went gave is bytes after keeps tells =
+    let same : entry (Take most) (Piece (take count (drop place page))) ≡ taken_entry old page count = rw (wanted.lacks, wanted.have) refl in
+    let long : length (take count (drop old.have page)) ≡ count =
+    length-take-le count (drop old.have page) (let dropped : length (drop old.have page) ≡ length page - old.have = length-drop old.have page in omega (arith, dropped, fits, room, wanted.have)) in
     record {
-      made = taken_entry old.pump page count;
+      made = taken_entry old page count;
       went = subst (λ (e : Entry). goes (e ∷ [])) (ap (entry (Take most)) gave ∙ same) went;
-      live = live_more catalog at asks journal (taken_entry old.pump page count) old new live (next ∙ ap (λ (e : Entry). Some e.move) same)
+      live = live_more catalog at asks journal (taken_entry old page count) old new was page live (next ∙ ap (λ (e : Entry). Some e.move) same)
           (subst AreBytes (is ∙ ap (λ (e : Entry). piece_of e.answer) same) bytes) after keeps;
       tells = tells;
-      greeting = λ e. welcomed catalog (heard_by catalog asks journal) (take count (drop old.pump.have page)) (sym is_event ∙ e);
+      greeting = λ e. welcomed catalog (heard_by catalog asks journal) (take count (drop old.have page)) (sym is_event ∙ e);
       same_ask = λ e.
-          ap (λ (h : Heard). asked_in h.awaits) (heard_more catalog asks journal (taken_entry old.pump page count))
-          ∙ piece_stays catalog asks (heard_by catalog asks journal) (take count (drop old.pump.have page)) most whole wanted.short
+          ap (λ (h : Heard). asked_in h.awaits) (heard_more catalog asks journal (taken_entry old page count))
+          ∙ piece_stays catalog asks (heard_by catalog asks journal) (take count (drop old.have page)) most whole wanted.short
           (omega (arith, some, long)) (omega (arith, fits, long)) (sym (ap leads_on is_event) ∙ e);
     }
 
@@ -253,12 +252,12 @@ gave_none at zero page none = refl
 gave_none at (suc more) page none = cc
 
 -- the stream ended
-pub ended : (goes : Journal → Type 0) (catalog : Catalog) (at : List ℕ) (asks : List NumberedAsk) (journal : Journal) (most : ℕ) (answer : Answer) (old new : Exchange)
-    → goes (entry (Take most) answer ∷ []) → answer ≡ End → IsLive catalog at asks journal old → next_with catalog at asks journal ≡ Some (Take most)
-    → IsAfter catalog asks (journal ++ entry (Take most) End ∷ []) new.pump → Keeps catalog asks (journal ++ entry (Take most) End ∷ []) new.page
-    → Moved goes catalog at asks journal event_is.Part new
-ended goes catalog at asks journal most answer old new went is live next after keeps =
-    quiet goes catalog at asks journal (entry (Take most) End) old new (subst (λ (a : Answer). goes (entry (Take most) a ∷ [])) is went) live next refl after keeps
+pub ended : (goes : Journal → Type 0) (catalog : Catalog) (at : List ℕ) (asks : List NumberedAsk) (journal : Journal) (most : ℕ) (answer : Answer) (old new : Pump) (was page : List ℕ)
+    → goes (entry (Take most) answer ∷ []) → answer ≡ End → IsLive catalog at asks journal old was → next_with catalog at asks journal ≡ Some (Take most)
+    → IsAfter catalog asks (journal ++ entry (Take most) End ∷ []) new → Keeps catalog asks (journal ++ entry (Take most) End ∷ []) page
+    → Moved goes catalog at asks journal event_is.Part new page
+ended goes catalog at asks journal most answer old new was page went is live next after keeps =
+    quiet goes catalog at asks journal (entry (Take most) End) old new was page (subst (λ (a : Answer). goes (entry (Take most) a ∷ [])) is went) live next refl after keeps
 
 pub positive : (count : ℕ) → (count ≡ 0 → ⊥) → 0 < count
 positive zero some = absurd (some refl)

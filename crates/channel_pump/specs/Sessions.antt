@@ -11,12 +11,12 @@ use Rattle.channel_pump.specs.Progress.{Tells}
 use Rattle.channel_pump.specs.declared.state.Event.{Event}
 use Rattle.channel_pump.specs.declared.state.Event.TheVariants as event_is
 use Rattle.channel_pump.specs.declared.state.Want.TheVariants as want
-use Rattle.channel_pump.specs.declared.exchange.Exchange.{Exchange}
+use Rattle.channel_pump.specs.declared.state.Pump.{Pump}
 
-pub record IsLive (catalog : Catalog) (at : List ℕ) (asks : List NumberedAsk) (journal : Journal) (exchange : Exchange) : Type 0 where
+pub record IsLive (catalog : Catalog) (at : List ℕ) (asks : List NumberedAsk) (journal : Journal) (pump : Pump) (page : List ℕ) : Type 0 where
   pub proper : GoesOn catalog at asks [] journal
-  pub after : IsAfter catalog asks journal exchange.pump
-  pub keeps : Keeps catalog asks journal exchange.page
+  pub after : IsAfter catalog asks journal pump
+  pub keeps : Keeps catalog asks journal page
   pub bytes : AreBytes (taken journal)
   pub finished : (standing_after catalog asks journal).closed ≡ true → IsFinished journal
 
@@ -40,11 +40,11 @@ leads_on (event_is.Sorry _) = true
 leads_on (event_is.Invalid _ _) = false
 
 -- one move was made after those of a journal, and led to this event
-pub record Moved (goes : Journal → Type 0) (catalog : Catalog) (at : List ℕ) (asks : List NumberedAsk) (journal : Journal) (event : Event) (exchange : Exchange) : Type 0 where
+pub record Moved (goes : Journal → Type 0) (catalog : Catalog) (at : List ℕ) (asks : List NumberedAsk) (journal : Journal) (event : Event) (pump : Pump) (page : List ℕ) : Type 0 where
   pub made : Entry
   pub went : goes (made ∷ [])
-  pub live : IsLive catalog at asks (journal ++ made ∷ []) exchange
-  pub tells : Tells catalog exchange.page event (heard_by catalog asks journal) (heard_by catalog asks (journal ++ made ∷ []))
+  pub live : IsLive catalog at asks (journal ++ made ∷ []) pump page
+  pub tells : Tells catalog page event (heard_by catalog asks journal) (heard_by catalog asks (journal ++ made ∷ []))
   -- till then the same ask is at hand
   pub same_ask : leads_on event ≡ false
       → asked_in (heard_by catalog asks (journal ++ made ∷ [])).awaits ≡ asked_in (heard_by catalog asks journal).awaits
@@ -61,8 +61,14 @@ abbrev pub gave_at : {E : Type 0} → (at : ℕ) → Result ℕ E → (page : Li
 gave_at at (Ok count) page = piece_at at count page
 gave_at at (Err _) page = Failed
 
+-- a session before its first move
+abbrev pub SessionsBegin : Type 0
+SessionsBegin =
+    (catalog : Catalog) (at : List ℕ) (asks : List NumberedAsk) (pump : Pump) (page : List ℕ)
+    → IsAfter catalog asks [] pump → IsLive catalog at asks [] pump page
+
 -- nothing more is wanted only after a finished journal
 abbrev pub ClosedIsFinished : Type 0
 ClosedIsFinished =
-    (catalog : Catalog) (at : List ℕ) (asks : List NumberedAsk) (journal : Journal) (exchange : Exchange)
-    → IsLive catalog at asks journal exchange → want_of exchange.pump ≡ want.Closed → IsFinished journal
+    (catalog : Catalog) (at : List ℕ) (asks : List NumberedAsk) (journal : Journal) (pump : Pump) (page : List ℕ)
+    → IsLive catalog at asks journal pump page → want_of pump ≡ want.Closed → IsFinished journal

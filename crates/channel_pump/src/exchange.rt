@@ -18,125 +18,104 @@ use crate::state::{Event, Pump, Want};
 use edge_traits::Failed;
 use edge_traits::link::Link;
 
-/// The key's end of a session: what it wants next, and the page in which the frame at hand lies.
-#[derive(Drop)]
-pub struct Exchange<'a> {
-    /// What is wanted.
-    pub pump: Pump<'a>,
-
-    /// The frame at hand, and after a frame of rows these rows.
-    pub page: [u8; 2048],
-}
-
-impl<'a> Exchange<'a> {
-    /// A session before its first move.
-    pub fn begin(pump: Pump<'a>) -> Self
-        ensures pump { result.pump ≡ pump.entry }
-        ensures live { (catalog : Catalog) (at : List ℕ) (asks : List NumberedAsk) → IsAfter catalog asks [] pump.entry → IsLive catalog at asks [] result }
-    {
-        pages_keep_the_part();
-        Exchange {
-            pump,
-            page: [0; 2048],
-        }
-    }
-
-    /// Makes the next move on the link, of a session to the host at the address `at`, and answers what it led to.
+impl<'a> Pump<'a> {
+    /// Makes the next move on the link, of a session to the host at the address `at`, and answers what it led to. The page is that in
+    /// which the frame at hand lies, and after a frame of rows these rows.
     ///
     /// What is sent and dialled leads to nothing by itself, and neither does the close, a failure or the end of the stream.
-    pub fn step<L: Link>(&mut self, at: &str, link: &mut L) -> Event
-        requires going { want_of self.old.pump ≢ Want.Closed }
-        ensures moved { (catalog : Catalog) (asks : List NumberedAsk) (journal : Journal) → IsLive catalog at.now asks journal self.old
-            → Moved (WentBy (λ more. L.went link.old more link.new) (L.faults link.old) (L.faults link.new)) catalog at.now asks journal result self.new }
-        ensures fewer { moves_left self.new.pump < moves_left self.old.pump }
+    pub fn step<L: Link>(&mut self, at: &str, page: &mut [u8; 2048], link: &mut L) -> Event
+        requires going { want_of self.old ≢ Want.Closed }
+        ensures moved { (catalog : Catalog) (asks : List NumberedAsk) (journal : Journal) → IsLive catalog at.now asks journal self.old page.old
+            → Moved (WentBy (λ more. L.went link.old more link.new) (L.faults link.old) (L.faults link.new)) catalog at.now asks journal result self.new page.new }
+        ensures fewer { moves_left self.new < moves_left self.old }
         ensures faults { L.faults link.old ≤ L.faults link.new }
     {
-        match self.pump.want() {
-            Want::Dial => self.dial(at, link),
-            Want::Send => self.send(link),
-            Want::Take { at, most } => self.take(at, most, link),
-            Want::Close => self.close(link),
+        match self.want() {
+            Want::Dial => self.dial(at, page, link),
+            Want::Send => self.send(page, link),
+            Want::Take { at, most } => self.take(at, most, page, link),
+            Want::Close => self.close(page, link),
             Want::Closed => unreachable!(),
         }
     }
 
     /// Dials the host.
-    fn dial<L: Link>(&mut self, at: &str, link: &mut L) -> Event
-        requires wanted { want_of self.old.pump ≡ Want.Dial }
-        ensures moved { (catalog : Catalog) (asks : List NumberedAsk) (journal : Journal) → IsLive catalog at.now asks journal self.old
+    fn dial<L: Link>(&mut self, at: &str, page: &[u8; 2048], link: &mut L) -> Event
+        requires wanted { want_of self.old ≡ Want.Dial }
+        ensures moved { (catalog : Catalog) (asks : List NumberedAsk) (journal : Journal) → IsLive catalog at.now asks journal self.old page.now
             → next_with catalog at.now asks journal ≡ Some (channel.Dial at.now)
-            → Moved (WentBy (λ more. L.went link.old more link.new) (L.faults link.old) (L.faults link.new)) catalog at.now asks journal result self.new }
-        ensures fewer { moves_left self.new.pump < moves_left self.old.pump }
+            → Moved (WentBy (λ more. L.went link.old more link.new) (L.faults link.old) (L.faults link.new)) catalog at.now asks journal result self.new page.now }
+        ensures fewer { moves_left self.new < moves_left self.old }
         ensures faults { L.faults link.old ≤ L.faults link.new }
     {
         pages_keep_the_part();
         match link.dial(at) {
-            Ok(()) => self.pump.made(),
-            Err(_) => self.pump.failed(),
+            Ok(()) => self.made(),
+            Err(_) => self.failed(),
         }
         Event::Part
     }
 
     /// Sends the frame that is wanted.
-    fn send<L: Link>(&mut self, link: &mut L) -> Event
-        requires wanted { want_of self.old.pump ≡ Want.Send }
-        ensures moved { (catalog : Catalog) (at : List ℕ) (asks : List NumberedAsk) (journal : Journal) → IsLive catalog at asks journal self.old
-            → Moved (WentBy (λ more. L.went link.old more link.new) (L.faults link.old) (L.faults link.new)) catalog at asks journal result self.new }
-        ensures fewer { moves_left self.new.pump < moves_left self.old.pump }
+    fn send<L: Link>(&mut self, page: &mut [u8; 2048], link: &mut L) -> Event
+        requires wanted { want_of self.old ≡ Want.Send }
+        ensures moved { (catalog : Catalog) (at : List ℕ) (asks : List NumberedAsk) (journal : Journal) → IsLive catalog at asks journal self.old page.old
+            → Moved (WentBy (λ more. L.went link.old more link.new) (L.faults link.old) (L.faults link.new)) catalog at asks journal result self.new page.new }
+        ensures fewer { moves_left self.new < moves_left self.old }
         ensures faults { L.faults link.old ≤ L.faults link.new }
     {
         pages_keep_the_part();
-        let count = self.pump.frame(&mut self.page);
-        let (bytes, _rest) = self.page.split_at(count);
+        let count = self.frame(page);
+        let (bytes, _rest) = page.split_at(count);
         match link.send(bytes) {
-            Ok(()) => self.pump.made(),
-            Err(_) => self.pump.failed(),
+            Ok(()) => self.made(),
+            Err(_) => self.failed(),
         }
         Event::Part
     }
 
     /// Takes what is wanted, at most so many bytes, into the page at a place.
-    fn take<L: Link>(&mut self, place: usize, most: usize, link: &mut L) -> Event
-        requires wanted { want_of self.old.pump ≡ Want.Take place most }
+    fn take<L: Link>(&mut self, place: usize, most: usize, page: &mut [u8; 2048], link: &mut L) -> Event
+        requires wanted { want_of self.old ≡ Want.Take place most }
         requires some { 0 < most }
         requires fits { place + most ≤ 2048 }
-        ensures moved { (catalog : Catalog) (at : List ℕ) (asks : List NumberedAsk) (journal : Journal) → IsLive catalog at asks journal self.old
+        ensures moved { (catalog : Catalog) (at : List ℕ) (asks : List NumberedAsk) (journal : Journal) → IsLive catalog at asks journal self.old page.old
             → next_with catalog at asks journal ≡ Some (channel.Take most)
-            → Moved (WentBy (λ more. L.went link.old more link.new) (L.faults link.old) (L.faults link.new)) catalog at asks journal result self.new }
-        ensures fewer { moves_left self.new.pump < moves_left self.old.pump }
+            → Moved (WentBy (λ more. L.went link.old more link.new) (L.faults link.old) (L.faults link.new)) catalog at asks journal result self.new page.new }
+        ensures fewer { moves_left self.new < moves_left self.old }
         ensures faults { L.faults link.old ≤ L.faults link.new }
     {
         pages_keep_the_part();
-        match take_piece(link, &mut self.page, place, most) {
+        match take_piece(link, page, place, most) {
             Err(_) => {
-                self.pump.failed();
+                self.failed();
                 Event::Part
             }
             Ok(0) => {
-                self.pump.ended();
+                self.ended();
                 Event::Part
             }
             Ok(count) => {
-                let (_before, rest) = self.page.split_at(place);
+                let (_before, rest) = page.split_at(place);
                 let (piece, _rest) = rest.split_at(count);
                 are_bytes(piece);
-                self.pump.took(&self.page, count)
+                self.took(page, count)
             }
         }
     }
 
     /// Closes the stream.
-    fn close<L: Link>(&mut self, link: &mut L) -> Event
-        requires wanted { want_of self.old.pump ≡ Want.Close }
-        ensures moved { (catalog : Catalog) (at : List ℕ) (asks : List NumberedAsk) (journal : Journal) → IsLive catalog at asks journal self.old
+    fn close<L: Link>(&mut self, page: &[u8; 2048], link: &mut L) -> Event
+        requires wanted { want_of self.old ≡ Want.Close }
+        ensures moved { (catalog : Catalog) (at : List ℕ) (asks : List NumberedAsk) (journal : Journal) → IsLive catalog at asks journal self.old page.now
             → next_with catalog at asks journal ≡ Some channel.Close
-            → Moved (WentBy (λ more. L.went link.old more link.new) (L.faults link.old) (L.faults link.new)) catalog at asks journal result self.new }
-        ensures fewer { moves_left self.new.pump < moves_left self.old.pump }
+            → Moved (WentBy (λ more. L.went link.old more link.new) (L.faults link.old) (L.faults link.new)) catalog at asks journal result self.new page.now }
+        ensures fewer { moves_left self.new < moves_left self.old }
         ensures faults { L.faults link.old ≤ L.faults link.new }
     {
         pages_keep_the_part();
         link.close();
-        self.pump.made();
+        self.made();
         Event::Part
     }
 }

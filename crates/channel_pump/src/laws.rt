@@ -2,12 +2,19 @@
 
 ghost use Rattle.channel_pump.specs.Pages.{PagesKeep};
 ghost use Rattle.channel_pump.specs.Entries.{MovesJoin};
-ghost use Rattle.channel_pump.specs.Sessions.{ClosedIsFinished};
+ghost use Rattle.channel_pump.specs.Sessions.{ClosedIsFinished, SessionsBegin};
 
 /// Any page keeps the part before the first move, and a page that keeps it does so after every move that takes nothing.
 pub(crate) fn pages_keep_the_part()
     ensures { PagesKeep }
 {}
+
+/// A session before its first move, whatever its page holds.
+pub fn sessions_begin()
+    ensures begun { SessionsBegin }
+{
+    pages_keep_the_part();
+}
 
 /// A session of which nothing more is wanted went by a finished journal.
 pub fn closed_is_finished()

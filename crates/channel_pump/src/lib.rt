@@ -5,12 +5,12 @@
 //! are made as they are compared, and received bytes lie in a page of its caller. Its next move is the one that the definitions
 //! give for the moves so far and their answers, and nothing else decides it.
 //!
-//! In an exchange the pump says what is wanted, the link does it, and the pump is told how it went. So each move is the one that
+//! In a step the pump says what is wanted, the link does it, and the pump is told how it went. So each move is the one that
 //! the definitions give for the moves before it and their answers, whatever the link answers.
 #![tactic(auto)]
 
 mod asks;
-pub mod exchange;
+mod exchange;
 mod forms;
 mod judging;
 pub mod laws;
@@ -20,4 +20,3 @@ mod rows;
 pub mod state;
 mod turning;
 
-pub use exchange::Exchange;
