@@ -198,7 +198,7 @@ alone_still leases later pool more lease same keeps alone =
       enough = omega (arith, size, enough);
       within = omega (arith, size, within);
       out = subst (λ (out : List Bool). get_or out lease false ≡ true) (sym same) alone.out;
-      free = subst (λ (out : List Bool). count_by not out + 1 ≡ length more.pages) (sym same) (alone.free ∙ sym size);
+      free = subst (λ (out : List Bool). count_by not out + 2 ≡ length more.pages) (sym same) (alone.free ∙ sym size);
     }
 
 pub ended_run : (plan : Plan) (pages_told : Bool) (catalog : Catalog) (device : Device) (pool more : Pool) (number lease : ℕ) (leases later : List ℕ) (running : Option Telling) → running ≡ None → later ≡ []

@@ -32,6 +32,7 @@ pub mod Attending
 pub mod Moving
 pub mod Beginning
 pub mod Steps
+pub mod Framing
 pub mod Leasing
 pub mod Stepping
 pub mod Settings

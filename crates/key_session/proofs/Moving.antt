@@ -13,7 +13,6 @@ use Rattle.channel_pump.specs.Progress.{Tells, ended_on}
 use Rattle.channel_pump.specs.declared.state.Event.{Event}
 use Rattle.channel_pump.specs.declared.state.Event.TheVariants as event_is
 use Rattle.channel_pump.specs.Sessions.{Moved, asked_in}
-use Rattle.channel_pump.specs.declared.exchange.Exchange.{Exchange}
 use Rattle.session_laws.specs.TextEnds.{heard_in, is_settled_in, EndedTextsStay, ReasonsStay}
 use Rattle.key_session.specs.Fits.{Fits, RepliesFit}
 use Rattle.key_session.specs.Kept.{IsKept, is_lost, lease_of, none_heard}
@@ -167,7 +166,7 @@ pub record MoveTells (catalog : Catalog) (texts : List (List ℕ)) (count : ℕ)
 other_half : (count text : ℕ) → text ≡ count + 2 → text % 2 ≡ 1 - (count + 1) % 2
 other_half count text is = omega (arith, is)
 
-half_below : (n : ℕ) → n % 2 < 2
+pub half_below : (n : ℕ) → n % 2 < 2
 half_below n = omega arith
 
 not_above : (a b : ℕ) → (a < b → ⊥) → b ≤ a
@@ -336,7 +335,7 @@ going_on stay reasons decided plan pages_told catalog texts journal more since s
 
 -- ---- the text that is told, after one more move: its asks came to the same, and its half and its buffers stay
 
-spares_telling : (catalog : Catalog) (side : ℕ) (before now : Device) (pool after : Pool) (lease : ℕ) (telling : Telling) → side < 2 → ChangesOnly (half_begin catalog (1 - side)) (half_end catalog (1 - side)) before now → ChangesPage pool after lease → IsOutAlone (lines.leases_of telling) pool lease
+pub spares_telling : (catalog : Catalog) (side : ℕ) (before now : Device) (pool after : Pool) (lease : ℕ) (telling : Telling) → side < 2 → ChangesOnly (half_begin catalog (1 - side)) (half_end catalog (1 - side)) before now → ChangesPage pool after lease → IsOutAlone (lines.leases_of telling) pool lease
     → Spares catalog side before now pool after (lines.leases_of telling)
 spares_telling catalog side before now pool after lease telling less half changes alone = record {
   side_is = less;
@@ -347,6 +346,19 @@ spares_telling catalog side before now pool after lease telling less half change
   where
     apart : (i : ℕ) → i < length (lines.leases_of telling) → get_or (lines.leases_of telling) i 0 ≢ lease
     apart i within e = other_apart pool (lines.leases_of telling) lease i 0 within alone.out (sym e)
+
+pub alone_kept : (leases : List ℕ) (lease : ℕ) (pool more : Pool) → KeepsOut pool more → IsOutAlone leases pool lease → IsOutAlone leases more lease
+alone_kept leases lease pool more keeps alone =
+    let same = others_kept leases keeps in
+    let size : length more.pages ≡ length pool.pages = keeps.size in
+    let enough : 8 ≤ length pool.pages = alone.enough in
+    let within : lease < length pool.pages = alone.within in
+    record {
+      enough = omega (arith, size, enough);
+      within = omega (arith, size, within);
+      out = subst (λ (out : List Bool). get_or out lease false ≡ true) (sym same) alone.out;
+      free = subst (λ (out : List Bool). count_by not out + 2 ≡ length more.pages) (sym same) (alone.free ∙ sym size);
+    }
 
 pub running_on : EndedTextsStay → TextsAreDecided → (plan : Plan) (pages_told : Bool) (catalog : Catalog) (texts : List (List ℕ)) (journal more : Journal) (place : ℕ) (since : Device) (sink : Handed) (before now : SessionSide) (pool after : Pool) (old new : Replies) (telling : Telling)
     → TellingIsSpared telling → before.sink ≡ now.sink
@@ -422,24 +434,24 @@ pub record TextLaws : Type 0 where
 
 -- one more move: what is heard of the reply at hand
 module _ (laws : TextLaws) (fit : RepliesFit) (schema_text : List ℕ) (catalog : Catalog) (meant : MeansSchema schema_text catalog.schema)
-    (goes : Journal → Type 0) (plan : Plan) (pages_told : Bool) (at : List ℕ) (texts : List (List ℕ)) (journal : Journal) (since : SessionSide) (sink : Handed) (before : Device) (pool : Pool) (old new : Exchange) (teller : Teller) (replies middle : Replies) (event : Event)
-    (opened : want_of old.pump ≡ want_is.Closed → ⊥) (near : IsNear catalog texts journal (teller.count + 2))
-    (amid : IsAmid plan pages_told catalog texts journal since (record { sink = sink; flash = before }) pool old.pump teller replies)
+    (goes : Journal → Type 0) (plan : Plan) (pages_told : Bool) (at : List ℕ) (texts : List (List ℕ)) (journal : Journal) (since : SessionSide) (sink : Handed) (before : Device) (pool : Pool) (old new : Pump) (page : List ℕ) (teller : Teller) (replies middle : Replies) (event : Event)
+    (opened : want_of old ≡ want_is.Closed → ⊥) (near : IsNear catalog texts journal (teller.count + 2))
+    (amid : IsAmid plan pages_told catalog texts journal since (record { sink = sink; flash = before }) pool old teller replies)
     (awaits : Fits catalog (heard_in catalog texts journal)
     → ((asked : NumberedAsk) → asked_in (heard_in catalog texts journal).awaits ≡ Some asked → IsWithin (teller.count + 1) amid.going.top asked.text)
     → IsKept pages_told before pool catalog (heard_in catalog texts journal) (teller.count + 1) amid.going.top replies
     → IsAwaiting pages_told before pool catalog (heard_in catalog texts journal) (teller.count + 1) amid.going.top replies middle)
-    (moved : Moved goes catalog at (asked_of catalog.schema texts) journal event new) where
+    (moved : Moved goes catalog at (asked_of catalog.schema texts) journal event new page) where
   pub fits : Fits catalog (heard_in catalog texts journal)
   fits = fit catalog schema_text texts (taken journal) meant
 
   pub within_of : (asked : NumberedAsk) → asked_in (heard_in catalog texts journal).awaits ≡ Some asked → IsWithin (teller.count + 1) amid.going.top asked.text
-  within_of = within_now laws.over laws.order laws.decided laws.outcomes catalog at texts journal old.pump plan pages_told since amid.sink before pool (texts_left teller) teller.count teller.counts replies amid.going opened near
+  within_of = within_now laws.over laws.order laws.decided laws.outcomes catalog at texts journal old plan pages_told since amid.sink before pool (texts_left teller) teller.count teller.counts replies amid.going opened near
 
   pub awaiting_of : IsAwaiting pages_told before pool catalog (heard_in catalog texts journal) (teller.count + 1) amid.going.top replies middle
   awaiting_of = awaits fits within_of amid.going.telling.kept
 
-  pub hearing : Hears pages_told before pool catalog new.page event (heard_in catalog texts journal) (heard_in catalog texts (journal ++ moved.made ∷ [])) (teller.count + 1) awaiting_of.last middle
+  pub hearing : Hears pages_told before pool catalog page event (heard_in catalog texts journal) (heard_in catalog texts (journal ++ moved.made ∷ [])) (teller.count + 1) awaiting_of.last middle
   hearing = record {
     kept = awaiting_of.kept;
     tells = moved.tells;
@@ -449,7 +461,7 @@ module _ (laws : TextLaws) (fit : RepliesFit) (schema_text : List ℕ) (catalog 
     begun = λ asked is. ((awaiting_of.awaited asked is).begun, (within_of asked is).from);
   }
 
-  pub some_heard : IsSomeHeard pages_told before pool new.page event middle
+  pub some_heard : IsSomeHeard pages_told before pool page event middle
   some_heard = record {
     catalog = catalog;
     before = heard_in catalog texts journal;
@@ -461,16 +473,16 @@ module _ (laws : TextLaws) (fit : RepliesFit) (schema_text : List ℕ) (catalog 
 
 -- and what it makes of the texts
 module _ (laws : TextLaws) (fit : RepliesFit) (schema_text : List ℕ) (catalog : Catalog) (meant : MeansSchema schema_text catalog.schema)
-    (goes : Journal → Type 0) (plan : Plan) (pages_told : Bool) (at : List ℕ) (texts : List (List ℕ)) (journal : Journal) (since : SessionSide) (sink : Handed) (before : Device) (pool : Pool) (old new : Exchange) (teller : Teller) (replies middle : Replies) (event : Event)
-    (opened : want_of old.pump ≡ want_is.Closed → ⊥) (near : IsNear catalog texts journal (teller.count + 2))
-    (amid : IsAmid plan pages_told catalog texts journal since (record { sink = sink; flash = before }) pool old.pump teller replies)
+    (goes : Journal → Type 0) (plan : Plan) (pages_told : Bool) (at : List ℕ) (texts : List (List ℕ)) (journal : Journal) (since : SessionSide) (sink : Handed) (before : Device) (pool : Pool) (old new : Pump) (page : List ℕ) (teller : Teller) (replies middle : Replies) (event : Event)
+    (opened : want_of old ≡ want_is.Closed → ⊥) (near : IsNear catalog texts journal (teller.count + 2))
+    (amid : IsAmid plan pages_told catalog texts journal since (record { sink = sink; flash = before }) pool old teller replies)
     (awaits : Fits catalog (heard_in catalog texts journal)
     → ((asked : NumberedAsk) → asked_in (heard_in catalog texts journal).awaits ≡ Some asked → IsWithin (teller.count + 1) amid.going.top asked.text)
     → IsKept pages_told before pool catalog (heard_in catalog texts journal) (teller.count + 1) amid.going.top replies
     → IsAwaiting pages_told before pool catalog (heard_in catalog texts journal) (teller.count + 1) amid.going.top replies middle)
-    (moved : Moved goes catalog at (asked_of catalog.schema texts) journal event new)
+    (moved : Moved goes catalog at (asked_of catalog.schema texts) journal event new page)
     (now : Device) (after : Pool) (kept : Replies) (spool : middle.spool ≡ replies.spool)
-    (hears : (later : Heard) (low top : ℕ) → Hears pages_told before pool catalog new.page event (heard_in catalog texts journal) later low top middle
+    (hears : (later : Heard) (low top : ℕ) → Hears pages_told before pool catalog page event (heard_in catalog texts journal) later low top middle
     → IsKept pages_told now after catalog later low top kept × HasHeard catalog low middle.hand.text before now middle kept)
     (marks : MarkTells before now (is_lost middle middle.hand.text) (is_lost kept middle.hand.text))
     (still : middle.is_open ≡ false → now ≡ before) (still_spool : middle.is_open ≡ false → kept.spool ≡ middle.spool) where
@@ -481,15 +493,15 @@ module _ (laws : TextLaws) (fit : RepliesFit) (schema_text : List ℕ) (catalog 
   now_heard = heard_in catalog texts journal
 
   abbrev within : (asked : NumberedAsk) → asked_in (heard_in catalog texts journal).awaits ≡ Some asked → IsWithin (teller.count + 1) amid.going.top asked.text
-  within = within_of laws fit schema_text catalog meant goes plan pages_told at texts journal since sink before pool old new teller replies middle event opened near amid awaits moved
+  within = within_of laws fit schema_text catalog meant goes plan pages_told at texts journal since sink before pool old new page teller replies middle event opened near amid awaits moved
 
   abbrev awaiting : IsAwaiting pages_told before pool catalog (heard_in catalog texts journal) (teller.count + 1) amid.going.top replies middle
-  awaiting = awaiting_of laws fit schema_text catalog meant goes plan pages_told at texts journal since sink before pool old new teller replies middle event opened near amid awaits moved
+  awaiting = awaiting_of laws fit schema_text catalog meant goes plan pages_told at texts journal since sink before pool old new page teller replies middle event opened near amid awaits moved
 
   both : IsKept pages_told now after catalog (heard_in catalog texts (journal ++ moved.made ∷ [])) (teller.count + 1) awaiting.last kept × HasHeard catalog (teller.count + 1) middle.hand.text before now middle kept
   both =
       hears (heard_in catalog texts (journal ++ moved.made ∷ [])) (teller.count + 1) awaiting.last
-      (hearing laws fit schema_text catalog meant goes plan pages_told at texts journal since sink before pool old new teller replies middle event opened near amid awaits moved)
+      (hearing laws fit schema_text catalog meant goes plan pages_told at texts journal since sink before pool old new page teller replies middle event opened near amid awaits moved)
 
   pub tells_now : MoveTells catalog texts teller.count before now replies kept (is_settled_in catalog texts journal (teller.count + 1))
   tells_now =
@@ -498,9 +510,9 @@ module _ (laws : TextLaws) (fit : RepliesFit) (schema_text : List ℕ) (catalog 
   pub written_now : WritesHalf catalog middle.hand.text before now
   written_now = both.1.writes
 
-  going_now : IsGoing plan pages_told catalog texts (journal ++ moved.made ∷ []) since amid.sink now after new.pump (texts_left teller) teller.count teller.counts kept
+  going_now : IsGoing plan pages_told catalog texts (journal ++ moved.made ∷ []) since amid.sink now after new (texts_left teller) teller.count teller.counts kept
   going_now =
-      going_on laws.stay laws.reasons laws.decided plan pages_told catalog texts journal more since amid.sink before now pool after awaiting.last old.pump new.pump (texts_left teller) teller.count teller.counts replies kept (is_settled_in catalog texts journal (teller.count + 1))
+      going_on laws.stay laws.reasons laws.decided plan pages_told catalog texts journal more since amid.sink before now pool after awaiting.last old new (texts_left teller) teller.count teller.counts replies kept (is_settled_in catalog texts journal (teller.count + 1))
       amid.going opened
       (last_now (asked_in now_heard.awaits) awaiting.last amid.going.top teller.count (λ one e. (awaiting.awaited one e).last_is) awaiting.still near amid.going.telling.near)
       (last_within (asked_in now_heard.awaits) awaiting.last amid.going.top (length texts) (λ one e. (awaiting.awaited one e).last_is) awaiting.still (λ one e. (laws.order catalog texts (taken journal) one e).within) amid.going.telling.within)
@@ -512,21 +524,8 @@ module _ (laws : TextLaws) (fit : RepliesFit) (schema_text : List ℕ) (catalog 
   pub can_run : (one : Plan) → RunIsSpared teller.running → ChangesPage pool after (lease_of replies) → CanRun one pages_told catalog before pool (teller.count + 1) (lease_of replies) teller.running → CanRun one pages_told catalog now after (teller.count + 1) (lease_of replies) teller.running
   can_run one spared changes run = by teller.running spared amid.running run
     where
-      keeps : KeepsOut pool after
-      keeps = change_keeps_out changes
-
       alone : (leases : List ℕ) → IsOutAlone leases pool (lease_of replies) → IsOutAlone leases after (lease_of replies)
-      alone leases is =
-          let same = others_kept leases keeps in
-          let size : length after.pages ≡ length pool.pages = keeps.size in
-          let enough : 8 ≤ length pool.pages = is.enough in
-          let there : lease_of replies < length pool.pages = is.within in
-          record {
-            enough = omega (arith, size, enough);
-            within = omega (arith, size, there);
-            out = subst (λ (out : List Bool). get_or out (lease_of replies) false ≡ true) (sym same) is.out;
-            free = subst (λ (out : List Bool). count_by not out + 1 ≡ length after.pages) (sym same) (is.free ∙ sym size);
-          }
+      alone leases is = alone_kept leases (lease_of replies) pool after (change_keeps_out changes) is
 
       by : (running : Option Telling) → RunIsSpared running → Runs plan pages_told catalog texts journal teller.count since.flash amid.sink (record { sink = sink; flash = before }) pool replies running
           → CanRun one pages_told catalog before pool (teller.count + 1) (lease_of replies) running → CanRun one pages_told catalog now after (teller.count + 1) (lease_of replies) running
@@ -539,7 +538,7 @@ module _ (laws : TextLaws) (fit : RepliesFit) (schema_text : List ℕ) (catalog 
       }
 
   pub moved_amid : RunIsSpared teller.running → ChangesPage pool after (lease_of replies) → CanRun plan pages_told catalog before pool (teller.count + 1) (lease_of replies) teller.running
-      → IsAmid plan pages_told catalog texts (journal ++ moved.made ∷ []) since (record { sink = sink; flash = now }) after new.pump teller kept
+      → IsAmid plan pages_told catalog texts (journal ++ moved.made ∷ []) since (record { sink = sink; flash = now }) after new teller kept
   moved_amid spared changes run = record {
     plan = amid.plan;
     sink = amid.sink;

@@ -14,7 +14,7 @@ use Rattle.ghost_model.specs.core.NextMove.{Standing, Heard, standing_after, IsP
 use Rattle.page_pool.specs.Pools.{Pool}
 use Rattle.channel_pump.specs.Entries.{WentBy}
 use Rattle.channel_pump.specs.Sessions.{IsLive}
-use Rattle.channel_pump.specs.declared.exchange.Exchange.{Exchange}
+
 use Rattle.session_laws.specs.TextEnds.{heard_in}
 use Rattle.ghost_model.specs.core.Query.{Query}
 use Rattle.ghost_model.specs.core.Channel.{Entry}
@@ -308,9 +308,9 @@ none_met Is none (reason ∷ reasons) (None ∷ damages) e each =
     rw (first, none_met Is none reasons damages later (λ place damage f. each (suc place) damage f)) refl
 none_met Is none (reason ∷ reasons) (Some damage ∷ damages) e each = absurd (none damage (each 0 damage refl))
 
-pub has_run : LaterTextsAreUnmarked → DamageIsNeverMet → (went : Journal → Type 0) (link_before link_now : ℕ) (plan : Plan) (pages_told : Bool) (catalog : Catalog) (at : List ℕ) (texts : List (List ℕ)) (numbers : List ℕ) (since now : SessionSide) (exchange : Exchange) (journal : Journal) (top : ℕ) (pool : Pool) (left : List (List ℕ)) (count : ℕ) (counts : Counts) (replies : Replies)
+pub has_run : LaterTextsAreUnmarked → DamageIsNeverMet → (went : Journal → Type 0) (link_before link_now : ℕ) (plan : Plan) (pages_told : Bool) (catalog : Catalog) (at : List ℕ) (texts : List (List ℕ)) (numbers : List ℕ) (since now : SessionSide) (pump : Pump) (page : List ℕ) (journal : Journal) (top : ℕ) (pool : Pool) (left : List (List ℕ)) (count : ℕ) (counts : Counts) (replies : Replies)
     (tally : Tally)
-    → IsTree catalog.schema → WentBy went link_before link_now journal → IsLive catalog at (asked_of catalog.schema texts) journal exchange → IsFinished journal
+    → IsTree catalog.schema → WentBy went link_before link_now journal → IsLive catalog at (asked_of catalog.schema texts) journal pump page → IsFinished journal
     → IsTelling plan pages_told catalog texts journal top since now.sink now.flash pool left count counts replies
     → left ≡ []
     → tally.texts ≡ count → tally.refused ≡ counts.refused → tally.faulted ≡ counts.faulted
@@ -319,7 +319,7 @@ pub has_run : LaterTextsAreUnmarked → DamageIsNeverMet → (went : Journal →
     → (IsProper catalog at texts journal → IsFinished journal → AreAnswered plan pages_told catalog texts journal since now tally → AnswersWhereSound plan pages_told catalog texts journal since now tally)
     → (IsProper catalog at texts journal → IsFinished journal → count ≡ length texts → CallsAreFew plan pages_told catalog texts journal since now)
     → IsLast went link_before link_now plan pages_told catalog at texts numbers since now tally
-has_run later never went link_before link_now plan pages_told catalog at texts numbers since now exchange journal top pool left many_told counts replies tally tree went_by live is_finished last none many refused faulted status_is paced answers few =
+has_run later never went link_before link_now plan pages_told catalog at texts numbers since now pump page journal top pool left many_told counts replies tally tree went_by live is_finished last none many refused faulted status_is paced answers few =
     let have : HaveReasons catalog texts journal (length texts)
     (λ reasons. IsTallied plan pages_told since.flash.page catalog texts now.sink.failed (standing_after catalog (asked_of catalog.schema texts) journal) reasons tally) since.flash.faults now.flash.faults =
     record {

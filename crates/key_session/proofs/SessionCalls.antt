@@ -142,7 +142,7 @@ module _ (laws : CallLaws) (told : Bool) (cat : Catalog) (database : Database) (
       its_journal : last.journal ≡ before.journal ++ moved.made ∷ []
       its_journal = journal_is ∙ ap (λ (m : Journal). before.journal ++ m) (sym moved.went)
 
-      was : WasAmid by_pre told last.session.cat.now texts (before.journal ++ moved.made ∷ []) since last.side last.session.exchange.pump last.session.teller last.session.replies
+      was : WasAmid by_pre told last.session.cat.now texts (before.journal ++ moved.made ∷ []) since last.side last.session.pump last.session.teller last.session.replies
       was = was_amid by_pre told texts (before.journal ++ moved.made ∷ []) since last.side last.pool last.session moved.live
 
       no_marks : marks_behind last.session.replies last.session.teller.count ≡ 0
@@ -176,8 +176,8 @@ module _ (laws : CallLaws) (told : Bool) (cat : Catalog) (database : Database) (
       unrefused_now : was_refused (heard_in cat texts (before.journal ++ moved.made ∷ [])).ended ≡ false
       unrefused_now = ap (λ (journal : Journal). was_refused (heard_in cat texts journal).ended) (sym its_journal) ∙ unrefused
 
-      tells : Tells cat last.session.exchange.page moved.event (heard_in cat texts before.journal) (heard_in cat texts (before.journal ++ moved.made ∷ []))
-      tells = subst (λ (c : Catalog). Tells c last.session.exchange.page moved.event (heard_in c texts before.journal) (heard_in c texts (before.journal ++ moved.made ∷ []))) same moved.tells
+      tells : Tells cat moved.page moved.event (heard_in cat texts before.journal) (heard_in cat texts (before.journal ++ moved.made ∷ []))
+      tells = subst (λ (c : Catalog). Tells c moved.page moved.event (heard_in c texts before.journal) (heard_in c texts (before.journal ++ moved.made ∷ []))) same moved.tells
 
       unrefused_before : was_refused (heard_in cat texts before.journal).ended ≡ false
       unrefused_before = refused_front (heard_in cat texts before.journal).ended _ (ap was_refused (sym tells.ended) ∙ unrefused_now)

@@ -43,7 +43,7 @@ use Rattle.key_session.proofs.HonestRuns.{answers_all}
 use Rattle.key_session.proofs.Running.{IsLast, has_run}
 use Rattle.key_session.proofs.Settings.{setting}
 use Rattle.key_session.proofs.Beginning.{none_taken}
-use Rattle.key_session.proofs.Leasing.{none_running, was_amid}
+use Rattle.key_session.proofs.Leasing.{none_running, spoken, was_amid}
 
 -- what a step needs stays where the pages of the device do
 pub still_suffices : (catalog : Catalog) (before now : Device) → now.page_count ≡ before.page_count → Suffices catalog before → Suffices catalog now
@@ -55,10 +55,10 @@ still_suffices catalog before now same suffices = record {
 -- what is due of a session is due by the rule
 pub by_rule : OverTextsAreSettled → TextsComeInOrder → TextsAreDecided → (catalog : Catalog) (texts : List (List ℕ)) (journal : Journal) (session : Session)
     → (0 < session.pace.owed → is_some (moves.asked_in (heard_in catalog texts journal).awaits) ≡ true)
-    → ((want_of session.exchange.pump ≡ want_is.Closed → ⊥) → (text : ℕ) → 1 ≤ text → text ≤ session.teller.count → is_settled_in catalog texts journal text ≡ true)
+    → ((want_of session.pump ≡ want_is.Closed → ⊥) → (text : ℕ) → 1 ≤ text → text ≤ session.teller.count → is_settled_in catalog texts journal text ≡ true)
     → due_in catalog (asked_of catalog.schema texts) journal session ≡ due_by_rule catalog texts journal session
 by_rule over order decided catalog texts journal session owed settled =
-    due_rule over order decided catalog texts journal session.teller.count session.pace.owed owed (is_closed (want_of session.exchange.pump)) (is_some session.teller.ahead)
+    due_rule over order decided catalog texts journal session.teller.count session.pace.owed owed (is_closed (want_of session.pump)) (is_some session.teller.ahead)
     (λ opened. settled (λ shut. true_is_not_false (sym (ap is_closed shut) ∙ opened)))
 
 pub by_rule_live : OverTextsAreSettled → TextsComeInOrder → TextsAreDecided → (plan : Plan) (told : Bool) (texts : List (List ℕ)) (journal : Journal) (since now : SessionSide) (pool : Pool) (session : Session)
@@ -83,7 +83,7 @@ come_on before_it made later plan told texts numbers since before now pool more 
           more = moved.made ∷ [];
           journal_is = refl;
           went = subst (λ (d : Due). WentOn d (λ (went : Journal). went ≡ moved.made ∷ []) plan told texts come.journal since before now more old new) (sym e)
-              (record { made = moved.made; went = refl; event = moved.event; tells = moved.tells; paced = moved.paced; few = moved.few; fills = moved.fills; counts = moved.counts; cat = moved.cat; teller = moved.teller; live = moved.live });
+              (record { made = moved.made; went = refl; event = moved.event; page = moved.page; tells = moved.tells; paced = moved.paced; few = moved.few; fills = moved.fills; counts = moved.counts; cat = moved.cat; teller = moved.teller; live = moved.live });
         },
         come.stages,
       );
@@ -107,8 +107,9 @@ come_on before_it made later plan told texts numbers since before now pool more 
 
 -- the live session over the catalog and the address that it was begun with
 pub record IsLiveAt (plan : Plan) (told : Bool) (cat : Catalog) (at : List ℕ) (texts : List (List ℕ)) (journal : Journal) (since now : SessionSide) (pool : Pool) (session : Session) : Type 0 where
-  pub channel : moves.IsLive cat at (asked_of cat.schema texts) journal session.exchange
-  pub was : WasAmid plan told cat texts journal since now session.exchange.pump session.teller session.replies
+  pub page : List ℕ
+  pub channel : moves.IsLive cat at (asked_of cat.schema texts) journal session.pump page
+  pub was : WasAmid plan told cat texts journal since now session.pump session.teller session.replies
   pub refusal_is : session.refusal ≡ first_code (heard_in cat texts journal).ended
 
 pub live_at : (plan : Plan) (told : Bool) (cat : Catalog) (at : List ℕ) (texts : List (List ℕ)) (journal : Journal) (since now : SessionSide) (pool : Pool) (session : Session) → session.cat.now ≡ cat → session.at.now ≡ at
@@ -116,7 +117,7 @@ pub live_at : (plan : Plan) (told : Bool) (cat : Catalog) (at : List ℕ) (texts
 live_at plan told cat at texts journal since now pool session cat_is at_is live =
     subst (λ (c : Catalog). IsLiveAt plan told c at texts journal since now pool session) cat_is
     (subst (λ (a : List ℕ). IsLiveAt plan told session.cat.now a texts journal since now pool session) at_is
-    (record { channel = live.channel; was = was_amid plan told texts journal since now pool session live; refusal_is = live.refusal_is }))
+    (let one = spoken told plan texts journal since now pool session live in record { page = one.0; channel = one.1; was = was_amid plan told texts journal since now pool session live; refusal_is = live.refusal_is }))
 
 -- where no text is left all were told
 pub all_over : (plan : Plan) (told : Bool) (cat : Catalog) (texts : List (List ℕ)) (journal : Journal) (since now : SessionSide) (pool : Pool) (pump : Pump) (teller : Teller) (kept : Replies) → is_some teller.ahead ≡ false
@@ -138,18 +139,18 @@ pub last_of : RunsTakeFewCalls → LaterTextsAreUnmarked → KnowledgeIsEnough �
     → (went : Journal → Type 0) (link_before link_now : ℕ) (plan : Plan) (told : Bool) (at numbers : List ℕ) (since : SessionSide) (faults : ℕ) (written : Option (List ℕ)) (device : Device) (pool : Pool) (session : Session) (tally : Tally)
     → session.cat.now ≡ cat → session.at.now ≡ at
     → HasCome (WentBy went link_before link_now) plan told texts numbers since (session_side session.teller.printer.failed faults written device) pool session
-    → want_of session.exchange.pump ≡ want_is.Closed → is_some session.teller.ahead ≡ false
+    → want_of session.pump ≡ want_is.Closed → is_some session.teller.ahead ≡ false
     → tally.texts ≡ session.teller.count → tally.refused ≡ session.teller.counts.refused → tally.faulted ≡ session.teller.counts.faulted
-    → ((catalog : Catalog) (asks : List NumberedAsk) (journal : Journal) → IsAfter catalog asks journal session.exchange.pump → session.refusal ≡ first_code (standing_after catalog asks journal).heard.ended
+    → ((catalog : Catalog) (asks : List NumberedAsk) (journal : Journal) → IsAfter catalog asks journal session.pump → session.refusal ≡ first_code (standing_after catalog asks journal).heard.ended
     → tally.status ≡ status_with session.teller.printer.failed (standing_after catalog asks journal) session.teller.counts.by_flash session.teller.counts.damage)
     → IsLast went link_before link_now plan told cat at texts numbers since (session_side session.teller.printer.failed faults written device) tally
 last_of runs later enough never smooth prints closed cat proper tree texts few went link_before link_now plan told at numbers since faults written device pool session tally cat_is at_is come shut none many refused faulted status =
     let now = session_side session.teller.printer.failed faults written device in
     let live = live_at plan told cat at texts come.journal since now pool session cat_is at_is come.live in
-    let finished = closed cat at (asked_of cat.schema texts) come.journal session.exchange live.channel shut in
+    let finished = closed cat at (asked_of cat.schema texts) come.journal session.pump live.page live.channel shut in
     let kept = with_lease live.was.lease session.replies in
-    let going = all_over plan told cat texts come.journal since now live.was.had session.exchange.pump session.teller kept none live.was.amid in
-    has_run later never went link_before link_now plan told cat at texts numbers since now session.exchange come.journal going.top live.was.had (texts_left session.teller) session.teller.count session.teller.counts kept tally
+    let going = all_over plan told cat texts come.journal since now live.was.had session.pump session.teller kept none live.was.amid in
+    has_run later never went link_before link_now plan told cat at texts numbers since now session.pump live.page come.journal going.top live.was.had (texts_left session.teller) session.teller.count session.teller.counts kept tally
     tree come.went live.channel finished going.telling (empty _ session.teller.ahead session.teller.texts none (session.teller.last none)) many refused faulted
     (status cat (asked_of cat.schema texts) come.journal live.channel.after live.refusal_is)
     (record { pool = pool; session = session; catalog_is = cat_is; earlier = come.earlier; stages = come.stages; ended = rw (ap is_closed shut, none) refl })

@@ -39,7 +39,7 @@ alone_of plan told cat device pool number lease (Some telling) none run = absurd
 pub room_of : (pool : Pool) (lease : ℕ) (leases : List ℕ) → IsOutAlone leases pool lease → HasRoom leases pool
 room_of pool lease leases alone = record {
   enough = alone.enough;
-  free = (let free : count_by not (others_out pool leases) + 1 ≡ length pool.pages = alone.free in omega (arith, free));
+  free = (let free : count_by not (others_out pool leases) + 2 ≡ length pool.pages = alone.free in omega (arith, free));
 }
 
 pub below_two : (n : ℕ) → n % 2 < 2

@@ -1,5 +1,5 @@
 -- A session that is under way.
-use Rattle.std.specs.Prelude.{◌≡◌, ℕ, ⊤, ◌≤◌, ◌<◌, ◌+◌, ◌*◌, ◌%◌, ◌&&◌, ◌||◌, nat_lt, nat_le, Bool, true, false, not, List, [], ◌∷◌, ◌++◌, length, get_or, count_by, slice_get, Option, None, Some, Ok, is_some, option_map, if◌then◌else◌}
+use Rattle.std.specs.Prelude.{◌≡◌, ◌≢◌, ℕ, ⊤, ◌≤◌, ◌<◌, ◌+◌, ◌*◌, ◌%◌, ◌&&◌, ◌||◌, nat_lt, nat_le, Bool, true, false, not, List, [], ◌∷◌, ◌++◌, length, get_or, count_by, slice_get, Option, None, Some, Ok, is_some, option_map, if◌then◌else◌}
 use Rattle.ghost_model.specs.core.Query.{Query}
 use Rattle.ghost_model.specs.readings.QueryReading.{reading}
 use Rattle.ghost_model.specs.core.Channel.{Catalog, Journal, Entry}
@@ -7,7 +7,7 @@ use Rattle.ghost_model.specs.core.Asks.{NumberedAsk, asked_of}
 use Rattle.ghost_model.specs.core.NextMove.{standing_after}
 use Rattle.ghost_model.specs.core.Replies.{replies}
 use Rattle.edge_traits.specs.Devices.{Device}
-use Rattle.page_pool.specs.Pools.{Pool, IsIdle, IsOut, others_out}
+use Rattle.page_pool.specs.Pools.{Pool, IsIdle, IsOut, bytes_at, others_out}
 use Rattle.visible_spool.specs.declared.half.Half.{Half}
 use Rattle.key_lines.specs.Handing.{Handed}
 use Rattle.session_laws.specs.TextEnds.{heard_in, is_settled_in}
@@ -19,7 +19,6 @@ use Rattle.channel_pump.specs.declared.state.Want.TheVariants as want
 use Rattle.channel_pump.specs.declared.state.ReplyState.{ReplyState}
 use Rattle.channel_pump.specs.declared.state.ReplyState.TheVariants as state_is
 use Rattle.channel_pump.specs.Sessions as moves
-use Rattle.channel_pump.specs.declared.exchange.Exchange.{Exchange}
 use Rattle.key_session.specs.Filling.{FillsPages}
 use Rattle.key_session.specs.Hearing.{WritesHalf, pages_on}
 use Rattle.key_session.specs.Spending.{CountsStay, SpendsCalls}
@@ -54,12 +53,12 @@ use Rattle.key_session.specs.declared.session.Session.{Session}
 
 -- ---- what a step needs, whatever the pages hold
 
--- beside some leases that of the replies alone is out, and there are as many buffers as a pool has at least
+-- beside some leases this one and one more are out, and there are as many buffers as a pool has at least
 pub record IsOutAlone (leases : List ℕ) (pool : Pool) (lease : ℕ) : Type 0 where
   pub enough : 8 ≤ length pool.pages
   pub within : lease < length pool.pages
   pub out : get_or (others_out pool leases) lease false ≡ true
-  pub free : count_by not (others_out pool leases) + 1 ≡ length pool.pages
+  pub free : count_by not (others_out pool leases) + 2 ≡ length pool.pages
 
 -- the text with a number goes on
 abbrev pub CanGoOn : (by : Plan) (pages_told : Bool) → Catalog → (number : ℕ) → Device → Pool → Option Telling → Type 0
@@ -75,7 +74,7 @@ abbrev pub RunIsSpared : Option Telling → Type 0
 RunIsSpared None = ⊤
 RunIsSpared (Some telling) = TellingStaysAble telling × TellingIsSpared telling
 
--- the text that is told goes on, and no buffer is out but its own and that of the replies
+-- the text that is told goes on, and no buffer is out but its own, this one and one more
 pub record CanRun (by : Plan) (pages_told : Bool) (catalog : Catalog) (device : Device) (pool : Pool) (number lease : ℕ) (running : Option Telling) : Type 0 where
   pub can : CanGoOn by pages_told catalog number device pool running
   pub alone : IsOutAlone (leases_of running) pool lease
@@ -86,32 +85,42 @@ pub record IsSomeRun (pages_told : Bool) (device : Device) (pool : Pool) (number
   pub lease : ℕ
   pub run : CanRun by pages_told catalog device pool number lease running
 
--- what a session needs that has its buffer
+-- the buffer of the frame at hand is none of the others
+pub record IsApart (pool : Pool) (frame : ℕ) (teller : Teller) (kept : Replies) : Type 0 where
+  pub out : IsOutAlone (leases_of teller.running) pool frame
+  pub replies : frame ≢ lease_of kept
+
+-- the text that is told goes on, and no buffer is out but its own, that of the replies and that of the frame at hand
+pub record HasLeases (pages_told : Bool) (device : Device) (pool : Pool) (session : Session) : Type 0 where
+  pub run : CanRun session.teller.plan pages_told session.cat.now device pool (session.teller.count + 1) (lease_of session.replies) session.teller.running
+  pub apart : IsApart pool session.frame session.teller session.replies
+
+-- what a session needs that has its buffers
 pub record CanWork (pages_told : Bool) (device : Device) (pool : Pool) (session : Session) : Type 0 where
   pub suffices : Suffices session.cat.now device
-  pub run : CanRun session.teller.plan pages_told session.cat.now device pool (session.teller.count + 1) (lease_of session.replies) session.teller.running
+  pub has : HasLeases pages_told device pool session
 
 -- something is due
 abbrev pub IsLeft : Session → Type 0
-IsLeft session = is_closed (want_of session.exchange.pump) ≡ true → is_some session.teller.ahead ≡ true
+IsLeft session = is_closed (want_of session.pump) ≡ true → is_some session.teller.ahead ≡ true
 
 -- before the first step
 pub record IsUnbegun (pool : Pool) (session : Session) : Type 0 where
   pub idle : IsIdle pool
   pub none : session.teller.running ≡ None
-  pub opened : is_closed (want_of session.exchange.pump) ≡ false
+  pub opened : is_closed (want_of session.pump) ≡ false
 
 pub record IsAtWork (pages_told : Bool) (device : Device) (pool : Pool) (session : Session) : Type 0 where
-  pub run : CanRun session.teller.plan pages_told session.cat.now device pool (session.teller.count + 1) (lease_of session.replies) session.teller.running
+  pub has : HasLeases pages_told device pool session
   pub left : IsLeft session
 
 -- after the last step
 pub record IsAtEnd (pool : Pool) (session : Session) : Type 0 where
   pub idle : IsIdle pool
-  pub closed : is_closed (want_of session.exchange.pump) ≡ true
+  pub closed : is_closed (want_of session.pump) ≡ true
   pub none : is_some session.teller.ahead ≡ false
 
--- the buffer of a session is out as long as something is due, from its first step on, and no other but those of the text that is told
+-- the buffers of a session are out as long as something is due, from its first step on, and no others but those of the text that is told
 abbrev pub HasBuffers : Buffers → (pages_told : Bool) → Device → Pool → Session → Type 0
 HasBuffers buffers.Untaken pages_told device pool session = IsUnbegun pool session
 HasBuffers buffers.Taken pages_told device pool session = IsAtWork pages_told device pool session
@@ -132,12 +141,12 @@ pub record IsSomeWork (pool : Pool) (session : Session) : Type 0 where
   pub device : Device
   pub can : CanWork told device pool session
 
--- the session with another lease
-abbrev pub leased_to : (buffers : Buffers) (lease : ℕ) → Session → Session
-leased_to buffers lease session = record session { buffers = buffers; replies = with_lease lease session.replies }
+-- the session with other leases
+abbrev pub leased_to : (buffers : Buffers) (lease frame : ℕ) → Session → Session
+leased_to buffers lease frame session = record session { buffers = buffers; replies = with_lease lease session.replies; frame = frame }
 
 abbrev pub IsLeased : (before now : Session) → Type 0
-IsLeased before now = now ≡ leased_to now.buffers (lease_of now.replies) before
+IsLeased before now = now ≡ leased_to now.buffers (lease_of now.replies) now.frame before
 
 -- ---- how much is left at most
 
@@ -237,25 +246,32 @@ Stands buffers.Untaken by pages_told catalog texts journal since now pool pump t
 Stands buffers.Taken by pages_told catalog texts journal since now pool pump teller kept = IsAmid by pages_told catalog texts journal since now pool pump teller kept
 Stands buffers.GivenBack by pages_told catalog texts journal since now pool pump teller kept = WasAmid by pages_told catalog texts journal since now pump teller kept
 
+-- The moves of a session, and its end of the channel: with any page before the first step, with that in its buffer as long as it has it,
+-- and with one that it had after the last step.
+abbrev pub Speaks : Buffers → Catalog → (at : List ℕ) (texts : List (List ℕ)) → Journal → Pool → (frame : ℕ) → Pump → Type 0
+Speaks buffers.Untaken catalog at texts journal pool frame pump = (page : List ℕ) → moves.IsLive catalog at (asked_of catalog.schema texts) journal pump page
+Speaks buffers.Taken catalog at texts journal pool frame pump = moves.IsLive catalog at (asked_of catalog.schema texts) journal pump (bytes_at pool frame)
+Speaks buffers.GivenBack catalog at texts journal pool frame pump = (page : List ℕ) × moves.IsLive catalog at (asked_of catalog.schema texts) journal pump page
+
 -- A session that went by a journal: its moves and its end of the channel; the texts that were told, with their lines, reasons
 -- and counts, the replies that are kept for the others, and the rows given and to come of the text that is told now; and the
 -- first ask that the host refused.
 pub record IsLive (by : Plan) (pages_told : Bool) (texts : List (List ℕ)) (journal : Journal) (since now : SessionSide) (pool : Pool) (session : Session) : Type 0 where
-  pub channel : moves.IsLive session.cat.now session.at.now (asked_of session.cat.now.schema texts) journal session.exchange
-  pub amid : Stands session.buffers by pages_told session.cat.now texts journal since now pool session.exchange.pump session.teller session.replies
+  pub channel : Speaks session.buffers session.cat.now session.at.now texts journal pool session.frame session.pump
+  pub amid : Stands session.buffers by pages_told session.cat.now texts journal since now pool session.pump session.teller session.replies
   pub refusal_is : session.refusal ≡ first_code (heard_in session.cat.now texts journal).ended
   -- slices are allowed only behind rows of a reply, the end of which is awaited then
   pub owed : 0 < session.pace.owed → is_some (moves.asked_in (heard_in session.cat.now texts journal).awaits) ≡ true
 
 -- one more move was made, which led to an event: of the channel, the texts and the first refusal
-pub record MovedOn (goes : Journal → Type 0) (by : Plan) (pages_told : Bool) (catalog : Catalog) (at : List ℕ) (texts : List (List ℕ)) (journal : Journal) (since : SessionSide) (before : Device) (now : SessionSide) (pool : Pool) (event : Event) (exchange : Exchange) (teller : Teller) (kept : Replies) (refusal : Option ℕ) : Type 0 where
+pub record MovedOn (goes : Journal → Type 0) (by : Plan) (pages_told : Bool) (catalog : Catalog) (at : List ℕ) (texts : List (List ℕ)) (journal : Journal) (since : SessionSide) (before : Device) (now : SessionSide) (pool : Pool) (event : Event) (pump : Pump) (frame : ℕ) (teller : Teller) (kept : Replies) (refusal : Option ℕ) : Type 0 where
   pub made : Entry
   pub went : goes (made ∷ [])
-  pub channel : moves.IsLive catalog at (asked_of catalog.schema texts) (journal ++ made ∷ []) exchange
-  pub tells : Tells catalog exchange.page event (heard_in catalog texts journal) (heard_in catalog texts (journal ++ made ∷ []))
+  pub channel : moves.IsLive catalog at (asked_of catalog.schema texts) (journal ++ made ∷ []) pump (bytes_at pool frame)
+  pub tells : Tells catalog (bytes_at pool frame) event (heard_in catalog texts journal) (heard_in catalog texts (journal ++ made ∷ []))
   pub same_ask : moves.leads_on event ≡ false → moves.asked_in (heard_in catalog texts (journal ++ made ∷ [])).awaits ≡ moves.asked_in (heard_in catalog texts journal).awaits
   pub fills : FillsPages catalog.schema (teller.count + 1) (heard_in catalog texts journal) (heard_in catalog texts (journal ++ made ∷ [])) before now.flash kept
-  pub amid : IsAmid by pages_told catalog texts (journal ++ made ∷ []) since now pool exchange.pump teller kept
+  pub amid : IsAmid by pages_told catalog texts (journal ++ made ∷ []) since now pool pump teller kept
   pub refusal_is : refusal ≡ first_code (heard_in catalog texts (journal ++ made ∷ [])).ended
 
 -- One more move was made, and the pace goes by what it led to. The flash was called twice at most for each page of the spool that
@@ -264,7 +280,8 @@ pub record WasMoved (goes : Journal → Type 0) (by : Plan) (pages_told : Bool) 
   pub made : Entry
   pub went : goes (made ∷ [])
   pub event : Event
-  pub tells : Tells session.cat.now session.exchange.page event (heard_in session.cat.now texts journal) (heard_in session.cat.now texts (journal ++ made ∷ []))
+  pub page : List ℕ
+  pub tells : Tells session.cat.now page event (heard_in session.cat.now texts journal) (heard_in session.cat.now texts (journal ++ made ∷ []))
   pub paced : IsPaced event old.pace session.pace
   pub few : now.flash.calls ≤ before.flash.calls + 2 * pages_on event session.replies.hand old.replies.spool session.replies.spool
   pub fills : FillsPages session.cat.now.schema (old.teller.count + 1) (heard_in session.cat.now texts journal) (heard_in session.cat.now texts (journal ++ made ∷ [])) before.flash now.flash session.replies
@@ -294,19 +311,21 @@ IsNear catalog texts journal most =
     (asked : NumberedAsk) → moves.asked_in (heard_in catalog texts journal).awaits ≡ Some asked → asked.text ≤ most
 
 -- a session stands before a move, with some texts and moves
-pub record IsMove (pages_told : Bool) (catalog : Catalog) (at : List ℕ) (device : Device) (pool : Pool) (exchange : Exchange) (teller : Teller) (kept : Replies) : Type 0 where
+pub record IsMove (pages_told : Bool) (catalog : Catalog) (at : List ℕ) (device : Device) (pool : Pool) (pump : Pump) (frame : ℕ) (teller : Teller) (kept : Replies) : Type 0 where
   pub by : Plan
   pub texts : List (List ℕ)
   pub journal : Journal
   pub since : SessionSide
   pub sink : Handed
   pub near : IsNear catalog texts journal (teller.count + 2)
-  pub channel : moves.IsLive catalog at (asked_of catalog.schema texts) journal exchange
-  pub amid : IsAmid by pages_told catalog texts journal since (record { sink = sink; flash = device }) pool exchange.pump teller kept
+  pub channel : moves.IsLive catalog at (asked_of catalog.schema texts) journal pump (bytes_at pool frame)
+  pub amid : IsAmid by pages_told catalog texts journal since (record { sink = sink; flash = device }) pool pump teller kept
 
-pub record IsSomeMove (pages_told : Bool) (catalog : Catalog) (at : List ℕ) (device : Device) (pool : Pool) (exchange : Exchange) (kept : Replies) : Type 0 where
+pub record IsSomeMove (pages_told : Bool) (catalog : Catalog) (at : List ℕ) (device : Device) (pool : Pool) (pump : Pump) (frame : ℕ) (kept : Replies) : Type 0 where
   pub teller : Teller
-  pub move : IsMove pages_told catalog at device pool exchange teller kept
+  pub spared : RunIsSpared teller.running
+  pub apart : IsApart pool frame teller kept
+  pub move : IsMove pages_told catalog at device pool pump frame teller kept
 
 -- some session has such moves, texts and counts
 pub record IsSomeLive (pages_told : Bool) (now : SessionSide) (pool : Pool) (session : Session) : Type 0 where
@@ -322,12 +341,12 @@ pub record MakesMove (before after : SessionSide) (old new : Session) : Type 0 w
   pub sink : after.sink ≡ before.sink
   pub writes : WritesHalf old.cat.now new.replies.hand.text before.flash after.flash
   pub teller : new.teller ≡ old.teller
-  pub fewer : moves_left new.exchange.pump + 1 ≤ moves_left old.exchange.pump
+  pub fewer : moves_left new.pump + 1 ≤ moves_left old.pump
 
 -- A slice gives one line, or none and it calls the flash, eight times at most. The channel stays as it is, and so do all pages, but
 -- for those behind the spool that a job by the indexes gathers its candidates in.
 pub record MakesSlice (before after : SessionSide) (old new : Session) : Type 0 where
-  pub exchange : new.exchange ≡ old.exchange
+  pub pump : new.pump ≡ old.pump
   pub turn : TakesTurn before.sink after.sink before.flash.calls after.flash.calls
   pub few : after.flash.calls ≤ before.flash.calls + 8
   pub kept : KeepsBy old.teller.plan old.cat.now before.flash after.flash
@@ -342,7 +361,7 @@ MadeStep due.Ended before after old new = ⊥
 -- what is due of a session, whose channel went by a journal
 abbrev pub due_in : Catalog → (asks : List NumberedAsk) → Journal → Session → Due
 due_in catalog asks journal session =
-    due_of (is_closed (want_of session.exchange.pump)) (is_some session.teller.ahead) session.pace.owed (session.teller.count + 1)
+    due_of (is_closed (want_of session.pump)) (is_some session.teller.ahead) session.pace.owed (session.teller.count + 1)
     (option_map (λ (asked : NumberedAsk). asked.text) (asked_at (heard catalog asks (taken journal)).awaits))
 
 -- The rule of what is due. The text that comes next is ready where all its asks are ended, and on a closed link every ask counts as
@@ -362,10 +381,10 @@ rule_of closed left ready allowed far =
 
 abbrev pub due_by_rule : Catalog → (texts : List (List ℕ)) → Journal → Session → Due
 due_by_rule catalog texts journal session =
-    rule_of (is_closed (want_of session.exchange.pump)) (is_some session.teller.ahead)
-    (is_ready (is_closed (want_of session.exchange.pump)) catalog texts journal (session.teller.count + 1))
+    rule_of (is_closed (want_of session.pump)) (is_some session.teller.ahead)
+    (is_ready (is_closed (want_of session.pump)) catalog texts journal (session.teller.count + 1))
     (nat_lt 0 session.pace.owed) (is_far (session.teller.count + 1) (moves.asked_in (heard_in catalog texts journal).awaits))
 
 -- how many steps are left at most
 abbrev pub steps_left : Session → ℕ
-steps_left session = moves_left session.exchange.pump + left_of session.teller
+steps_left session = moves_left session.pump + left_of session.teller

@@ -27,9 +27,10 @@ ghost use Rattle.key_session.specs.Refusing.{first_code};
 ghost use Rattle.leakless_plan.specs.declared.plan.Plan.{Plan};
 ghost use Rattle.key_exec.specs.Plans.{Suffices, by_pre};
 ghost use Rattle.key_exec.specs.Reading.{KeepsBy};
-ghost use Rattle.page_pool.specs.Pools.{Pool, IsIdle, ChangesPage};
+ghost use Rattle.page_pool.specs.Pools.{Pool, IsIdle, IsOut, ChangesPage, bytes_at};
+ghost use Rattle.page_pool.specs.Laws.{KeepsOut};
 ghost use Rattle.key_exec.specs.Rows.{PrintsSome, TakesTurn};
-ghost use Rattle.key_session.specs.Going.{CanRun, CanStep, CanWork, IsAmid, IsLeased, IsLeft, IsLive, IsNear, IsNext, IsMove, IsSomeLive, IsSomeMove, IsSomeStep, IsSomeWork, MovedOn, RunIsSpared, WasMoved, WentOn, MadeStep, due_by_rule, due_in, left_of, steps_left};
+ghost use Rattle.key_session.specs.Going.{CanRun, CanStep, CanWork, IsAmid, IsApart, IsLeased, IsLeft, IsLive, IsNear, IsNext, IsMove, IsSomeLive, IsSomeMove, IsSomeStep, IsSomeWork, MovedOn, RunIsSpared, WasMoved, WentOn, MadeStep, due_by_rule, due_in, left_of, steps_left};
 ghost use Rattle.key_session.specs.declared.buffers.Buffers.TheVariants as buffers;
 ghost use Rattle.key_session.specs.Order.{IsSliced, IsUnpaced, is_closed, is_first};
 ghost use Rattle.key_session.specs.Pacing.{RunsAtPace};
@@ -40,15 +41,16 @@ ghost use Rattle.key_session.specs.Telling.{SessionSide, session_side};
 use crate::Replies;
 use crate::buffers::Buffers;
 use crate::fits::replies_fit;
-use crate::laws::{kept_halves_are_halves, later_texts_are_unmarked, runs_take_few_calls};
+use crate::laws::{
+    kept_halves_are_halves, later_texts_are_unmarked, replies_stay_kept, runs_take_few_calls,
+};
 use crate::options::Options;
 use crate::pace::{Due, Pace, comes_first};
 use crate::refusing::first_refusal;
 use crate::tally::{Tally, status};
 use crate::teller::Teller;
 use crate::texts::texts_come_in_order;
-use channel_pump::Exchange;
-use channel_pump::laws::{closed_is_finished, moves_join};
+use channel_pump::laws::{closed_is_finished, moves_join, sessions_begin};
 use channel_pump::state::{Event, Pump, Want};
 use edge_traits::flash::Flash;
 use edge_traits::link::Link;
@@ -56,12 +58,13 @@ use edge_traits::sink::Sink;
 use flash_layout::limits::a_catalog_has_a_layout;
 use key_exec::laws::{damage_is_never_met, knowledge_is_enough};
 use key_lines::printer::pieces_join;
-use page_pool::PagePool;
+use page_pool::{Lease, PagePool};
 use session_laws::honest_sessions::{honest_lines_are_printed, honest_sessions_are_smooth};
 use session_laws::text_cases::{texts_are_decided, texts_have_outcomes};
 use session_laws::text_ends::{
     asks_are_awaited_in_order, ended_texts_stay, over_texts_are_settled, reasons_stay,
 };
+use std::mem;
 use tree_schema::Catalog;
 use tree_schema::catalog_bytes::a_catalog_is_short;
 
@@ -74,7 +77,9 @@ pub struct Session<'a> {
     /// The address of the host.
     pub at: &'a str,
     /// The key's end of the channel.
-    pub exchange: Exchange<'a>,
+    pub pump: Pump<'a>,
+    /// The lease of the buffer in which the frame at hand lies.
+    pub frame: Lease,
     /// The replies of the texts that were not told.
     pub replies: Replies,
     /// The texts.
@@ -83,7 +88,7 @@ pub struct Session<'a> {
     pub pace: Pace<'a>,
     /// The code of the first ask that the host refused.
     pub refusal: Option<u8>,
-    /// Where its page buffer is.
+    /// Where its page buffers are.
     pub buffers: Buffers,
 }
 
@@ -100,10 +105,12 @@ impl<'a> Session<'a> {
         ensures pace { IsUnpaced options.now.pace.now result.pace }
     {
         pieces_join();
+        sessions_begin();
         Session {
             cat,
             at: options.at,
-            exchange: Exchange::begin(Pump::begin(cat, script)),
+            pump: Pump::begin(cat, script),
+            frame: Lease::default(),
             replies: Replies::begin(cat),
             teller: Teller::new(script, options.plan),
             pace: Pace::new(options.pace),
@@ -116,19 +123,19 @@ impl<'a> Session<'a> {
     /// move, or the next move would send the first ask of a text two behind it at least, or the link is closed. Else a move, and
     /// with the link closed nothing once no text is left.
     pub fn due(&self) -> Due
-        ensures rule { (catalog : channel.Catalog) (asks : List NumberedAsk) (journal : Journal) → IsAfter catalog asks journal self.now.exchange.pump → result ≡ due_in catalog asks journal self.now }
+        ensures rule { (catalog : channel.Catalog) (asks : List NumberedAsk) (journal : Journal) → IsAfter catalog asks journal self.now.pump → result ≡ due_in catalog asks journal self.now }
         ensures by_rule { (by : Plan) (told : Bool) (texts : List (List ℕ)) (journal : Journal) (since now : SessionSide) (pool : Pool) → IsLive by told texts journal since now pool self.now → result ≡ due_by_rule self.now.cat.now texts journal self.now }
-        ensures going { result ≡ Due.Move → want_of self.now.exchange.pump ≢ Want.Closed }
+        ensures going { result ≡ Due.Move → want_of self.now.pump ≢ Want.Closed }
         ensures left { result ≡ Due.Slice → is_some self.now.teller.ahead ≡ true }
-        ensures closed { result ≡ Due.Ended → want_of self.now.exchange.pump ≡ Want.Closed }
+        ensures closed { result ≡ Due.Ended → want_of self.now.pump ≡ Want.Closed }
         ensures none { result ≡ Due.Ended → is_some self.now.teller.ahead ≡ false }
-        ensures on { (result ≡ Due.Ended → ⊥) → is_closed (want_of self.now.exchange.pump) ≡ true → is_some self.now.teller.ahead ≡ true }
+        ensures on { (result ≡ Due.Ended → ⊥) → is_closed (want_of self.now.pump) ≡ true → is_some self.now.teller.ahead ≡ true }
     {
         texts_are_decided();
         over_texts_are_settled();
         texts_come_in_order();
         let is_left = self.teller.ahead.is_some();
-        match self.exchange.pump.want() {
+        match self.pump.want() {
             Want::Closed => { if is_left { Due::Slice } else { Due::Ended } }
             _ => {
                 if is_left && self.is_first() {
@@ -142,17 +149,17 @@ impl<'a> Session<'a> {
 
     /// Whether a slice of the text that comes next comes before the next move, while the link is open.
     fn is_first(&self) -> bool
-        ensures first { (catalog : channel.Catalog) (asks : List NumberedAsk) (journal : Journal) → IsAfter catalog asks journal self.now.exchange.pump
+        ensures first { (catalog : channel.Catalog) (asks : List NumberedAsk) (journal : Journal) → IsAfter catalog asks journal self.now.pump
             → result ≡ is_first self.now.pace.owed (self.now.teller.count + 1) (option_map (λ asked. asked.text) (asked_at (heard catalog asks (taken journal)).awaits)) }
     {
-        match self.exchange.pump.asked() {
+        match self.pump.asked() {
             None => false,
             Some((text, _ask)) => comes_first(self.pace.owed, self.teller.count + 1, text),
         }
     }
 
-    /// Makes one step: the move or the slice that is due. The first step takes the page buffer of the session before it, and the step
-    /// after which nothing is due gives it back.
+    /// Makes one step: the move or the slice that is due. The first step takes the two page buffers of the session before it, and the
+    /// step after which nothing is due gives them back.
     pub fn step<F: Flash, L: Link, O: Sink>(
         &mut self,
         pool: &mut PagePool,
@@ -167,7 +174,7 @@ impl<'a> Session<'a> {
         ensures live { (by : Plan) (texts : List (List ℕ)) (journal : Journal) (since : SessionSide) → IsLive by F.told texts journal since (session_side self.old.teller.printer.failed (O.faults out.old) (O.written out.old) (F.state flash.old)) pool.old self.old
             → WentOn (due_by_rule self.old.cat.now texts journal self.old) (WentBy (λ more. L.went link.old more link.new) (L.faults link.old) (L.faults link.new)) by F.told texts journal since
             (session_side self.old.teller.printer.failed (O.faults out.old) (O.written out.old) (F.state flash.old)) (session_side self.new.teller.printer.failed (O.faults out.new) (O.written out.new) (F.state flash.new)) pool.new self.old self.new }
-        ensures made { (catalog : channel.Catalog) (asks : List NumberedAsk) (journal : Journal) → IsAfter catalog asks journal self.old.exchange.pump
+        ensures made { (catalog : channel.Catalog) (asks : List NumberedAsk) (journal : Journal) → IsAfter catalog asks journal self.old.pump
             → MadeStep (due_in catalog asks journal self.old) (session_side self.old.teller.printer.failed (O.faults out.old) (O.written out.old) (F.state flash.old)) (session_side self.new.teller.printer.failed (O.faults out.new) (O.written out.new) (F.state flash.new)) self.old self.new }
         ensures plan { self.new.teller.plan ≡ self.old.teller.plan }
         ensures fewer { steps_left self.new < steps_left self.old }
@@ -180,7 +187,7 @@ impl<'a> Session<'a> {
         self.give_back(pool);
     }
 
-    /// Takes the page buffer of the session, unless it has it.
+    /// Takes the page buffers of the session, unless it has them.
     fn take_buffers(&mut self, pool: &mut PagePool)
         requires going { IsLeft self.old }
         requires can { IsSomeStep pool.old self.old }
@@ -193,12 +200,16 @@ impl<'a> Session<'a> {
             let Some(lease) = pool.lease() else {
                 unreachable!()
             };
+            let Some(frame) = pool.lease() else {
+                unreachable!()
+            };
             self.replies.take(lease);
+            self.frame = frame;
             self.buffers = Buffers::Taken;
         }
     }
 
-    /// Gives the page buffer of the session back, where nothing more is due.
+    /// Gives the page buffers of the session back, where nothing more is due.
     fn give_back(&mut self, pool: &mut PagePool)
         requires taken { self.old.buffers ≡ buffers.Taken }
         requires can { IsSomeWork pool.old self.old }
@@ -208,11 +219,12 @@ impl<'a> Session<'a> {
     {
         if let Due::Ended = self.due() {
             pool.give(self.replies.give());
+            pool.give(mem::take(&mut self.frame));
             self.buffers = Buffers::GivenBack;
         }
     }
 
-    /// Makes the move or the slice that is due, with its page buffer.
+    /// Makes the move or the slice that is due, with its page buffers.
     fn go_on<F: Flash, L: Link, O: Sink>(
         &mut self,
         pool: &mut PagePool,
@@ -228,7 +240,7 @@ impl<'a> Session<'a> {
         ensures live { (by : Plan) (texts : List (List ℕ)) (journal : Journal) (since : SessionSide) → IsLive by F.told texts journal since (session_side self.old.teller.printer.failed (O.faults out.old) (O.written out.old) (F.state flash.old)) pool.old self.old
             → WentOn (due_by_rule self.old.cat.now texts journal self.old) (WentBy (λ more. L.went link.old more link.new) (L.faults link.old) (L.faults link.new)) by F.told texts journal since
             (session_side self.old.teller.printer.failed (O.faults out.old) (O.written out.old) (F.state flash.old)) (session_side self.new.teller.printer.failed (O.faults out.new) (O.written out.new) (F.state flash.new)) pool.new self.old self.new }
-        ensures made { (catalog : channel.Catalog) (asks : List NumberedAsk) (journal : Journal) → IsAfter catalog asks journal self.old.exchange.pump
+        ensures made { (catalog : channel.Catalog) (asks : List NumberedAsk) (journal : Journal) → IsAfter catalog asks journal self.old.pump
             → MadeStep (due_in catalog asks journal self.old) (session_side self.old.teller.printer.failed (O.faults out.old) (O.written out.old) (F.state flash.old)) (session_side self.new.teller.printer.failed (O.faults out.new) (O.written out.new) (F.state flash.new)) self.old self.new }
         ensures plan { self.new.teller.plan ≡ self.old.teller.plan }
         ensures fewer { steps_left self.new < steps_left self.old }
@@ -253,10 +265,10 @@ impl<'a> Session<'a> {
 
     /// Makes the next move.
     fn go<F: Flash, L: Link>(&mut self, pool: &mut PagePool, flash: &mut F, link: &mut L)
-        requires going { want_of self.old.exchange.pump ≢ Want.Closed }
+        requires going { want_of self.old.pump ≢ Want.Closed }
         requires taken { self.old.buffers ≡ buffers.Taken }
         requires can { CanWork F.told (F.state flash.old) pool.old self.old }
-        requires some { IsMove F.told self.old.cat.now self.old.at.now (F.state flash.old) pool.old self.old.exchange self.old.teller self.old.replies }
+        requires some { IsMove F.told self.old.cat.now self.old.at.now (F.state flash.old) pool.old self.old.pump self.old.frame self.old.teller self.old.replies }
         ensures can { CanWork F.told (F.state flash.new) pool.new self.new }
         ensures live { (by : Plan) (texts : List (List ℕ)) (journal : Journal) (since : SessionSide) (sink : Handed)
             → IsNear self.old.cat.now texts journal (self.old.teller.count + 2) → IsLive by F.told texts journal since (record { sink = sink; flash = F.state flash.old }) pool.old self.old
@@ -266,7 +278,7 @@ impl<'a> Session<'a> {
         ensures cat { self.new.cat ≡ self.old.cat }
         ensures at { self.new.at ≡ self.old.at }
         ensures taken { self.new.buffers ≡ buffers.Taken }
-        ensures fewer { moves_left self.new.exchange.pump < moves_left self.old.exchange.pump }
+        ensures fewer { moves_left self.new.pump < moves_left self.old.pump }
         ensures faults { L.faults link.old ≤ L.faults link.new }
     {
         self.teller.spared();
@@ -274,7 +286,8 @@ impl<'a> Session<'a> {
             self.cat,
             self.at,
             self.refusal,
-            &mut self.exchange,
+            &mut self.pump,
+            &self.frame,
             &mut self.replies,
             pool,
             flash,
@@ -291,10 +304,11 @@ impl<'a> Session<'a> {
         requires can { CanWork F.told (F.state flash.old) pool.old self.old }
         requires some { IsSomeLive F.told (session_side self.old.teller.printer.failed (O.faults out.old) (O.written out.old) (F.state flash.old)) pool.old self.old }
         ensures can { CanWork F.told (F.state flash.new) pool.new self.new }
-        ensures live { (by : Plan) (texts : List (List ℕ)) (journal : Journal) (since : SessionSide) → IsNext self.old.cat.now texts journal self.old.exchange.pump (self.old.teller.count + 1)
+        ensures live { (by : Plan) (texts : List (List ℕ)) (journal : Journal) (since : SessionSide) → IsNext self.old.cat.now texts journal self.old.pump (self.old.teller.count + 1)
             → IsLive by F.told texts journal since (session_side self.old.teller.printer.failed (O.faults out.old) (O.written out.old) (F.state flash.old)) pool.old self.old
             → IsLive by F.told texts journal since (session_side self.new.teller.printer.failed (O.faults out.new) (O.written out.new) (F.state flash.new)) pool.new self.new }
-        ensures exchange { self.new.exchange ≡ self.old.exchange }
+        ensures pump { self.new.pump ≡ self.old.pump }
+        ensures frame { self.new.frame ≡ self.old.frame }
         ensures cat { self.new.cat ≡ self.old.cat }
         ensures at { self.new.at ≡ self.old.at }
         ensures taken { self.new.buffers ≡ buffers.Taken }
@@ -302,7 +316,7 @@ impl<'a> Session<'a> {
             (F.state flash.old).calls (F.state flash.new).calls }
         ensures few { (F.state flash.new).calls ≤ (F.state flash.old).calls + 8 }
         ensures kept { KeepsBy self.old.teller.plan self.old.cat.now (F.state flash.old) (F.state flash.new) }
-        ensures spends { (texts : List (List ℕ)) (journal : Journal) (since : SessionSide) → IsNext self.old.cat.now texts journal self.old.exchange.pump (self.old.teller.count + 1)
+        ensures spends { (texts : List (List ℕ)) (journal : Journal) (since : SessionSide) → IsNext self.old.cat.now texts journal self.old.pump (self.old.teller.count + 1)
             → IsLive by_pre F.told texts journal since (session_side self.old.teller.printer.failed (O.faults out.old) (O.written out.old) (F.state flash.old)) pool.old self.old
             → SpendsCalls F.told since.flash.page self.old.cat.now texts journal (F.state flash.old) (F.state flash.new) self.old.teller self.new.teller }
         ensures counts { CountsStay (F.state flash.old) (F.state flash.new) }
@@ -313,7 +327,7 @@ impl<'a> Session<'a> {
         a_catalog_has_a_layout(self.cat);
         kept_halves_are_halves();
         self.teller
-            .take_up(self.cat, &self.exchange.pump, &self.replies);
+            .take_up(self.cat, &self.pump, &self.replies);
         self.teller.go_on(pool, flash, out);
         self.pace.sliced();
     }
@@ -324,7 +338,7 @@ impl<'a> Session<'a> {
         ensures refused { result.refused ≡ self.now.teller.counts.refused }
         ensures faulted { result.faulted ≡ self.now.teller.counts.faulted }
         ensures sink { is_sink result.status ≡ self.now.teller.printer.failed }
-        ensures status { (catalog : channel.Catalog) (asks : List NumberedAsk) (journal : Journal) → IsAfter catalog asks journal self.now.exchange.pump
+        ensures status { (catalog : channel.Catalog) (asks : List NumberedAsk) (journal : Journal) → IsAfter catalog asks journal self.now.pump
             → self.now.refusal ≡ first_code (standing_after catalog asks journal).heard.ended
             → result.status ≡ status_with self.now.teller.printer.failed (standing_after catalog asks journal) self.now.teller.counts.by_flash self.now.teller.counts.damage }
     {
@@ -334,7 +348,7 @@ impl<'a> Session<'a> {
             faulted: self.teller.counts.faulted,
             status: status(
                 self.teller.printer.failed,
-                self.exchange.pump.cause(),
+                self.pump.cause(),
                 self.refusal,
                 &self.teller.counts,
             ),
@@ -348,27 +362,28 @@ fn make_move<F: Flash, L: Link>(
     cat: &Catalog,
     at: &str,
     refusal: Option<u8>,
-    exchange: &mut Exchange<'_>,
+    pump: &mut Pump<'_>,
+    frame: &Lease,
     replies: &mut Replies,
     pool: &mut PagePool,
     flash: &mut F,
     link: &mut L,
 ) -> (Option<u8>, Event)
-    requires going { want_of exchange.old.pump ≢ Want.Closed }
-    requires some { IsSomeMove F.told cat.now at.now (F.state flash.old) pool.old exchange.old replies.old }
+    requires going { want_of pump.old ≢ Want.Closed }
+    requires some { IsSomeMove F.told cat.now at.now (F.state flash.old) pool.old pump.old frame.now replies.old }
     ensures moved { (by : Plan) (texts : List (List ℕ)) (journal : Journal) (since : SessionSide) (sink : Handed) (teller : tellers.Teller)
         → RunIsSpared teller.running → IsNear cat.now texts journal (teller.count + 2)
-        → moves.IsLive cat.now at.now (asked_of cat.now.schema texts) journal exchange.old → IsAmid by F.told cat.now texts journal since (record { sink = sink; flash = F.state flash.old }) pool.old exchange.old.pump teller replies.old
-        → refusal ≡ first_code (heard_in cat.now texts journal).ended → CanRun by F.told cat.now (F.state flash.old) pool.old (teller.count + 1) (lease_of replies.old) teller.running
-        → MovedOn (WentBy (λ more. L.went link.old more link.new) (L.faults link.old) (L.faults link.new)) by F.told cat.now at.now texts journal since (F.state flash.old) (record { sink = sink; flash = F.state flash.new }) pool.new result.1 exchange.new teller replies.new result.0 }
-    ensures can { (by : Plan) (teller : tellers.Teller) → RunIsSpared teller.running → IsMove F.told cat.now at.now (F.state flash.old) pool.old exchange.old teller replies.old
+        → moves.IsLive cat.now at.now (asked_of cat.now.schema texts) journal pump.old (bytes_at pool.old frame.now) → IsAmid by F.told cat.now texts journal since (record { sink = sink; flash = F.state flash.old }) pool.old pump.old teller replies.old
+        → refusal ≡ first_code (heard_in cat.now texts journal).ended → CanRun by F.told cat.now (F.state flash.old) pool.old (teller.count + 1) (lease_of replies.old) teller.running → IsApart pool.old frame.now teller replies.old
+        → MovedOn (WentBy (λ more. L.went link.old more link.new) (L.faults link.old) (L.faults link.new)) by F.told cat.now at.now texts journal since (F.state flash.old) (record { sink = sink; flash = F.state flash.new }) pool.new result.1 pump.new frame.now teller replies.new result.0 }
+    ensures can { (by : Plan) (teller : tellers.Teller) → RunIsSpared teller.running → IsMove F.told cat.now at.now (F.state flash.old) pool.old pump.old frame.now teller replies.old → IsApart pool.old frame.now teller replies.old
         → CanRun by F.told cat.now (F.state flash.old) pool.old (teller.count + 1) (lease_of replies.old) teller.running → CanRun by F.told cat.now (F.state flash.new) pool.new (teller.count + 1) (lease_of replies.old) teller.running }
     ensures writes { WritesHalf cat.now replies.new.hand.text (F.state flash.old) (F.state flash.new) }
     ensures few { (F.state flash.new).calls ≤ (F.state flash.old).calls + 2 * pages_on result.1 replies.new.hand replies.old.spool replies.new.spool }
     ensures never_falls { (F.state flash.old).faults ≤ (F.state flash.new).faults }
-    ensures buffer { ChangesPage pool.old pool.new (lease_of replies.old) }
+    ensures out { KeepsOut pool.old pool.new }
     ensures lease { lease_of replies.new ≡ lease_of replies.old }
-    ensures fewer { moves_left exchange.new.pump < moves_left exchange.old.pump }
+    ensures fewer { moves_left pump.new < moves_left pump.old }
     ensures faults { L.faults link.old ≤ L.faults link.new }
 {
     a_catalog_is_short(cat);
@@ -380,10 +395,31 @@ fn make_move<F: Flash, L: Link>(
     over_texts_are_settled();
     asks_are_awaited_in_order();
     texts_come_in_order();
-    let is_awaited = await_reply(cat, &exchange.pump, replies);
-    let event = exchange.step(at, link);
-    replies.hear(flash, pool, event, &exchange.page);
+    replies_stay_kept();
+    let is_awaited = await_reply(cat, pump, replies);
+    let event = move_on(pump, at, frame, pool, link);
+    let page = *pool.page(frame);
+    replies.hear(flash, pool, event, &page);
     (first_refusal(refusal, is_awaited, event), event)
+}
+
+/// Makes the next move on the link, and answers what it led to. The frame at hand lies in the buffer of the lease.
+fn move_on<L: Link>(
+    pump: &mut Pump<'_>,
+    at: &str,
+    frame: &Lease,
+    pool: &mut PagePool,
+    link: &mut L,
+) -> Event
+    requires going { want_of pump.old ≢ Want.Closed }
+    requires out { IsOut pool.old frame.now }
+    ensures moved { (catalog : channel.Catalog) (asks : List NumberedAsk) (journal : Journal) → moves.IsLive catalog at.now asks journal pump.old (bytes_at pool.old frame.now)
+        → moves.Moved (WentBy (λ more. L.went link.old more link.new) (L.faults link.old) (L.faults link.new)) catalog at.now asks journal result pump.new (bytes_at pool.new frame.now) }
+    ensures buffer { ChangesPage pool.old pool.new frame.now }
+    ensures fewer { moves_left pump.new < moves_left pump.old }
+    ensures faults { L.faults link.old ≤ L.faults link.new }
+{
+    pump.step(at, pool.page_mut(frame), link)
 }
 
 /// Begins the reply to the ask at hand, unless it was begun, and answers whether there is one.

@@ -14,12 +14,12 @@ ghost use Rattle.key_lines.specs.Handing.{handed};
 ghost use Rattle.leakless_plan.specs.declared.plan.Plan.{Plan};
 ghost use Rattle.key_exec.specs.Plans.{Suffices, by_pre};
 ghost use Rattle.key_exec.specs.Reading.{KeepsBy};
-ghost use Rattle.page_pool.specs.Pools.{Pool};
+ghost use Rattle.page_pool.specs.Pools.{Pool, KeepsOthers, others_out};
 ghost use Rattle.key_exec.specs.Rows.{TakesTurn};
 ghost use Rattle.visible_spool.specs.Sparing.{IsHalf};
 ghost use Rattle.key_session.specs.Kept.{half_in, lease_of};
 ghost use Rattle.key_session.specs.declared.replies.Replies as held;
-ghost use Rattle.key_session.specs.Going.{CanRun, IsSomeRun, IsNext, IsAmid, IsBegun, EndsText, RunIsSpared, left_of, unbegun};
+ghost use Rattle.key_session.specs.Going.{CanRun, IsSomeRun, IsNext, IsAmid, IsBegun, EndsText, RunIsSpared, leases_of, left_of, unbegun};
 ghost use Rattle.key_session.specs.Spending.{CountsStay, SpendsCalls, spent_by};
 ghost use Rattle.key_session.specs.Telling.{SessionSide, session_side};
 
@@ -119,6 +119,7 @@ impl<'a> Teller<'a> {
             (F.state flash.old).calls (F.state flash.new).calls }
         ensures kept { (by : Plan) (cat : channel.Catalog) (lease : ℕ) → CanRun by F.told cat (F.state flash.old) pool.old (self.old.count + 1) lease self.old.running
             → KeepsBy by cat (F.state flash.old) (F.state flash.new) }
+        ensures others { KeepsOthers (others_out pool.old (leases_of self.old.running)) pool.old pool.new }
         ensures few { (F.state flash.new).calls ≤ (F.state flash.old).calls + 8 }
         ensures spends { (cat : channel.Catalog) (texts : List (List ℕ)) (journal : Journal) (since : SessionSide) (pump : pumps.Pump) (replies : held.Replies)
             → IsTree cat.schema → CanRun by_pre F.told cat (F.state flash.old) pool.old (self.old.count + 1) (lease_of replies) self.old.running

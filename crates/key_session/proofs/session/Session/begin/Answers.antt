@@ -16,13 +16,13 @@ use Rattle.key_session.proofs.session.Session.begin.Goals as goal
 
 pub returns-clause-live : goal.returns-clause-live
 returns-clause-live c = λ told now pool suffices. record {
-  channel = c.begin-2.ensures.live c.args.cat.now c.args.options.now.at.now (asked_of c.args.cat.now.schema (texts_of c.args.script.now)) c.begin.ensures.after;
+  channel = λ page. c.sessions_begin.ensures.begun c.args.cat.now c.args.options.now.at.now (asked_of c.args.cat.now.schema (texts_of c.args.script.now)) c.begin.result page c.begin.ensures.after;
   amid = λ later lease out. record {
     plan = c.new.ensures.plan;
     sink = now.sink;
-    going = at_first c.pieces_join.ensures c.args.options.now.plan told c.args.cat.now (texts_of c.args.script.now) now later _ c.new.result.count c.new.result.counts _ (with_lease lease c.begin-3.result) c.new.ensures.texts c.new.ensures.count c.new.ensures.counts
-        (c.begin-3.ensures.kept told now.flash later lease suffices.pages suffices.small out) c.begin-3.ensures.unmarked;
-    running = subst (λ (running : Option Telling). Runs c.args.options.now.plan told c.args.cat.now (texts_of c.args.script.now) [] c.new.result.count now.flash now.sink now later (with_lease lease c.begin-3.result) running) (sym c.new.ensures.running) refl;
+    going = at_first c.pieces_join.ensures c.args.options.now.plan told c.args.cat.now (texts_of c.args.script.now) now later _ c.new.result.count c.new.result.counts _ (with_lease lease c.begin-2.result) c.new.ensures.texts c.new.ensures.count c.new.ensures.counts
+        (c.begin-2.ensures.kept told now.flash later lease suffices.pages suffices.small out) c.begin-2.ensures.unmarked;
+    running = subst (λ (running : Option Telling). Runs c.args.options.now.plan told c.args.cat.now (texts_of c.args.script.now) [] c.new.result.count now.flash now.sink now later (with_lease lease c.begin-2.result) running) (sym c.new.ensures.running) refl;
   };
   refusal_is = sym (ap (λ (heard : Heard). first_code heard.ended) (heard_none c.args.cat.now (texts_of c.args.script.now)));
   owed = λ some. (let none = c.new-2.ensures.unpaced.owed in absurd (omega (arith, none, some)));
@@ -31,5 +31,5 @@ returns-clause-live c = λ told now pool suffices. record {
 pub returns-clause-can : goal.returns-clause-can
 returns-clause-can c = λ told device pool suffices idle. record {
   suffices = suffices;
-  buffers = record { idle = idle; none = c.new.ensures.running; opened = ap (λ (pump : Pump). is_closed (want_of pump)) c.begin-2.ensures.pump ∙ ap is_closed c.begin.ensures.want };
+  buffers = record { idle = idle; none = c.new.ensures.running; opened = ap is_closed c.begin.ensures.want };
 }

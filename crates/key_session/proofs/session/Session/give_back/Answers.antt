@@ -8,5 +8,5 @@ use Rattle.key_session.proofs.session.Session.give_back.Goals as goal
 
 pub returns-in-Ended-clause-live : goal.returns-in-Ended-clause-live
 returns-in-Ended-clause-live c = λ plan told texts journal since now live.
-    subst (λ (replies : Replies). IsLive plan told texts journal since now c.give-in-Ended.new.self (record (c.args.self.now) { replies = replies; buffers = buffers.GivenBack })) (sym c.give.ensures.given)
-    (live_given plan told texts journal since now c.args.pool.now c.give-in-Ended.new.self (lease_of c.give.new.self) c.args.self.now c.requires.taken live)
+    subst (λ (replies : Replies). IsLive plan told texts journal since now c.give-in-Ended-2.new.self (record (c.args.self.now) { frame = c.take.new.dest; replies = replies; buffers = buffers.GivenBack })) (sym c.give.ensures.given)
+    (live_given plan told texts journal since now c.args.pool.now c.give-in-Ended-2.new.self (lease_of c.give.new.self) c.take.new.dest c.args.self.now c.requires.taken live)

@@ -41,7 +41,7 @@ returns-clause-live g c = λ plan texts journal since live.
     (sym (ap (λ (session : Session). session.teller.printer.failed) c.take_buffers.ensures.same)) (c.take_buffers.ensures.live plan g.F.Flash.told texts journal since before live) in
     subst (λ (session : Session). WentOn (due_by_rule c.args.self.now.cat.now texts journal c.args.self.now) goes plan g.F.Flash.told texts journal since before
     (session_side session.teller.printer.failed (g.O.Sink.faults c.go_on.new.out) (g.O.Sink.written c.go_on.new.out) (g.F.Flash.state c.go_on.new.flash)) c.give_back.new.pool c.args.self.now session) (sym c.give_back.ensures.same)
-    (went_with goes plan g.F.Flash.told texts journal since before now c.go_on.new.pool c.give_back.new.pool c.args.self.now c.go_on.new.self c.take_buffers.new.self.buffers c.give_back.new.self.buffers (lease_of c.take_buffers.new.self.replies) (lease_of c.give_back.new.self.replies)
+    (went_with goes plan g.F.Flash.told texts journal since before now c.go_on.new.pool c.give_back.new.pool c.args.self.now c.go_on.new.self c.take_buffers.new.self.buffers c.give_back.new.self.buffers (lease_of c.take_buffers.new.self.replies) (lease_of c.give_back.new.self.replies) c.take_buffers.new.self.frame c.give_back.new.self.frame
     (λ after worked. subst (λ (session : Session). IsLive plan g.F.Flash.told texts after since now c.give_back.new.pool session) c.give_back.ensures.same (c.give_back.ensures.live plan g.F.Flash.told texts after since now worked))
     (due_by_rule c.args.self.now.cat.now texts journal c.args.self.now)
     (subst (λ (session : Session). WentOn (due_by_rule session.cat.now texts journal session) goes plan g.F.Flash.told texts journal since
@@ -54,7 +54,7 @@ returns-clause-made g c = λ catalog asks journal after.
     let now = session_side c.go_on.new.self.teller.printer.failed (g.O.Sink.faults c.go_on.new.out) (g.O.Sink.written c.go_on.new.out) (g.F.Flash.state c.go_on.new.flash) in
     subst (λ (session : Session). MadeStep (due_in catalog asks journal c.args.self.now) before
     (session_side session.teller.printer.failed (g.O.Sink.faults c.go_on.new.out) (g.O.Sink.written c.go_on.new.out) (g.F.Flash.state c.go_on.new.flash)) c.args.self.now session) (sym c.give_back.ensures.same)
-    (made_with before now c.args.self.now c.go_on.new.self c.take_buffers.new.self.buffers c.give_back.new.self.buffers (lease_of c.take_buffers.new.self.replies) (lease_of c.give_back.new.self.replies) (due_in catalog asks journal c.args.self.now)
+    (made_with before now c.args.self.now c.go_on.new.self c.take_buffers.new.self.buffers c.give_back.new.self.buffers (lease_of c.take_buffers.new.self.replies) (lease_of c.give_back.new.self.replies) c.take_buffers.new.self.frame c.give_back.new.self.frame (due_in catalog asks journal c.args.self.now)
     (subst (λ (session : Session). MadeStep (due_in catalog asks journal session)
     (session_side session.teller.printer.failed (g.O.Sink.faults c.args.out.now) (g.O.Sink.written c.args.out.now) (g.F.Flash.state c.args.flash.now)) now session c.go_on.new.self) c.take_buffers.ensures.same
     (c.go_on.ensures.made catalog asks journal
