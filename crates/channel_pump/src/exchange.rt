@@ -75,7 +75,13 @@ impl<'a> Pump<'a> {
     }
 
     /// Takes what is wanted, at most so many bytes, into the page at a place.
-    fn take<L: Link>(&mut self, place: usize, most: usize, page: &mut [u8; 2048], link: &mut L) -> Event
+    fn take<L: Link>(
+        &mut self,
+        place: usize,
+        most: usize,
+        page: &mut [u8; 2048],
+        link: &mut L,
+    ) -> Event
         requires wanted { want_of self.old ≡ Want.Take place most }
         requires some { 0 < most }
         requires fits { place + most ≤ 2048 }

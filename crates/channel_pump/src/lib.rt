@@ -19,4 +19,3 @@ pub mod pump;
 mod rows;
 pub mod state;
 mod turning;
-

@@ -1,13 +1,13 @@
 -- The frame at hand lies in a buffer of its own: what is written there touches neither the replies nor the text that is told.
-use Rattle.std.proofs.Common.{◌≡◌, ◌≤◌, ◌<◌, ◌+◌, ℕ, arith, Bool, false, List, [], length, refl, sym, ◌∙◌, subst, Option, Some, None}
-use Rattle.std.specs.Prelude.{◌≢◌, ◌%◌, get_or, count_by, not}
+use Rattle.std.proofs.Common.{◌≡◌, ◌+◌, ℕ, Bool, false, List, [], refl, sym, ◌∙◌, Option, Some, None}
+use Rattle.std.specs.Prelude.{◌≢◌, ◌%◌}
 use Rattle.ghost_model.specs.core.Channel.{Catalog, Journal}
 use Rattle.ghost_model.specs.forms.Layout.{spool_end, need}
 use Rattle.edge_traits.specs.Devices.{Device}
 use Rattle.edge_traits.proofs.DeviceFrames.{changes_kept, kept_same}
-use Rattle.page_pool.specs.Pools.{Pool, ChangesPage, IsOut, bytes_at, others_out}
+use Rattle.page_pool.specs.Pools.{Pool, ChangesPage, bytes_at}
 use Rattle.page_pool.specs.Laws.{KeepsOut}
-use Rattle.page_pool.proofs.Leases.{change_keeps_out, change_elsewhere, others_kept, out_kept}
+use Rattle.page_pool.proofs.Leases.{change_keeps_out, change_elsewhere, out_kept}
 use Rattle.channel_pump.specs.declared.state.Pump.{Pump}
 use Rattle.channel_pump.specs.declared.state.ReplyState.TheVariants as state_is
 use Rattle.session_laws.specs.TextEnds.{heard_in}
@@ -17,10 +17,10 @@ use Rattle.key_exec.specs.Telling as lines
 use Rattle.key_exec.specs.Laws.{TellingIsSpared}
 use Rattle.key_exec.specs.Ready.{Spares}
 use Rattle.key_exec.specs.declared.telling.Telling.{Telling}
-use Rattle.key_session.specs.Kept.{IsKept, lease_of}
+use Rattle.key_session.specs.Kept.{IsKept}
 use Rattle.key_session.specs.Laws.{RepliesStayKept}
 use Rattle.key_session.specs.Telling.{SessionSide}
-use Rattle.key_session.specs.Going.{CanRun, IsAmid, IsApart, IsGoing, IsOutAlone, IsRunning, RunIsSpared, Runs, leases_of}
+use Rattle.key_session.specs.Going.{CanRun, IsAmid, IsApart, IsOutAlone, IsRunning, RunIsSpared, Runs, leases_of}
 use Rattle.key_session.specs.declared.replies.Replies.{Replies}
 use Rattle.key_session.specs.declared.teller.Teller.{Teller}
 use Rattle.key_session.proofs.Beginning.{telling_spared}

@@ -14,7 +14,6 @@ use Rattle.ghost_model.specs.core.NextMove.{Standing, Heard, standing_after, IsP
 use Rattle.page_pool.specs.Pools.{Pool}
 use Rattle.channel_pump.specs.Entries.{WentBy}
 use Rattle.channel_pump.specs.Sessions.{IsLive}
-
 use Rattle.session_laws.specs.TextEnds.{heard_in}
 use Rattle.ghost_model.specs.core.Query.{Query}
 use Rattle.ghost_model.specs.core.Channel.{Entry}

@@ -7,8 +7,8 @@
 //! Rows of a reply go to the spool on the flash as they come. It has two halves: a text has that of its number's parity, so the
 //! replies of a text go over those of the text two before it.
 //!
-//! The page of the spool that is being written lies in a page buffer, which the first step takes, and which the step gives back
-//! after which nothing more is due.
+//! The frame at hand lies in a page buffer, and so does the page of the spool that is being written. The first step takes the two,
+//! and the step gives them back after which nothing more is due.
 #![tactic(auto)]
 
 mod ask;

@@ -326,8 +326,7 @@ impl<'a> Session<'a> {
     {
         a_catalog_has_a_layout(self.cat);
         kept_halves_are_halves();
-        self.teller
-            .take_up(self.cat, &self.pump, &self.replies);
+        self.teller.take_up(self.cat, &self.pump, &self.replies);
         self.teller.go_on(pool, flash, out);
         self.pace.sliced();
     }

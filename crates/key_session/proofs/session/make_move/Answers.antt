@@ -17,24 +17,24 @@ use Rattle.key_session.proofs.session.make_move.Goals as goal
 
 pub hear-requires : goal.hear-requires
 hear-requires g c =
-  let amid = amid_written c.args.pool.now c.move_on-event.new.pool c.args.frame.now c.requires.some.teller c.args.replies.now c.requires.some.apart c.move_on-event.ensures.buffer c.replies_stay_kept.ensures.kept c.requires.some.move.by g.F.Flash.told c.args.cat.now c.requires.some.move.texts c.requires.some.move.journal c.requires.some.move.since c.requires.some.move.sink (g.F.Flash.state c.args.flash.now) c.args.pump.now c.requires.some.spared c.requires.some.move.amid in
-  record {
-  some = some_heard (record {
-    stay = c.ended_texts_stay.ensures;
-    reasons = c.reasons_stay.ensures;
-    decided = c.texts_are_decided.ensures;
-    over = c.over_texts_are_settled.ensures;
-    order = c.texts_come_in_order.ensures;
-    outcomes = c.texts_have_outcomes.ensures;
-    in_order = c.asks_are_awaited_in_order.ensures;
-  }) c.replies_fit.ensures _ c.args.cat.now c.a_catalog_is_short.ensures.catalog.meant (WentBy (λ more. g.L.Link.went c.args.link.now more c.move_on-event.new.link) (g.L.Link.faults c.args.link.now) (g.L.Link.faults c.move_on-event.new.link))
-      c.requires.some.move.by g.F.Flash.told c.args.at.now c.requires.some.move.texts c.requires.some.move.journal c.requires.some.move.since c.requires.some.move.sink (g.F.Flash.state c.args.flash.now) c.move_on-event.new.pool c.args.pump.now c.move_on-event.new.pump c.page.result.now c.requires.some.teller c.args.replies.now c.await_reply-is_awaited.new.replies c.move_on-event.result
-      c.requires.going c.requires.some.move.near
-      amid
-      (λ fits within kept. c.await_reply-is_awaited.ensures.kept g.F.Flash.told (g.F.Flash.state c.args.flash.now) c.move_on-event.new.pool (asked_of c.args.cat.now.schema c.requires.some.move.texts) c.requires.some.move.journal (c.requires.some.teller.count + 1) amid.going.top c.requires.some.move.channel.after fits within kept)
-      (subst (λ (page : List ℕ). Moved (WentBy (λ more. g.L.Link.went c.args.link.now more c.move_on-event.new.link) (g.L.Link.faults c.args.link.now) (g.L.Link.faults c.move_on-event.new.link)) c.args.cat.now c.args.at.now (asked_of c.args.cat.now.schema c.requires.some.move.texts) c.requires.some.move.journal c.move_on-event.result c.move_on-event.new.pump page) (sym c.page.ensures.bytes)
-      (c.move_on-event.ensures.moved c.args.cat.now (asked_of c.args.cat.now.schema c.requires.some.move.texts) c.requires.some.move.journal c.requires.some.move.channel));
-}
+    let amid = amid_written c.args.pool.now c.move_on-event.new.pool c.args.frame.now c.requires.some.teller c.args.replies.now c.requires.some.apart c.move_on-event.ensures.buffer c.replies_stay_kept.ensures.kept c.requires.some.move.by g.F.Flash.told c.args.cat.now c.requires.some.move.texts c.requires.some.move.journal c.requires.some.move.since c.requires.some.move.sink (g.F.Flash.state c.args.flash.now) c.args.pump.now c.requires.some.spared c.requires.some.move.amid in
+    record {
+      some = some_heard (record {
+        stay = c.ended_texts_stay.ensures;
+        reasons = c.reasons_stay.ensures;
+        decided = c.texts_are_decided.ensures;
+        over = c.over_texts_are_settled.ensures;
+        order = c.texts_come_in_order.ensures;
+        outcomes = c.texts_have_outcomes.ensures;
+        in_order = c.asks_are_awaited_in_order.ensures;
+      }) c.replies_fit.ensures _ c.args.cat.now c.a_catalog_is_short.ensures.catalog.meant (WentBy (λ more. g.L.Link.went c.args.link.now more c.move_on-event.new.link) (g.L.Link.faults c.args.link.now) (g.L.Link.faults c.move_on-event.new.link))
+          c.requires.some.move.by g.F.Flash.told c.args.at.now c.requires.some.move.texts c.requires.some.move.journal c.requires.some.move.since c.requires.some.move.sink (g.F.Flash.state c.args.flash.now) c.move_on-event.new.pool c.args.pump.now c.move_on-event.new.pump c.page.result.now c.requires.some.teller c.args.replies.now c.await_reply-is_awaited.new.replies c.move_on-event.result
+          c.requires.going c.requires.some.move.near
+          amid
+          (λ fits within kept. c.await_reply-is_awaited.ensures.kept g.F.Flash.told (g.F.Flash.state c.args.flash.now) c.move_on-event.new.pool (asked_of c.args.cat.now.schema c.requires.some.move.texts) c.requires.some.move.journal (c.requires.some.teller.count + 1) amid.going.top c.requires.some.move.channel.after fits within kept)
+          (subst (λ (page : List ℕ). Moved (WentBy (λ more. g.L.Link.went c.args.link.now more c.move_on-event.new.link) (g.L.Link.faults c.args.link.now) (g.L.Link.faults c.move_on-event.new.link)) c.args.cat.now c.args.at.now (asked_of c.args.cat.now.schema c.requires.some.move.texts) c.requires.some.move.journal c.move_on-event.result c.move_on-event.new.pump page) (sym c.page.ensures.bytes)
+          (c.move_on-event.ensures.moved c.args.cat.now (asked_of c.args.cat.now.schema c.requires.some.move.texts) c.requires.some.move.journal c.requires.some.move.channel));
+    }
 
 pub returns-clause-few : goal.returns-clause-few
 returns-clause-few g c =
@@ -56,10 +56,10 @@ returns-clause-writes g c =
     }) c.replies_fit.ensures _ c.args.cat.now c.a_catalog_is_short.ensures.catalog.meant (WentBy (λ more. g.L.Link.went c.args.link.now more c.move_on-event.new.link) (g.L.Link.faults c.args.link.now) (g.L.Link.faults c.move_on-event.new.link))
     c.requires.some.move.by g.F.Flash.told c.args.at.now c.requires.some.move.texts c.requires.some.move.journal c.requires.some.move.since c.requires.some.move.sink (g.F.Flash.state c.args.flash.now) c.move_on-event.new.pool c.args.pump.now c.move_on-event.new.pump c.page.result.now c.requires.some.teller c.args.replies.now c.await_reply-is_awaited.new.replies c.move_on-event.result
     c.requires.going c.requires.some.move.near
-      amid
+    amid
     (λ fits within kept. c.await_reply-is_awaited.ensures.kept g.F.Flash.told (g.F.Flash.state c.args.flash.now) c.move_on-event.new.pool (asked_of c.args.cat.now.schema c.requires.some.move.texts) c.requires.some.move.journal (c.requires.some.teller.count + 1) amid.going.top c.requires.some.move.channel.after fits within kept)
     (subst (λ (page : List ℕ). Moved (WentBy (λ more. g.L.Link.went c.args.link.now more c.move_on-event.new.link) (g.L.Link.faults c.args.link.now) (g.L.Link.faults c.move_on-event.new.link)) c.args.cat.now c.args.at.now (asked_of c.args.cat.now.schema c.requires.some.move.texts) c.requires.some.move.journal c.move_on-event.result c.move_on-event.new.pump page) (sym c.page.ensures.bytes)
-      (c.move_on-event.ensures.moved c.args.cat.now (asked_of c.args.cat.now.schema c.requires.some.move.texts) c.requires.some.move.journal c.requires.some.move.channel))
+    (c.move_on-event.ensures.moved c.args.cat.now (asked_of c.args.cat.now.schema c.requires.some.move.texts) c.requires.some.move.journal c.requires.some.move.channel))
     (g.F.Flash.state c.hear.new.flash) c.hear.new.pool c.hear.new.self c.await_reply-is_awaited.ensures.spool
     (λ later low top hears. (c.hear.ensures.kept c.args.cat.now (heard_in c.args.cat.now c.requires.some.move.texts c.requires.some.move.journal) later low top hears, c.hear.ensures.heard c.args.cat.now (heard_in c.args.cat.now c.requires.some.move.texts c.requires.some.move.journal) later low top hears))
     c.hear.ensures.marks c.hear.ensures.unopened_flash c.hear.ensures.unopened_spool in
@@ -133,7 +133,7 @@ returns-clause-moved g c = λ plan texts journal since sink teller spared near c
           (λ later low top hears. (c.hear.ensures.kept c.args.cat.now (heard_in c.args.cat.now texts journal) later low top hears, c.hear.ensures.heard c.args.cat.now (heard_in c.args.cat.now texts journal) later low top hears))
           c.hear.ensures.marks c.hear.ensures.unopened_flash c.hear.ensures.unopened_spool spared
           (subst (λ (lease : _). ChangesPage c.move_on-event.new.pool c.hear.new.pool lease) (same_lease c.args.replies.now c.await_reply-is_awaited.new.replies c.await_reply-is_awaited.ensures.spool) c.hear.ensures.buffer)
-    (run_written c.args.pool.now c.move_on-event.new.pool c.args.frame.now teller c.args.replies.now apart c.move_on-event.ensures.buffer plan g.F.Flash.told c.args.cat.now (g.F.Flash.state c.args.flash.now) (teller.count + 1) (lease_of c.args.replies.now) spared run);
+          (run_written c.args.pool.now c.move_on-event.new.pool c.args.frame.now teller c.args.replies.now apart c.move_on-event.ensures.buffer plan g.F.Flash.told c.args.cat.now (g.F.Flash.state c.args.flash.now) (teller.count + 1) (lease_of c.args.replies.now) spared run);
       refusal_is = refusal_more c.args.cat.now c.page.result.now c.move_on-event.result (heard_in c.args.cat.now texts journal) _ c.args.refusal c.first_refusal.result c.await_reply-is_awaited.result moved.tells refusal_is
           (c.await_reply-is_awaited.ensures.awaited (asked_of c.args.cat.now.schema texts) journal channel.after) c.first_refusal.ensures.first;
     }

@@ -1,4 +1,4 @@
-use Rattle.std.proofs.Common.{[], ◌∙◌, arith, ap, refl, sym, subst}
+use Rattle.std.proofs.Common.{[], arith, ap, refl, sym, subst}
 use Rattle.std.specs.Prelude.{Option}
 use Rattle.ghost_model.specs.core.Texts.{texts_of}
 use Rattle.ghost_model.specs.core.Asks.{asked_of}
@@ -7,8 +7,6 @@ use Rattle.key_exec.specs.declared.telling.Telling.{Telling}
 use Rattle.key_session.specs.Going.{Runs}
 use Rattle.key_session.specs.Kept.{with_lease}
 use Rattle.key_session.specs.Refusing.{first_code}
-use Rattle.channel_pump.specs.State.{want_of}
-use Rattle.channel_pump.specs.declared.state.Pump.{Pump}
 use Rattle.key_session.specs.Order.{is_closed}
 use Rattle.key_session.proofs.Moving.{heard_none}
 use Rattle.key_session.proofs.Running.{at_first}

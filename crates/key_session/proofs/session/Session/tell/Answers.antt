@@ -43,7 +43,7 @@ returns-clause-can g c =
       suffices = still_suffices c.args.self.now.cat.now (g.F.Flash.state c.args.flash.now) (g.F.Flash.state c.go_on.new.flash) keeps.page_count c.requires.can.suffices;
       has = record {
         run = subst (λ (plan : Plan). CanRun plan g.F.Flash.told c.args.self.now.cat.now (g.F.Flash.state c.go_on.new.flash) c.go_on.new.pool (c.go_on.new.self.count + 1) (lease_of c.args.self.now.replies) c.go_on.new.self.running)
-          (sym (c.go_on.ensures.plan ∙ c.take_up.ensures.plan)) (c.go_on.ensures.can c.args.self.now.teller.plan c.args.self.now.cat.now (lease_of c.args.self.now.replies) run);
+            (sym (c.go_on.ensures.plan ∙ c.take_up.ensures.plan)) (c.go_on.ensures.can c.args.self.now.teller.plan c.args.self.now.cat.now (lease_of c.args.self.now.replies) run);
         apart = record { out = (c.go_on.ensures.can c.args.self.now.teller.plan c.args.self.now.cat.now c.args.self.now.frame framed).alone; replies = c.requires.can.has.apart.replies };
       };
     }
