@@ -1,5 +1,7 @@
 //! `local` and `plain` over tables whose columns and replies take many pages.
 
+ghost use Rattle.key_words.specs.Blocks.{AreBuffers};
+
 use arrayvec::ArrayVec;
 use edge_traits::mem_depot::{MemDepot, Room};
 use edge_traits::mem_flash::MemFlash;
@@ -26,7 +28,9 @@ const PLAIN_WORDS: PlainWords<'static> = PlainWords {
 };
 
 /// The words of `local`, with a plan, a pace of one number and so many page buffers.
-fn local_words(plan: Plan, buffers: u32) -> LocalWords<'static> {
+fn local_words(plan: Plan, buffers: u32) -> LocalWords<'static>
+    requires buffers { AreBuffers buffers }
+{
     let mut pace = ArrayVec::new();
     pace.push(1);
     LocalWords {
@@ -54,14 +58,10 @@ pub fn files_of(
         file_bytes: 800_000,
     };
     let mut depot = MemDepot::new(alloc, room, &[])?;
-    for (name, text) in [
-        ("schema", SCHEMA),
-        ("tables/leaf.csv", leaves),
-        ("tables/top.csv", tops),
-        ("script", script),
-    ] {
-        depot.put(name, text.as_bytes());
-    }
+    depot.put("schema", SCHEMA.as_bytes());
+    depot.put("tables/leaf.csv", leaves.as_bytes());
+    depot.put("tables/top.csv", tops.as_bytes());
+    depot.put("script", script.as_bytes());
     Ok(depot)
 }
 
@@ -72,7 +72,9 @@ pub fn calls_of(
     plan: Plan,
     buffers: u32,
     lines: &str,
-) -> Result<Option<u64>, AllocError> {
+) -> Result<Option<u64>, AllocError>
+    requires buffers { AreBuffers buffers }
+{
     let mut flash = MemFlash::new(alloc, 60, &[])?;
     let mut out = MemSink::new(alloc, 300_000, 300_000, &[])?;
     let words = local_words(plan, buffers);
