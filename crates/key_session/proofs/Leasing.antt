@@ -85,6 +85,7 @@ live_taken plan told texts journal since now pool more lease frame session untak
   amid = subst (λ (b : Buffers). Stands b plan told session.cat.now texts journal since now pool session.pump session.teller session.replies) untaken live.amid more lease out;
   refusal_is = live.refusal_is;
   owed = live.owed;
+  far = live.far;
 }
 
 pub live_given : (plan : Plan) (told : Bool) (texts : List (List ℕ)) (journal : Journal) (since now : SessionSide) (pool more : Pool) (lease frame : ℕ) (session : Session) → session.buffers ≡ buffers.Taken
@@ -94,6 +95,7 @@ live_given plan told texts journal since now pool more lease frame session taken
   amid = record { had = pool; lease = lease_of session.replies; amid = taken_amid plan told texts journal since now pool session taken live };
   refusal_is = live.refusal_is;
   owed = live.owed;
+  far = live.far;
 }
 
 -- ---- a step between the two

@@ -30,6 +30,7 @@ pub mod OneMore
 pub mod Spent
 pub mod Attending
 pub mod Moving
+pub mod Unsent
 pub mod Beginning
 pub mod Steps
 pub mod Framing

@@ -13,6 +13,7 @@ pub mod Reasons
 pub mod Refusing
 pub mod Telling
 pub mod Awaiting
+pub mod Unsent
 pub mod Going
 pub mod Answering
 pub mod Running

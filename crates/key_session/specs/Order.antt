@@ -23,7 +23,7 @@ place_on (event_is.Rows _) numbers place = place_in numbers place + 1
 place_on _ numbers place = place
 
 -- whether a slice of a text comes first, where an ask of another text is at hand. An ask of a text two behind it was not sent,
--- and is the first of its text, since each ask before it was ended after the text was told.
+-- and is the first of its text, as a live session says of it (`FarIsUnsent`): no move was made since it came to hand.
 abbrev pub is_owed : (owed text asked : ℕ) → Bool
 is_owed owed text asked = nat_le (text + 2) asked || (nat_lt 0 owed && nat_lt text asked)
 

@@ -127,6 +127,7 @@ impl<'a> Teller<'a> {
             → SpendsCalls F.told since.flash.page cat texts journal (F.state flash.old) (F.state flash.new) self.old self.new }
         ensures counts { CountsStay (F.state flash.old) (F.state flash.new) }
         ensures plan { self.new.plan ≡ self.old.plan }
+        ensures onward { self.old.count ≤ self.new.count }
         ensures fewer { left_of self.new < left_of self.old }
     {
         pieces_join();

@@ -10,6 +10,7 @@ use Rattle.key_session.specs.Refusing.{first_code}
 use Rattle.key_session.specs.Order.{is_closed}
 use Rattle.key_session.proofs.Moving.{heard_none}
 use Rattle.key_session.proofs.Running.{at_first}
+use Rattle.key_session.proofs.Unsent.{none_at_first}
 use Rattle.key_session.proofs.session.Session.begin.Goals as goal
 
 pub returns-clause-live : goal.returns-clause-live
@@ -24,6 +25,7 @@ returns-clause-live c = λ told now pool suffices. record {
   };
   refusal_is = sym (ap (λ (heard : Heard). first_code heard.ended) (heard_none c.args.cat.now (texts_of c.args.script.now)));
   owed = λ some. (let none = c.new-2.ensures.unpaced.owed in absurd (omega (arith, none, some)));
+  far = none_at_first c.args.cat.now (texts_of c.args.script.now) c.new.result.count;
 }
 
 pub returns-clause-can : goal.returns-clause-can

@@ -8,6 +8,7 @@ use Rattle.key_session.specs.declared.buffers.Buffers.{Buffers}
 use Rattle.key_session.proofs.Leasing.{taken_amid, taken_channel}
 use Rattle.key_session.proofs.Moving.{alone_kept}
 use Rattle.key_session.proofs.Attending.{owed_behind}
+use Rattle.key_session.proofs.Unsent.{far_unsent}
 use Rattle.key_session.proofs.Stepping.{still_suffices}
 use Rattle.key_session.proofs.session.Session.go.Goals as goal
 
@@ -35,6 +36,7 @@ returns-clause-live g c = λ plan texts journal since sink near live.
             c.make_move-refusal.new.pump c.args.self.now.teller c.make_move-refusal.new.replies) (sym c.requires.taken) moved.amid;
         refusal_is = moved.refusal_is;
         owed = owed_behind c.args.self.now.cat.now _ c.make_move-refusal.result.1 _ _ _ _ _ moved.tells moved.same_ask c.moved.ensures.paced.owed;
+        far = far_unsent c.args.self.now.cat.now c.args.self.now.at.now texts journal moved.made _ c.make_move-refusal.result.1 c.args.self.now.teller.count moved.channel.proper near moved.tells;
       };
     }
 
