@@ -7,13 +7,19 @@ use Rattle.std.proofs.lemmas.List.Sums.{sum_by-cons}
 use Rattle.std.proofs.lemmas.Bool.Decides.{nat_tests}
 use Rattle.ghost_model.specs.core.Schema.{Schema}
 use Rattle.ghost_model.specs.core.Channel.{Catalog, Frame, HelloFrame, AskFrame, MoreFrame, ByeFrame, WelcomeFrame, RowsFrame, DoneFrame, SorryFrame, Move, Dial, Listen, Accept, Send, Take, Close, Entry, Journal}
-use Rattle.ghost_model.specs.forms.Frames.{frame_in}
+use Rattle.ghost_model.specs.forms.Frames.{frame_in, frame_bytes}
 use Rattle.ghost_model.specs.core.Asks.{NumberedAsk, asked_of, ask_payload}
 use Rattle.ghost_model.specs.core.Moves.{sent, sent_by, piece_of}
 use Rattle.ghost_model.specs.core.NextMove.{Awaits, AwaitsCatalog, AwaitsReply, AwaitsNothing, Ending, Answered, Refused, EndedAsk, Heard, Standing, Verdict, Lacking, Complete, Invalid, GoesOn, after_frame, ask_next, still, of_later_texts, verdict, heard_as, hear, hear_all, heard, standing_after, take_or_close, send_or, move_from, next_with}
 use Rattle.ghost_model.proofs.ChannelLemmas.Tests.{both_hold, hold_both}
 use Rattle.channel_pump.specs.Progress.{Tells, ended_on}
 use Rattle.channel_pump.specs.Sessions.{asked_in}
+use Rattle.channel_pump.specs.State.{IsAfter, IsLeft, IsStage, IsCause, is_link, is_protocol, is_opened, has_stopped, has_broken}
+use Rattle.channel_pump.specs.declared.state.Pump.{Pump}
+use Rattle.channel_pump.specs.declared.state.Stage.{Stage}
+use Rattle.channel_pump.specs.declared.state.Stage.TheVariants as stage_is
+use Rattle.channel_pump.specs.declared.state.Cause.{Cause}
+use Rattle.channel_pump.specs.declared.state.Cause.TheVariants as cause_is
 use Rattle.channel_pump.specs.declared.state.Event.{Event}
 use Rattle.channel_pump.specs.declared.state.Event.TheVariants as event_is
 use Rattle.channel_pump.proofs.JournalLemmas.{left_more}
@@ -207,6 +213,71 @@ module _ (catalog : Catalog) (at : List ℕ) (asks : List NumberedAsk) where
       subst (λ (j : Journal). length (sent (j ++ entry ∷ [])) ≤ length (due_after j)) (append_assoc before (first ∷ []) journal)
       (all_sent (before ++ first ∷ []) journal entry goes.1 (omega (arith, one, more)))
 
+-- ---- a frame that is due behind those that were sent is sent by the next move, unless that is the close
+
+closes : (opened closed over : Bool) (at : List ℕ) (rest : Option Move) (move : Move) → opened ≡ true → over ≡ true
+    → (if not opened then Some (Dial at) else if closed then None else if over then Some Close else rest) ≡ Some move → move ≡ Close
+closes false closed over at rest move o s e = cc
+closes true true over at rest move o s e = cc
+closes true false false at rest move o s e = cc
+closes true false true at rest move o s e = cc
+
+closes_or : (opened closed over : Bool) (at : List ℕ) (last move : Move) → opened ≡ true
+    → (if not opened then Some (Dial at) else if closed then None else if over then Some Close else Some last) ≡ Some move → (move ≡ Close) ⊎ (move ≡ last)
+closes_or false closed over at last move o e = cc
+closes_or true true over at last move o e = cc
+closes_or true false true at last move o e = inl cc
+closes_or true false false at last move o e = inr cc
+
+either_over : (a b : Bool) → b ≡ true → (a || b) ≡ true
+either_over true b e = refl
+either_over false b e = e
+
+first_over : (a b : Bool) → a ≡ true → (a || b) ≡ true
+first_over true b e = refl
+first_over false b e = cc
+
+some_got : (found : Option Frame) (frame : Frame) → found ≡ Some frame → is_some found ≡ true
+some_got (Some _) frame e = refl
+some_got None frame e = cc
+
+module _ (catalog : Catalog) (at : List ℕ) (asks : List NumberedAsk) (pump : Pump) (l : Standing) (opened : l.opened ≡ true) (stands : IsLeft catalog asks pump l) (place : ℕ) (frame : Frame)
+    (there : slice_get l.heard.due place ≡ Some frame) (unsent : l.sent ≤ place) where
+  is_within : place < length l.heard.due
+  is_within = got_within l.heard.due place (some_got (slice_get l.heard.due place) frame there)
+
+  all_were_sent : length l.heard.due ≡ l.sent → ⊥
+  all_were_sent e = let less = is_within in omega (arith, e, less, unsent)
+
+  here_next : length l.heard.due ≡ l.sent + 1 → (move : Move) → move_from catalog at l ≡ Some move → (move ≡ Close) ⊎ (move ≡ Send (frame_bytes frame))
+  here_next last move e =
+      let less = is_within in
+      let same : place ≡ l.sent = omega (arith, last, less, unsent) in
+      let found : slice_get l.heard.due l.sent ≡ Some frame = ap (slice_get l.heard.due) (sym same) ∙ there in
+      let other = take_or_close catalog l.heard l.heard.awaits in
+      closes_or l.opened l.closed (l.stopped || l.heard.broken) at (Send (frame_bytes frame)) move opened
+      (subst (λ (o : Option Frame). (if not l.opened then Some (Dial at) else if l.closed then None else if l.stopped || l.heard.broken then Some Close else Some (send_or other o)) ≡ Some move) found e)
+
+  caused : (cause : Cause) → IsCause pump l cause → l.stopped ≡ is_link cause → l.heard.broken ≡ is_protocol cause → (move : Move) → move_from catalog at l ≡ Some move → move ≡ Close
+  caused cause_is.Finished is stopped broken move e = absurd (all_were_sent is.sent)
+  caused cause_is.Link is stopped broken move e = closes l.opened l.closed (l.stopped || l.heard.broken) at _ move opened (first_over l.stopped l.heard.broken stopped) e
+  caused (cause_is.Protocol _ _) is stopped broken move e = closes l.opened l.closed (l.stopped || l.heard.broken) at _ move opened (either_over l.stopped l.heard.broken broken) e
+
+  not_opened : l.opened ≡ false → ⊥
+  not_opened e = true_is_not_false (sym opened ∙ e)
+    where
+      true_is_not_false : true ≡ false → ⊥
+      true_is_not_false e = cc
+
+  sends_next : (stage : Stage) → pump.stage ≡ stage → (move : Move) → move_from catalog at l ≡ Some move → (move ≡ Close) ⊎ (move ≡ Send (frame_bytes frame))
+  sends_next stage_is.Dialling is move e = absurd (not_opened (stands.opened ∙ ap is_opened is))
+  sends_next (stage_is.Sending outgoing) is move e = here_next (subst (λ (s : Stage). IsStage catalog pump l s) is stands.stage).last move e
+  sends_next stage_is.Taking is move e = absurd (all_were_sent (subst (λ (s : Stage). IsStage catalog pump l s) is stands.stage).sent)
+  sends_next (stage_is.Closing cause) is move e =
+      inl (caused cause (subst (λ (s : Stage). IsStage catalog pump l s) is stands.stage) (stands.stopped ∙ ap has_stopped is) (stands.broken ∙ ap has_broken is) move e)
+  sends_next (stage_is.Closed cause) is move e =
+      inl (caused cause (subst (λ (s : Stage). IsStage catalog pump l s) is stands.stage) (stands.stopped ∙ ap has_stopped is) (stands.broken ∙ ap has_broken is) move e)
+
 -- ---- no ask of the text was ended
 
 lower : (a b : ℕ) (ends : List EndedAsk) → a < b → list_all (λ (end : EndedAsk). nat_le end.asked.text a) ends ≡ true → list_all (λ (end : EndedAsk). nat_lt end.asked.text b) ends ≡ true
@@ -290,13 +361,13 @@ module _ (catalog : Catalog) (at : List ℕ) (texts : List (List ℕ)) (journal 
       none_some : (one : NumberedAsk) → None ≡ Some one → ⊥
       none_some one e = cc
 
-  pub far_unsent : GoesOn catalog at asks [] (journal ++ made ∷ []) → IsNear catalog texts journal (count + 2) → Tells catalog page event before after
-      → FarIsUnsent catalog texts (journal ++ made ∷ []) count
-  far_unsent goes near tells = λ asked awaited far. go asked awaited far ((subst (λ (h : Heard). Grown catalog asks before.awaits (length before.due) h.awaits h.due) (sym heard_more) (grown catalog asks before (piece_of made.answer))).asked asked awaited)
+  pub far_unsent : (pump : Pump) → IsAfter catalog asks (journal ++ made ∷ []) pump → GoesOn catalog at asks [] (journal ++ made ∷ []) → IsNear catalog texts journal (count + 2) → Tells catalog page event before after
+      → FarIsUnsent catalog at texts (journal ++ made ∷ []) count
+  far_unsent pump stands goes near tells = λ asked awaited far. go asked awaited far ((subst (λ (h : Heard). Grown catalog asks before.awaits (length before.due) h.awaits h.due) (sym heard_more) (grown catalog asks before (piece_of made.answer))).asked asked awaited)
     where
       go : (asked : NumberedAsk) → asked_in after.awaits ≡ Some asked → count + 3 ≤ asked.text
           → (asked_in before.awaits ≡ Some asked) ⊎ IsDue catalog asks before.awaits (length before.due) after.due asked (serial_at after.awaits)
-          → IsUnsent catalog texts (journal ++ made ∷ []) asked
+          → IsUnsent catalog at texts (journal ++ made ∷ []) asked
       go asked awaited far (inl was) = let close = near asked was in absurd (omega (arith, close, far))
       go asked awaited far (inr is) =
           let sent_few = all_sent catalog at asks [] journal made goes (omega arith) in
@@ -306,15 +377,16 @@ module _ (catalog : Catalog) (at : List ℕ) (texts : List (List ℕ)) (journal 
             place = is.place;
             due = is.there;
             unsent = omega (arith, sent_few, behind);
+            next = λ move e. sends_next catalog at asks pump (standing_after catalog asks (journal ++ made ∷ [])) (ap (λ (l : Standing). l.opened) (left_more catalog asks journal made)) stands is.place _ is.there (omega (arith, sent_few, behind)) pump.stage refl move e;
           }
 
 -- before the first move no ask is at hand
-pub none_at_first : (catalog : Catalog) (texts : List (List ℕ)) (count : ℕ) → FarIsUnsent catalog texts [] count
-none_at_first catalog texts count = λ asked awaited far. absurd (none_some asked (ap (λ (h : Heard). asked_in h.awaits) (sym (heard_none catalog texts)) ∙ awaited))
+pub none_at_first : (catalog : Catalog) (at : List ℕ) (texts : List (List ℕ)) (count : ℕ) → FarIsUnsent catalog at texts [] count
+none_at_first catalog at texts count = λ asked awaited far. absurd (none_some asked (ap (λ (h : Heard). asked_in h.awaits) (sym (heard_none catalog texts)) ∙ awaited))
   where
     none_some : (one : NumberedAsk) → None ≡ Some one → ⊥
     none_some one e = cc
 
 -- after more texts fewer asks are far
-pub later_far : (catalog : Catalog) (texts : List (List ℕ)) (journal : Journal) (count later : ℕ) → count ≤ later → FarIsUnsent catalog texts journal count → FarIsUnsent catalog texts journal later
-later_far catalog texts journal count later onward unsent = λ asked awaited far. unsent asked awaited (omega (arith, onward, far))
+pub later_far : (catalog : Catalog) (at : List ℕ) (texts : List (List ℕ)) (journal : Journal) (count later : ℕ) → count ≤ later → FarIsUnsent catalog at texts journal count → FarIsUnsent catalog at texts journal later
+later_far catalog at texts journal count later onward unsent = λ asked awaited far. unsent asked awaited (omega (arith, onward, far))

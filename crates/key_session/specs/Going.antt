@@ -263,8 +263,8 @@ pub record IsLive (by : Plan) (pages_told : Bool) (texts : List (List ℕ)) (jou
   pub refusal_is : session.refusal ≡ first_code (heard_in session.cat.now texts journal).ended
   -- slices are allowed only behind rows of a reply, the end of which is awaited then
   pub owed : 0 < session.pace.owed → is_some (moves.asked_in (heard_in session.cat.now texts journal).awaits) ≡ true
-  -- an ask at hand of a text two or more behind the one that comes next is the first of its text, and was not sent
-  pub far : FarIsUnsent session.cat.now texts journal session.teller.count
+  -- an ask at hand of a text two or more behind the one that comes next is the first of its text, was not sent, and is sent next
+  pub far : FarIsUnsent session.cat.now session.at.now texts journal session.teller.count
 
 -- one more move was made, which led to an event: of the channel, the texts and the first refusal
 pub record MovedOn (goes : Journal → Type 0) (by : Plan) (pages_told : Bool) (catalog : Catalog) (at : List ℕ) (texts : List (List ℕ)) (journal : Journal) (since : SessionSide) (before : Device) (now : SessionSide) (pool : Pool) (event : Event) (pump : Pump) (frame : ℕ) (teller : Teller) (kept : Replies) (refusal : Option ℕ) : Type 0 where

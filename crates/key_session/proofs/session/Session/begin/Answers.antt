@@ -25,7 +25,7 @@ returns-clause-live c = λ told now pool suffices. record {
   };
   refusal_is = sym (ap (λ (heard : Heard). first_code heard.ended) (heard_none c.args.cat.now (texts_of c.args.script.now)));
   owed = λ some. (let none = c.new-2.ensures.unpaced.owed in absurd (omega (arith, none, some)));
-  far = none_at_first c.args.cat.now (texts_of c.args.script.now) c.new.result.count;
+  far = none_at_first c.args.cat.now c.args.options.now.at.now (texts_of c.args.script.now) c.new.result.count;
 }
 
 pub returns-clause-can : goal.returns-clause-can

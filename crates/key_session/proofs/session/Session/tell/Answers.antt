@@ -83,7 +83,7 @@ returns-clause-live g c = λ plan texts journal since next live.
           (sym c.take_up.ensures.printer) begun));
       refusal_is = live.refusal_is;
       owed = λ some. (let is = c.sliced.ensures.sliced.owed in live.owed (omega (arith, is, some)));
-      far = later_far c.args.self.now.cat.now texts journal c.args.self.now.teller.count c.go_on.new.self.count (let same = c.take_up.ensures.count in let onward = c.go_on.ensures.onward in omega (arith, same, onward)) live.far;
+      far = later_far c.args.self.now.cat.now c.args.self.now.at.now texts journal c.args.self.now.teller.count c.go_on.new.self.count (let same = c.take_up.ensures.count in let onward = c.go_on.ensures.onward in omega (arith, same, onward)) live.far;
     }
 
 pub returns-clause-turn : goal.returns-clause-turn
