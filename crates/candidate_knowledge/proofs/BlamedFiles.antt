@@ -42,13 +42,13 @@ use Rattle.candidate_rows.specs.Working.{IsRowOf}
 use Rattle.condition_lists.specs.Terms.{IsIndexAt, IsIdIndexAt}
 use Rattle.candidate_search.specs.Begun.{AreListsAt, AreRepliesAt, EndsBy}
 use Rattle.candidate_search.proofs.Places.{indexed, indexed_above, some_above, within_above}
-use Rattle.candidate_knowledge.specs.Known.{IsLevelOf, IsReadByIndexes, compares, seeks_ids, selects}
+use Rattle.candidate_knowledge.specs.Known.{IsLevelOf, IsListFile, IsReadByIndexes, compares, seeks_ids, selects}
 
--- a damaged slot of a file that is read for a query
-pub record IsDamagedFor (page : ℕ → List ℕ) (cat : Catalog) (asked : Query) (top number slot found : ℕ) : Type 0 where
+-- a damaged slot of a file that is read
+pub record IsDamagedFor (page : ℕ → List ℕ) (cat : Catalog) (read : File → Type 0) (number slot found : ℕ) : Type 0 where
   pub file : File
   pub place : ℕ
-  pub read_for : IsReadByIndexes cat asked top file
+  pub read_for : read file
   pub damaged : IsDamagedIn cat page file place number slot found
 
 -- an entry of one of two groups is one of so many
@@ -101,7 +101,7 @@ module _ (summed : FilesLieAsSummed) (page : ℕ → List ℕ) (cat : Catalog) (
 
   -- ---- the index of a column
   module _ (table column : ℕ) (index : ClimbingIndex) (level : ℕ) (at : IsIndexAt cat top table column index level) (compared : compares asked table column ≡ true) where
-    header_is : (number slot found : ℕ) → HasDamage page (run_of index.header) (header_stands (rows_of index)) 0 number slot found → IsDamagedFor page cat asked top number slot found
+    header_is : (number slot found : ℕ) → HasDamage page (run_of index.header) (header_stands (rows_of index)) 0 number slot found → IsDamagedFor page cat (IsListFile cat asked top) number slot found
     header_is number slot found bad =
         let is = at.index_is in
         record {
@@ -119,7 +119,7 @@ module _ (summed : FilesLieAsSummed) (page : ℕ → List ℕ) (cat : Catalog) (
         }
 
     entry_is : (entry : ℕ) → entry < rows_of index → entry < header_count page index → (number slot found : ℕ)
-        → HasDamage page (run_of index.directory.run) (entry_stands index.directory) entry number slot found → IsDamagedFor page cat asked top number slot found
+        → HasDamage page (run_of index.directory.run) (entry_stands index.directory) entry number slot found → IsDamagedFor page cat (IsListFile cat asked top) number slot found
     entry_is entry low room number slot found bad =
         let is = at.index_is in
         let rows : rows_of index ≡ count_of cat table = ap (λ (r : Run). r.count) is.run_is in
@@ -142,7 +142,7 @@ module _ (summed : FilesLieAsSummed) (page : ℕ → List ℕ) (cat : Catalog) (
           };
         }
 
-    pub search_is : (number slot found : ℕ) → FailsIn page index (Damaged number slot found) → IsDamagedFor page cat asked top number slot found
+    pub search_is : (number slot found : ℕ) → FailsIn page index (Damaged number slot found) → IsDamagedFor page cat (IsListFile cat asked top) number slot found
     search_is number slot found fails =
         elim fails [
           | inl bad ↦ header_is number slot found bad
@@ -150,7 +150,7 @@ module _ (summed : FilesLieAsSummed) (page : ℕ → List ℕ) (cat : Catalog) (
         ]
 
     pub column_level_is : (directory : Directory) (other : ℕ) → directory ≡ index.directory → other ≡ level
-        → (number slot found : ℕ) → OutOfRowsIn page (level_run directory other) (count_of cat top) number slot found → IsDamagedFor page cat asked top number slot found
+        → (number slot found : ℕ) → OutOfRowsIn page (level_run directory other) (count_of cat top) number slot found → IsDamagedFor page cat (IsListFile cat asked top) number slot found
     column_level_is directory other same here number slot found out =
         let low = slice_get_within (levels_of cat.schema table) level top at.level_is in
         let file = index_level cat table column level in
@@ -175,7 +175,7 @@ module _ (summed : FilesLieAsSummed) (page : ℕ → List ℕ) (cat : Catalog) (
 
     pub entries_is : (first second : Group) → EndsBy (rows_of index) first → EndsBy (rows_of index) second → EndsBy (header_count page index) first → EndsBy (header_count page index) second
         → (lists : EntryLists) → AreListsAt index.directory level first second (count_of cat top) lists
-        → (number slot found : ℕ) → of_entries.IsDamaged page (count_of cat top) lists number slot found → IsDamagedFor page cat asked top number slot found
+        → (number slot found : ℕ) → of_entries.IsDamaged page (count_of cat top) lists number slot found → IsDamagedFor page cat (IsListFile cat asked top) number slot found
     entries_is first second a b d e lists are number slot found damaged =
         elim damaged [
           | inl one ↦ (
@@ -190,7 +190,7 @@ module _ (summed : FilesLieAsSummed) (page : ℕ → List ℕ) (cat : Catalog) (
   -- ---- the index of identifiers
   module _ (table : ℕ) (index : IdIndex) (level : ℕ) (at : IsIdIndexAt cat top table index level) (sought : seeks_ids cat.schema asked table ≡ true) where
     id_entry_is : (entry : ℕ) → entry < count_of cat table → (number slot found : ℕ)
-        → HasDamage page (run_of index.directory.run) (entry_stands index.directory) entry number slot found → IsDamagedFor page cat asked top number slot found
+        → HasDamage page (run_of index.directory.run) (entry_stands index.directory) entry number slot found → IsDamagedFor page cat (IsListFile cat asked top) number slot found
     id_entry_is entry low number slot found bad =
         let is = at.index_is in
         record {
@@ -212,7 +212,7 @@ module _ (summed : FilesLieAsSummed) (page : ℕ → List ℕ) (cat : Catalog) (
         }
 
     pub id_level_is : (directory : Directory) (other : ℕ) → directory ≡ index.directory → other ≡ level - 1
-        → (number slot found : ℕ) → OutOfRowsIn page (level_run directory other) (count_of cat top) number slot found → IsDamagedFor page cat asked top number slot found
+        → (number slot found : ℕ) → OutOfRowsIn page (level_run directory other) (count_of cat top) number slot found → IsDamagedFor page cat (IsListFile cat asked top) number slot found
     id_level_is directory other same here number slot found out =
         let levels = levels_of cat.schema table in
         let low = within_above levels level top at.above at.level_is in
@@ -239,7 +239,7 @@ module _ (summed : FilesLieAsSummed) (page : ℕ → List ℕ) (cat : Catalog) (
 
     pub identifiers_is : (first second : Group) → EndsBy (count_of cat table) first → EndsBy (count_of cat table) second
         → (lists : EntryLists) → AreListsAt index.directory (level - 1) first second (count_of cat top) lists
-        → (number slot found : ℕ) → of_entries.IsDamaged page (count_of cat top) lists number slot found → IsDamagedFor page cat asked top number slot found
+        → (number slot found : ℕ) → of_entries.IsDamaged page (count_of cat top) lists number slot found → IsDamagedFor page cat (IsListFile cat asked top) number slot found
     identifiers_is first second a b lists are number slot found damaged =
         elim damaged [
           | inl one ↦ (
@@ -252,7 +252,7 @@ module _ (summed : FilesLieAsSummed) (page : ℕ → List ℕ) (cat : Catalog) (
         ]
 
     pub replies_is : (lists : ReplyLists) → AreRepliesAt index.directory (level - 1) (count_of cat table) (count_of cat top) lists
-        → (number slot found : ℕ) → of_replies.IsDamaged page (count_of cat top) lists number slot found → IsDamagedFor page cat asked top number slot found
+        → (number slot found : ℕ) → of_replies.IsDamaged page (count_of cat top) lists number slot found → IsDamagedFor page cat (IsListFile cat asked top) number slot found
     replies_is lists are number slot found damaged =
         elim damaged [
           | inl one ↦ id_entry_is (_ - 1)
@@ -265,7 +265,7 @@ module _ (summed : FilesLieAsSummed) (page : ℕ → List ℕ) (cat : Catalog) (
 pub cell_is : FilesAreOfColumns → (page : ℕ → List ℕ) (cat : Catalog) (asked : Query) (top table column : ℕ) (file : ColumnFile) → IsFile cat table column file → selects asked table column ≡ true
     → (identifier : ℕ) → IsRowOf cat table identifier
     → (number slot found : ℕ) → number ≡ columns.slot_page file identifier → slot ≡ columns.slot_place file identifier
-    → columns.FailsAt page file identifier (Damaged number slot found) → IsDamagedFor page cat asked top number slot found
+    → columns.FailsAt page file identifier (Damaged number slot found) → IsDamagedFor page cat (IsReadByIndexes cat asked top) number slot found
 cell_is same page cat asked top table column file is selected identifier row number slot found on_page in_place fails =
     let run = is.file_is.run_is in
     let place = identifier - 1 in
@@ -285,7 +285,7 @@ cell_is same page cat asked top table column file is selected identifier row num
 
 pub record_is : TablesAreOfSlots → (page : ℕ → List ℕ) (cat : Catalog) (asked : Query) (top : ℕ) (file : SubtreeFile) → IsSubtreeFile cat top file → wants_below cat.schema asked top ≡ true → (identifier : ℕ) → IsRowOf cat top identifier
     → (number slot found : ℕ) → number ≡ subtrees.slot_page file.table identifier → slot ≡ subtrees.slot_place file.table identifier
-    → subtrees.FailsAt page file.table identifier (Damaged number slot found) → IsDamagedFor page cat asked top number slot found
+    → subtrees.FailsAt page file.table identifier (Damaged number slot found) → IsDamagedFor page cat (IsReadByIndexes cat asked top) number slot found
 record_is same page cat asked top file is wanted identifier row number slot found on_page in_place fails =
     let run = is.table_is.run_is in
     let place = identifier - 1 in

@@ -6,6 +6,7 @@ pub mod NoDamage
 pub mod Staying
 pub mod BlamedFiles
 pub mod BadSlots
+pub mod ReadFiles
 pub mod ListPages
 pub mod Candidates
 pub mod Holding

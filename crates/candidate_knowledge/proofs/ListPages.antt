@@ -11,8 +11,8 @@ use Rattle.ghost_model.specs.forms.Layout.{above_of, below, id_directory, id_lev
 use Rattle.ghost_model.specs.forms.Slots.{IndexHeader, IndexDirectory, IndexLevel, IdDirectory, IdLevel}
 use Rattle.visible_spool.specs.Areas.{half_begin, half_end}
 use Rattle.entry_lists.specs.Entries.{is_in}
-use Rattle.candidate_knowledge.specs.Known.{IsLevelOf, compares, is_comparison_of, seeks_ids}
-use Rattle.candidate_knowledge.specs.Found.{IsPageRead, InFile, InReplies, InScratch, ListPagesAreRead, is_column_page, is_id_level_page, is_ids_page, is_level_of, is_level_page}
+use Rattle.candidate_knowledge.specs.Known.{IsLevelOf, IsListFile, compares, is_comparison_of, seeks_ids}
+use Rattle.candidate_knowledge.specs.Found.{IsPageIn, InFile, InReplies, InScratch, ListPagesAreRead, is_column_page, is_id_level_page, is_ids_page, is_level_of, is_level_page}
 
 -- an element that passes a test
 pub record IsSome {X : Type 0} (test : X → Bool) (xs : List X) : Type 0 where
@@ -81,7 +81,7 @@ some_above p [] e = absurd (cc (e))
 some_above p (_ ∷ _) e = refl
 
 module _ (cat : Catalog) (asked : Query) (top side number : ℕ) where
-  column_read : (at : ℕ) (condition : Condition) → slice_get asked.conditions at ≡ Some condition → is_column_page cat top number condition ≡ true → IsPageRead cat asked top side number
+  column_read : (at : ℕ) (condition : Condition) → slice_get asked.conditions at ≡ Some condition → is_column_page cat top number condition ≡ true → IsPageIn cat (IsListFile cat asked top) side number
   column_read at (Join one other) is page = absurd (cc page)
   column_read at (Compare field operator literal) is page =
       let table = field.table in
@@ -109,7 +109,7 @@ module _ (cat : Catalog) (asked : Query) (top side number : ℕ) where
             }))
       ]
 
-  ids_read : (table : ℕ) → is_ids_page cat asked top number table ≡ true → IsPageRead cat asked top side number
+  ids_read : (table : ℕ) → is_ids_page cat asked top number table ≡ true → IsPageIn cat (IsListFile cat asked top) side number
   ids_read table page =
       let parts = and_parts (seeks_ids cat.schema asked table && lies_below cat.schema top table) (is_in (id_directory cat table) number || is_id_level_page cat top number table) page in
       let sought = and_parts (seeks_ids cat.schema asked table) (lies_below cat.schema top table) parts.0 in

@@ -5,7 +5,6 @@ use Rattle.std.proofs.lemmas.Bool.{and_parts, lt-ltb, ltb-true}
 use Rattle.ghost_model.specs.core.Schema.{is_empty}
 use Rattle.ghost_model.specs.core.Values.{Database}
 use Rattle.ghost_model.specs.core.Channel.{Catalog}
-use Rattle.ghost_model.specs.core.Query.{Query}
 use Rattle.ghost_model.specs.core.Split.{Hidden, hidden_of}
 use Rattle.ghost_model.specs.laws.SchemaTrees.{IsTree}
 use Rattle.ghost_model.specs.laws.LayoutLaws.{AreFew, LieAsSummed, LieInOrder, LevelsAreAncestors, FilesLieAsSummed, FilesLieInOrder, LayoutIsSmall, RecordsStandWithin}
@@ -23,7 +22,7 @@ use Rattle.climbing_index.specs.Laws.{IsOf}
 use Rattle.climbing_index.proofs.WholeIndexes.{value_rows, id_rows}
 use Rattle.subtree_keys.specs.Laws.{rows_spelled}
 use Rattle.candidate_lists.specs.Held.{over}
-use Rattle.candidate_knowledge.specs.Known.{KeepsStatic, KnowsIndexes, IsBadSlotOf}
+use Rattle.candidate_knowledge.specs.Known.{KeepsStatic, KnowsIndexes, IsBadSlotIn}
 use Rattle.candidate_knowledge.specs.Laws.{KnowledgeStays}
 use Rattle.candidate_knowledge.proofs.FilePages.{above_some, slot_kept, slots_room}
 
@@ -215,9 +214,9 @@ module _ (summed : FilesLieAsSummed) (orders : FilesLieInOrder) (small : LayoutI
   over_keeps page right low cat high number static =
       ap (λ t. if t then right number else page number) (lt-ltb number low (omega (arith, static, high)))
 
-  bad_kept : (page now : ℕ → List ℕ) (cat : Catalog) (asked : Query) (top : ℕ) (database : Database) → IsTree cat.schema → KeepsStatic cat page now
-      → (number slot found : ℕ) → IsBadSlotOf page cat asked top database number slot found → IsBadSlotOf now cat asked top database number slot found
-  bad_kept page now cat asked top database tree keeps number slot found bad =
+  bad_kept : (page now : ℕ → List ℕ) (cat : Catalog) (database : Database) (read : File → Type 0) → IsTree cat.schema → KeepsStatic cat page now
+      → (number slot found : ℕ) → IsBadSlotIn page cat database read number slot found → IsBadSlotIn now cat database read number slot found
+  bad_kept page now cat database read tree keeps number slot found bad =
       let rounded : files_end cat ≤ static_end cat = (orders cat).static in
       record {
         file = bad.file;
@@ -236,5 +235,5 @@ module _ (summed : FilesLieAsSummed) (orders : FilesLieInOrder) (small : LayoutI
     right = right_pages;
     over_pages = λ page right low cat database high knows. right_pages page right (over right page low) cat database (over_keeps page right low cat high) knows;
     bad = bad_kept;
-    was_bad = λ page now cat asked top database tree keeps. bad_kept now page cat asked top database tree (λ number low. sym (keeps number low));
+    was_bad = λ page now cat database read tree keeps. bad_kept now page cat database read tree (λ number low. sym (keeps number low));
   }

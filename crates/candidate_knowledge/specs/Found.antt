@@ -12,25 +12,33 @@ use Rattle.edge_traits.specs.Devices.{Device}
 use Rattle.visible_spool.specs.Areas.{half_begin, half_end}
 use Rattle.entry_lists.specs.Entries.{is_in}
 use Rattle.candidate_search.specs.Given.{WasFound}
-use Rattle.candidate_knowledge.specs.Known.{IsReadByIndexes, seeks_ids}
+use Rattle.candidate_knowledge.specs.Known.{IsListFile, IsReadByForms, seeks_ids}
 
--- a page of a file that is read for a query by the indexes
-pub record IsFilePage (cat : Catalog) (asked : Query) (top number : ℕ) : Type 0 where
+-- a page of a file that is read
+pub record IsFilePage (cat : Catalog) (read : File → Type 0) (number : ℕ) : Type 0 where
   pub file : File
   pub has : has_file cat.schema file ≡ true
-  pub read_for : IsReadByIndexes cat asked top file
+  pub read_for : read file
   pub within : is_in (run_of_file cat file) number ≡ true
 
 -- such a page, one of the half of the spool in which the replies lie, or one of scratch
-pub data IsPageRead (cat : Catalog) (asked : Query) (top side number : ℕ) : Type 0 where
-  InFile : IsFilePage cat asked top number → IsPageRead cat asked top side number
-  InReplies : half_begin cat side ≤ number → number < half_end cat side → IsPageRead cat asked top side number
-  InScratch : spool_end cat ≤ number → number < need cat → IsPageRead cat asked top side number
+pub data IsPageIn (cat : Catalog) (read : File → Type 0) (side number : ℕ) : Type 0 where
+  InFile : IsFilePage cat read number → IsPageIn cat read side number
+  InReplies : half_begin cat side ≤ number → number < half_end cat side → IsPageIn cat read side number
+  InScratch : spool_end cat ≤ number → number < need cat → IsPageIn cat read side number
 
 -- a slot that is blamed
-pub record WasFoundByIndexes (since : ℕ) (device : Device) (cat : Catalog) (asked : Query) (top side number slot found : ℕ) : Type 0 where
+pub record WasFoundIn (since : ℕ) (device : Device) (cat : Catalog) (read : File → Type 0) (side number slot found : ℕ) : Type 0 where
   pub was : WasFound since device number slot found
-  pub page : IsPageRead cat asked top side number
+  pub page : IsPageIn cat read side number
+
+-- one that is blamed of the lists at a table
+abbrev pub WasFoundInLists : (since : ℕ) → Device → Catalog → Query → (top side number slot found : ℕ) → Type 0
+WasFoundInLists since device cat asked top side number slot found = WasFoundIn since device cat (IsListFile cat asked top) side number slot found
+
+-- one that is blamed for a query, where cross forms may be taken or not
+abbrev pub WasFoundByForms : (since : ℕ) → Device → Catalog → Query → (crosses : Bool) → (top side number slot found : ℕ) → Type 0
+WasFoundByForms since device cat asked crosses top side number slot found = WasFoundIn since device cat (IsReadByForms cat asked crosses top) side number slot found
 
 -- ---- the pages of lists, as a test
 
@@ -69,4 +77,4 @@ is_list_page cat asked top side number =
 
 -- such a page is read
 abbrev pub ListPagesAreRead : Type 0
-ListPagesAreRead = (cat : Catalog) (asked : Query) (top side number : ℕ) → is_list_page cat asked top side number ≡ true → IsPageRead cat asked top side number
+ListPagesAreRead = (cat : Catalog) (asked : Query) (top side number : ℕ) → is_list_page cat asked top side number ≡ true → IsPageIn cat (IsListFile cat asked top) side number

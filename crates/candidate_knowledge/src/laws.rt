@@ -1,7 +1,7 @@
 //! Laws of what is known of the pages.
 
 ghost use Rattle.candidate_knowledge.specs.Found.{ListPagesAreRead};
-ghost use Rattle.candidate_knowledge.specs.Laws.{HeldFilesAreKnown, HeldFilesHaveNoDamage, KnowledgeStays, DamageIsBad, RepliesHaveNoDamage, RowsWithoutLinesAreLeftOut, CandidatesAreSifted};
+ghost use Rattle.candidate_knowledge.specs.Laws.{HeldFilesAreKnown, HeldFilesHaveNoDamage, KnowledgeStays, DamageIsBad, ListsAreRead, RepliesHaveNoDamage, RowsWithoutLinesAreLeftOut, CandidatesAreSifted};
 
 /// Pages that hold all files of a database are right pages, and known by themselves.
 pub fn held_files_are_known()
@@ -61,6 +61,12 @@ pub fn damage_is_bad()
 /// Each page that lists in hand may have is read for the query.
 pub fn list_pages_are_read()
     ensures read { ListPagesAreRead }
+{}
+
+/// What is bad of the lists at the top table is bad for the query, and where cross forms may be taken, so is what is bad of the lists at
+/// a table below it with conditions on visible columns. The same of what was found there.
+pub fn lists_are_read()
+    ensures { ListsAreRead }
 {}
 
 /// Where the pages have the rows of a reply, none of its records is without an identifier of the table's rows.
