@@ -33,7 +33,7 @@ usage: key_program query
     --flash FILE       the key's device, as load made it
     --to ADDRESS:PORT  the host's address, as 127.0.0.1:4711, with the port that host_program printed
     --script FILE      the queries, with ; between them
-    [--plan PLAN]      how they are answered: scan, row by row, or by the indexes, pre or post; else pre
+    [--plan PLAN]      how they are answered: auto, scan, pre, post, cross-pre or cross-post; else auto
     [--pace NUMBERS]   slices of work behind each frame of rows, 0 to 1000, or up to 16 such with commas; else 1
     [--buffers NUMBER] the key's page buffers, 8 to 64; else 32";
 
@@ -45,7 +45,7 @@ usage: key_program local
     --flash FILE       a device, made in place of a file of that name
     --script FILE      the queries, with ; between them
     [--journal FILE]   what went between key and host, in place of a file of that name
-    [--plan PLAN]      how they are answered: scan, row by row, or by the indexes, pre or post; else pre
+    [--plan PLAN]      how they are answered: auto, scan, pre, post, cross-pre or cross-post; else auto
     [--pace NUMBERS]   slices of work behind each frame of rows, 0 to 1000, or up to 16 such with commas; else 1
     [--buffers NUMBER] the key's page buffers, 8 to 64; else 32";
 
@@ -96,7 +96,7 @@ fn usage_lines(alloc: Global, args: &[String], fault: &UsageFault) -> Result<Str
 /// What to do about a value that an option does not take.
 fn remedy(fault: &UsageFault) -> Option<&'static str> {
     match fault {
-        UsageFault::Plan => Some("give one of these, or leave it out for pre"),
+        UsageFault::Plan => Some("give one of these, or leave it out for auto"),
         UsageFault::Pace => Some("give such numbers, or leave it out for 1"),
         UsageFault::Buffers => Some("give such a number, or leave it out for 32"),
         UsageFault::Blocks => Some("give such a number, or leave it out for as many as are needed"),

@@ -1,5 +1,6 @@
 pub mod Blocks
 pub mod KeyApp
 pub mod Refusals
+pub mod Plans
 pub mod Words
 pub mod Views

@@ -1,18 +1,17 @@
 -- What the words of the program say: the reading of `clap`, and then the rule of each value. `--plan` takes the name of a
--- plan, and stands for `pre` where it is left out; `--pace` takes 1 to 16 numbers from 0 to 1000 with commas between them,
+-- plan, and stands for `auto` where it is left out; `--pace` takes 1 to 16 numbers from 0 to 1000 with commas between them,
 -- and is 1 where it is left out. `--buffers` takes a number from 8 to 64, which is 32 where it is left out, and `--blocks` one
 -- from 1 to 60,000,000, which may be left out. A number is one to nine decimal digits.
 use Rattle.std.specs.Prelude.{ℕ, Bool, ◌&&◌, ◌==◌, nat_le, List, [], ◌∷◌, length, Option, Some, None, codes, bytes_eq, option_map, option_and_then, if◌then◌else◌}
 use Rattle.std.specs.List.{list_all, slice_split}
-use Rattle.leakless_plan.specs.declared.form.Form.TheVariants as form
 use Rattle.leakless_plan.specs.declared.plan.Plan.{Plan}
 use Rattle.leakless_plan.specs.declared.plan.Plan.TheVariants as plan
-use Rattle.leakless_plan.specs.Names.{plan_named}
 use Rattle.ghost_model.specs.refusals.Tokens.{is_digit, is_between, number_of}
 use Rattle.clap.specs.Walk.{Row, Text, is_empty, first_of}
 use Rattle.clap.specs.Simple.{subcommand_of}
 use Rattle.clap.specs.Faults.{fault_of}
 use Rattle.key_words.specs.KeyApp.{key_app}
+use Rattle.key_words.specs.Plans.{plan_named}
 use Rattle.key_words.specs.Blocks.{most_blocks, least_buffers, most_buffers, most_numbers, least_slices, most_slices}
 
 pub record Plain : Type 0 where
@@ -60,7 +59,7 @@ needs rows name next = option_and_then next (first_of name rows)
 
 -- the plan that its option says
 abbrev pub plan_said : Option Text → Option Plan
-plan_said None = Some (plan.Linked (Some form.Pre))
+plan_said None = Some (plan.Linked None)
 plan_said (Some name) = plan_named name
 
 abbrev pub plain_of : List Row → Option Command

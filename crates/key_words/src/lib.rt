@@ -5,6 +5,7 @@
 #![tactic(auto)]
 
 pub mod app;
+pub mod plans;
 pub mod reading;
 pub mod refusing;
 pub mod shown;

@@ -6,9 +6,10 @@ ghost use Rattle.ghost_model.specs.refusals.Tokens.{is_digit};
 ghost use Rattle.key_words.specs.Blocks.{IsFew, AreBuffers, least_slices, most_slices};
 ghost use Rattle.key_words.specs.Words as words;
 
+use crate::plans::plan_named;
 use crate::words::MAX_NUMBERS;
 use arrayvec::ArrayVec;
-use leakless_plan::{Form, Plan, plan_named};
+use leakless_plan::Plan;
 
 /// The most digits of a number.
 const MAX_DIGITS: usize = 9;
@@ -34,12 +35,12 @@ const MAX_BUFFERS: u32 = 64;
 /// The page buffers of a key where nothing is said of them.
 const DEFAULT_BUFFERS: u32 = 32;
 
-/// The plan that its option says: `pre` where it is left out, and `None` where its value names no plan.
+/// The plan that its option says: `auto` where it is left out, and `None` where its value names no plan.
 pub fn read_plan(given: Option<&str>) -> Option<Plan>
     ensures value { result ≡ words.plan_said (option_map (λ text. text.now) given.entry) }
 {
     match given {
-        None => Some(Plan::Linked(Some(Form::Pre))),
+        None => Some(Plan::Linked(None)),
         Some(name) => plan_named(name),
     }
 }

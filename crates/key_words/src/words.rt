@@ -148,7 +148,7 @@ pub enum UsageFault {
     NotUtf8,
 
     /// `--plan` has a value that it does not take.
-    #[error("--plan takes scan, pre or post")]
+    #[error("--plan takes auto, scan, pre, post, cross-pre or cross-post")]
     Plan,
 
     /// `--pace` has a value that it does not take.

@@ -9,4 +9,4 @@ pub mod laws;
 pub mod plan;
 
 pub use form::{Form, choose};
-pub use plan::{Plan, plan_named};
+pub use plan::Plan;
