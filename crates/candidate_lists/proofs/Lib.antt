@@ -12,3 +12,5 @@ pub mod Ranges
 pub mod Pigeonholes
 pub mod Joins
 pub mod Costs
+pub mod Turning
+pub mod Regions

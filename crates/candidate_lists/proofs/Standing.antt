@@ -1,5 +1,5 @@
 -- Candidates that stand as one list: that it may be opened, and what it has.
-use Rattle.std.proofs.Common.{◌≡◌, ◌≢◌, ◌∙◌, ℕ, zero, suc, ◌+◌, ◌/◌, ◌^◌, ◌<◌, ◌≤◌, ◌⊎◌, inl, inr, false, nat_lt, if◌then◌else◌, List, [], ◌∷◌, length, map, get_or, ap, sym, refl, subst, arith}
+use Rattle.std.proofs.Common.{◌≡◌, ◌∙◌, ℕ, zero, suc, ◌+◌, ◌/◌, ◌^◌, ◌<◌, ◌≤◌, ◌⊎◌, inl, inr, false, nat_lt, if◌then◌else◌, List, [], ◌∷◌, length, map, get_or, ap, sym, refl, subst, arith}
 use Rattle.std.proofs.lemmas.Bool.Decides.{nat_tests}
 use Rattle.std.proofs.lemmas.List.{length-map}
 use Rattle.std.proofs.lemmas.Nat.{from_be_bytes-to_be_bytes_4}
@@ -22,7 +22,7 @@ use Rattle.spill_pass.specs.Reducing.{whole_list}
 use Rattle.candidate_lists.specs.declared.candidates.Candidates.{Candidates}
 use Rattle.candidate_lists.specs.declared.closing.Closed.{Closed}
 use Rattle.candidate_lists.specs.declared.scratch.Scratch.{Scratch}
-use Rattle.candidate_lists.specs.Scratch.{IsForCandidates, HasTwo}
+use Rattle.candidate_lists.specs.Scratch.{HasScratch, turned}
 use Rattle.candidate_lists.specs.Held.{HasOf, IsRow, over}
 use Rattle.candidate_lists.specs.Reduced.{ReducedHas, ReducedIsOrdered}
 use Rattle.candidate_lists.specs.Closes.{IsListIn, IsClosed, ListsAll}
@@ -40,16 +40,19 @@ pub apart_page : {first end other other_end : ℕ} (page : ℕ) → AreApart fir
 apart_page page (inl before) from to = inl (omega arith)
 apart_page page (inr behind) from to = inr (omega arith)
 
+pub page_apart : {first end other other_end : ℕ} (page : ℕ) → AreApart first end other other_end → other ≤ page → page < other_end → (page < first) ⊎ (end ≤ page)
+page_apart page (inl before) from to = inr (omega arith)
+page_apart page (inr behind) from to = inl (omega arith)
+
 pub closed_is :
-    (device : Device) (scratch : Scratch) (rows area next : ℕ) (run : Run) → HasTwo device scratch rows → IsForCandidates scratch area
-    → IsForCandidates scratch next → next ≢ area → IsListIn area rows run
-    → IsClosed device (record { run = run; rows = rows; scratch = scratch; area = next })
-closed_is device scratch rows area next run two for_area for_next another is =
-    let here = two.each area for_area in
-    let P : ℕ → Type 0 = λ width. 0 < width in
-    let Q : ℕ → Type 0 = λ width. width ≤ 2048 in
-    let R : ℕ → Type 0 = λ width. 4 ≤ width in
-    record {
+    (device : Device) (scratch next : Scratch) (rows size : ℕ) (run : Run) → HasScratch device scratch rows size → next ≡ turned scratch
+    → IsListIn scratch.other_lists rows run → IsClosed device (record { run = run; rows = rows; scratch = next })
+closed_is device scratch next rows size run has same is =
+    let area = scratch.other_lists in
+    let here = has.lists.lists area (inr (inr refl)) in
+    let C : Scratch → Type 0 = λ s. IsClosed device (record { run = run; rows = rows; scratch = s }) in
+    subst C (sym same) (record {
+      stands = is.first;
       readable = record {
         run = record {
           some = omega (arith, is.width);
@@ -60,11 +63,11 @@ closed_is device scratch rows area next run two for_area for_next another is =
         width = omega (arith, is.width);
         within = omega arith;
       };
-      area = two.each next for_next;
+      area = has.candidates;
       outside = λ i within.
           let page = page_within run area rows i is within in
-          apart_page (page_of (run_of run) i) (two.apart area next for_area for_next (λ same. another (sym same))) page.0 page.1;
-    }
+          page_apart (page_of (run_of run) i) (has.from_lists area (inr (inr refl))) page.0 page.1;
+    })
 
 first_number : (n : ℕ) → n < 2 ^ 32 → number_in (number_cell n) 0 ≡ n
 unfolding number_in

@@ -7,6 +7,7 @@ pub mod Spared
 pub mod Reduces
 pub mod Damaging
 pub mod Outside
+pub mod Regions
 pub mod Joins
 pub mod Few
 pub mod Staying

@@ -1,20 +1,21 @@
 //! The areas that a text's candidates and lists are written into.
 
-ghost use Rattle.std.specs.Prelude.{◌≡◌, ◌≢◌};
-ghost use Rattle.candidate_lists.specs.Scratch.{IsForCandidates, areas_of};
+ghost use Rattle.std.specs.Prelude.{◌≡◌};
+ghost use Rattle.candidate_lists.specs.Outside.{TurnedIsOutside};
+ghost use Rattle.candidate_lists.specs.Scratch.{HasTurned, TurnsAgain, areas_of, exchanged, turned};
 
 use spill_pass::Areas;
 
 /// The first pages of the scratch areas, each the first of a block.
 #[derive(Clone, Copy)]
 pub struct Scratch {
-    /// The first area for candidates. They are written into the two by turns.
+    /// The area for candidates: where they stand as a list after they were written.
     pub candidates: u32,
-    /// The second area for candidates.
-    pub other_candidates: u32,
+    /// An area that is not written: other candidates may stand there as a list.
+    pub spare: u32,
     /// The first area for lists, in which the union of many lists stands at last.
     pub lists: u32,
-    /// The second area for lists.
+    /// The second area for lists. Candidates are written into it next: nothing in hand lies there then.
     pub other_lists: u32,
     /// The first area for places of lists.
     pub places: u32,
@@ -36,16 +37,39 @@ impl Scratch {
         }
     }
 
-    /// The other one of the two areas for candidates.
-    pub(crate) fn another(&self, area: u32) -> u32
-        requires two { self.now.candidates ≢ self.now.other_candidates }
-        ensures for_candidates { IsForCandidates self.now result }
-        ensures another { result ≢ area }
+    /// The areas after candidates were written: where they stand now is the area for candidates, and the one for candidates before is
+    /// the second area for lists.
+    pub fn turned(self) -> Scratch
+        ensures turned { result ≡ turned self }
     {
-        if area == self.candidates {
-            self.other_candidates
-        } else {
-            self.candidates
+        Scratch {
+            candidates: self.other_lists,
+            spare: self.spare,
+            lists: self.lists,
+            other_lists: self.candidates,
+            places: self.places,
+            other_places: self.other_places,
+        }
+    }
+
+    /// The areas for other candidates: these may stand in the area that was not written, and the area for candidates is not written.
+    pub fn exchanged(self) -> Scratch
+        ensures exchanged { result ≡ exchanged self }
+    {
+        Scratch {
+            candidates: self.spare,
+            spare: self.candidates,
+            lists: self.lists,
+            other_lists: self.other_lists,
+            places: self.places,
+            other_places: self.other_places,
         }
     }
 }
+
+/// A law: the areas are there, and lie outside of a region, after candidates were written too, however often.
+pub fn turned_areas()
+    ensures has { HasTurned }
+    ensures outside { TurnedIsOutside }
+    ensures again { TurnsAgain }
+{}

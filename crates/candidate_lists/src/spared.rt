@@ -2,6 +2,7 @@
 
 ghost use Rattle.candidate_lists.specs.Spared.{ClosedStays, ClosingSpares, ClosingSparesRead, ListsStay, ReduceKeeps, ScratchStays};
 ghost use Rattle.candidate_lists.specs.Staying.{BesideStays, ClosedIsKept, ClosingCallsStay, ClosingCostsStay, ClosingHasStays, ClosingIsSmall, ClosingLeftStays, ClosingStays, DamageStays, HeldStays, JoinedStays, JoiningStays, OpenedStays, OpeningStays, ReducedStays, ScratchIsOutside, SparesRest};
+ghost use Rattle.candidate_lists.specs.Regions.{BesideKeeps, JoiningKeeps, OpeningKeeps, RegionIsKept, RegionKeepsClosed, RegionStaysKept, WritingKeeps};
 
 use id_merge::spared::cursors_are_spared;
 use spill_pass::spared::merging_is_spared;
@@ -43,3 +44,15 @@ pub fn candidates_are_spared()
     cursors_are_spared();
     merging_is_spared();
 }
+
+/// A law: a region of pages stays as it was where candidates are written, lists opened and lists merged beside candidates, and none of
+/// the areas shares a page with it. Candidates that stand there as a list stay.
+pub fn regions_are_kept()
+    ensures same { RegionIsKept }
+    ensures stays { RegionStaysKept }
+    ensures writing { WritingKeeps }
+    ensures opening { OpeningKeeps }
+    ensures beside { BesideKeeps }
+    ensures joining { JoiningKeeps }
+    ensures closed { RegionKeepsClosed }
+{}

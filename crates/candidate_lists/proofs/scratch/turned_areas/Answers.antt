@@ -1,0 +1,11 @@
+use Rattle.candidate_lists.proofs.Turning.{has_turned, turned_is_outside, turns_again}
+use Rattle.candidate_lists.proofs.scratch.turned_areas.Goals as goal
+
+pub returns-clause-has : goal.returns-clause-has
+returns-clause-has c = has_turned
+
+pub returns-clause-outside : goal.returns-clause-outside
+returns-clause-outside c = turned_is_outside
+
+pub returns-clause-again : goal.returns-clause-again
+returns-clause-again c = turns_again
