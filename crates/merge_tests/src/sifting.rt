@@ -84,12 +84,12 @@ fn sifted(
         return Ok(None);
     };
     let scratch = Scratch {
-        candidates: first,
-        other_candidates: first + 64,
-        lists: first,
+        candidates: first + 64,
+        spare: first + 64,
+        lists: first + 64,
         other_lists: first,
-        places: first,
-        other_places: first,
+        places: first + 64,
+        other_places: first + 64,
     };
     let mut rows = ArrayVec::new();
     rows.push(most);

@@ -24,6 +24,8 @@ steps-init c =
     let L : List ℕ → Type 0 = λ ls. AreOut pool ((writer ∷ ls) ++ lease ∷ a.filter) in
     let one : length c.push.new.self.items ≡ 1 = search rules in
     let begun = c.begin-sifting.ensures in
+    let area = candidates.scratch.other_lists in
+    let at : area ≡ a.first = ap (λ (s : Scratch). s.other_lists) all.scratch in
     record {
       is = begun.sifting true device pool (all.held true device pool r.area)
           (record {
@@ -33,9 +35,9 @@ steps-init c =
             place_is = omega (arith, one);
             some = r.some;
             outside = λ i within.
-                beside_run a.below candidates.area (candidates.area + area_pages candidates.rows) i r.width (omega (arith, r.before, all.area)) within;
+                beside_run a.below area (area + area_pages candidates.rows) i r.width (omega (arith, r.before, at)) within;
             no_page = no_page_leased c.lease.new.self lease second.leased;
           });
-      one = ap (λ (s : Scratch). s.candidates) (begun.begun.scratch ∙ all.scratch);
-      other = ap (λ (s : Scratch). s.other_candidates) (begun.begun.scratch ∙ all.scratch);
+      area = begun.begun.area ∙ at;
+      next = ap (λ (s : Scratch). s.other_lists) begun.begun.scratch ∙ at;
     }
