@@ -22,7 +22,7 @@ use Rattle.climbing_index.specs.Laws.{IsOf}
 use Rattle.climbing_index.proofs.WholeIndexes.{value_rows, id_rows}
 use Rattle.subtree_keys.specs.Laws.{rows_spelled}
 use Rattle.candidate_lists.specs.Held.{over}
-use Rattle.candidate_knowledge.specs.Known.{KeepsStatic, KnowsIndexes, IsBadSlotIn}
+use Rattle.candidate_knowledge.specs.Known.{KeepsStatic, KnowsIndexes, IsBadSlotIn, IsListFile, IsReadByForms}
 use Rattle.candidate_knowledge.specs.Laws.{KnowledgeStays}
 use Rattle.candidate_knowledge.proofs.FilePages.{above_some, slot_kept, slots_room}
 
@@ -234,6 +234,7 @@ module _ (summed : FilesLieAsSummed) (orders : FilesLieInOrder) (small : LayoutI
     header = header_same;
     right = right_pages;
     over_pages = λ page right low cat database high knows. right_pages page right (over right page low) cat database (over_keeps page right low cat high) knows;
-    bad = bad_kept;
-    was_bad = λ page now cat database read tree keeps. bad_kept now page cat database read tree (λ number low. sym (keeps number low));
+    bad = λ page now cat asked crosses top database. bad_kept page now cat database (IsReadByForms cat asked crosses top);
+    was_bad = λ page now cat asked crosses top database tree keeps. bad_kept now page cat database (IsReadByForms cat asked crosses top) tree (λ number low. sym (keeps number low));
+    bad_list = λ page now cat asked top database. bad_kept page now cat database (IsListFile cat asked top);
   }
