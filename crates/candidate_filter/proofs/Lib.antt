@@ -3,3 +3,4 @@ pub mod SiftLemmas
 pub mod SiftContents
 pub mod Sparing
 pub mod Opening
+pub mod Filled

@@ -1,5 +1,5 @@
 -- What stays of a filling and of a sifting where others write elsewhere.
-use Rattle.std.proofs.Common.{◌≡◌, ◌∙◌, ℕ, suc, ◌+◌, ◌-◌, ◌/◌, ◌%◌, ◌^◌, ◌<◌, ◌≤◌, Bool, true, List, [], ◌∷◌, ◌++◌, length, get_or, eq-eqb, refl, ap, sym, subst, arith}
+use Rattle.std.proofs.Common.{◌≡◌, ◌∙◌, ℕ, suc, ◌+◌, ◌-◌, ◌/◌, ◌%◌, ◌^◌, ◌<◌, ◌≤◌, inl, inr, Bool, true, List, [], ◌∷◌, ◌++◌, length, get_or, eq-eqb, refl, ap, sym, subst, arith}
 use Rattle.std.specs.Prelude.{Option, Some, None, IfSome}
 use Rattle.std.proofs.lemmas.Bool.{or_left, or_right}
 use Rattle.std.proofs.lemmas.Nat.{mod_below}
@@ -34,7 +34,7 @@ use Rattle.candidate_filter.specs.Fills.{filling_leases, ids_in}
 use Rattle.subtree_keys.specs.Tables.{row_spelled, slot_row}
 use Rattle.candidate_filter.specs.Sifts.{IsSifted, IsUnderWay, SiftsSoFar, SiftingHasBy, Tests, HasKeys, IsSiftingBy, may_have, passes_row, sift_leases}
 use Rattle.candidate_filter.specs.Outside.{SiftingOutside}
-use Rattle.candidate_filter.specs.Laws.{RepliedRowsPass, ListedRowsPass, LedCandidatesPass, FillingStays, FillingStaysGiven, FillsStay, SiftingStays, SiftingStaysGiven, SiftingHasStays, SiftingLeftStays, SiftingIsSmall}
+use Rattle.candidate_filter.specs.Laws.{RepliedRowsPass, ListedRowsPass, LedCandidatesPass, FillingStays, FillingStaysGiven, FillsStay, SiftingStays, SiftingStaysGiven, SiftingHasStays, SiftingLeftStays, SiftingKeeps, SiftingIsSmall}
 use Rattle.candidate_filter.proofs.SiftLemmas.{all_three, beside_page, may_stays}
 
 pub rows_pass : RepliedRowsPass
@@ -210,6 +210,17 @@ small_by told device pool s (Some run) small few cursors is = omega arith
 
 pub sifting_small : MergingIsSmall → SiftingIsSmall
 sifting_small small told device pool s few cursors is = small_by told device pool s s.run small few cursors is
+
+-- two areas that share no page, the other way round
+apart_turned : {first end other other_end : ℕ} → AreApart first end other other_end → AreApart other other_end first end
+apart_turned (inl before) = inr before
+apart_turned (inr behind) = inl behind
+
+pub sifting_keeps : SiftingKeeps
+sifting_keeps low high told before now pool later old new goes apart = record {
+  page_count = goes.changes.page_count;
+  pages = λ number from to. area_spared low high goes.changes (apart_turned apart) number from to;
+}
 
 -- what the list has so far
 tests_spared :
