@@ -82,7 +82,7 @@ compared_there schema table (Compare wanted operator literal ∷ conditions) e =
 -- ---- levels
 
 module _ (schema : Schema) (tree : IsTree schema) (levels : LevelsAreAncestors) (top : ℕ) where
-  leveled : (table : ℕ) → table < length schema → IsAtOrBelow schema top table → has_level schema top table ≡ true
+  pub leveled : (table : ℕ) → table < length schema → IsAtOrBelow schema top table → has_level schema top table ≡ true
   leveled table there below =
       ap (λ b. is_some (if b then position (λ other. nat_eq other top) (levels_of schema table) else None)) (lt-ltb table (length schema) there)
       ∙ passes (λ other. nat_eq other top) (levels_of schema table) below.0 top (levels schema tree table below.0 there ∙ below.1) (itself top)
@@ -183,7 +183,7 @@ module _ (schema : Schema) (tree : IsTree schema) (levels : LevelsAreAncestors) 
     follows =
         accepted schema tree text read.meant ((one.meaning schema text read.meant).0 read.reads) top (ap (top_of schema) (sym read.once) ∙ top_is)
 
-    below_top : (table : ℕ) → is_among asked.from table ≡ true → IsAtOrBelow schema top table
+    pub below_top : (table : ℕ) → is_among asked.from table ≡ true → IsAtOrBelow schema top table
     below_top table among = follows.below table (ap (λ (q : Query). is_among q.from table) (sym read.once) ∙ among)
 
     all_sound : list_all (is_sound asked.from) asked.conditions ≡ true

@@ -6,6 +6,10 @@ pub mod RowLemmas
 pub mod MeetLemmas
 pub mod FilterLemmas
 pub mod UnionLemmas
+pub mod PathLemmas
+pub mod LevelLemmas
+pub mod SetLemmas
+pub mod PlaceLemmas
 pub mod MemberLemmas
 pub mod ListLemmas
 pub mod CountLemmas

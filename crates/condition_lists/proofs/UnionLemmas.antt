@@ -1,6 +1,6 @@
 -- Which replies are united: a form at each table's place, and the form of united lists at all.
 use Rattle.std.proofs.Common.{◌≡◌, ◌∙◌, refl, ap, ap₂, sym, ℕ, inl, inr, Bool, true, false, ◌&&◌, nat_eq, List, [], ◌∷◌, length, filter, get_or, Contains, Option, Some, None, if◌then◌else◌, arith}
-use Rattle.std.specs.Prelude.{◌||◌, not}
+use Rattle.std.specs.Prelude.{◌⊎◌, ◌||◌, not}
 use Rattle.std.specs.List.{list_all, list_any}
 use Rattle.std.specs.Option.{option_map_or}
 use Rattle.std.proofs.lemmas.Bool.Decides.{nat_tests}
@@ -12,9 +12,9 @@ use Rattle.ghost_model.proofs.MeaningLemmas.OneRow.{Among, among_is}
 use Rattle.ghost_model.specs.forms.Layout.{count_of}
 use Rattle.leakless_plan.specs.declared.form.Form.{Form}
 use Rattle.leakless_plan.specs.declared.form.Form.TheVariants.{Pre}
-use Rattle.leakless_plan.specs.Choices.{compares_visible, form_of, form_with, forms_of, is_crossed, is_linked, unites}
+use Rattle.leakless_plan.specs.Choices.{compares_visible, form_of, form_with, forms_of, is_crossed, is_linked}
 use Rattle.candidate_rows.specs.Plans.{is_compared_of}
-use Rattle.condition_lists.specs.Terms.{is_compared, is_united}
+use Rattle.condition_lists.specs.Terms.{is_compared, is_united, unites_whole}
 use Rattle.condition_lists.specs.Laws.{UnitesAll}
 use Rattle.condition_lists.proofs.FilterLemmas.{compared_there, filters_agree}
 use Rattle.condition_lists.proofs.MemberLemmas.{among_of, contains_of}
@@ -28,6 +28,23 @@ one_absent p (y ∷ ys) x among e =
       | inl same ↦ no_and (p y) (list_all p ys) (ap p same ∙ e)
       | inr later ↦ and_no (p y) (list_all p ys) (one_absent p ys x later e)
     ]
+
+-- what fails of those that are kept fails of all
+kept_on : (a f g : Bool) → (f ≡ false → g ≡ false) → (a && f) ≡ false → (a && g) ≡ false
+kept_on true f g rest e = rest e
+kept_on false f g rest e = refl
+
+pub one_fails : {X : Type 0} (p q : X → Bool) (xs : List X) → list_all p (filter q xs) ≡ false → list_all p xs ≡ false
+one_fails p q [] e = e
+one_fails p q (x ∷ xs) e = by (q x) (one_fails p q xs) e
+  where
+    by : (b : Bool) → (list_all p (filter q xs) ≡ false → list_all p xs ≡ false) → list_all p (if b then x ∷ filter q xs else filter q xs) ≡ false → (p x && list_all p xs) ≡ false
+    by true rest e = kept_on (p x) (list_all p (filter q xs)) (list_all p xs) rest e
+    by false rest e = and_no (p x) (list_all p xs) (rest e)
+
+pub either_fails : (a b : Bool) → (a && b) ≡ false → (a ≡ false) ⊎ (b ≡ false)
+either_fails true b e = inr e
+either_fails false b e = inl refl
 
 -- where all compared tables are united, these are the compared ones
 pub all_tables : (schema : Schema) (asked : Query) (forms : List (Option Form)) (top : ℕ) → UnitesAll schema asked forms top
@@ -77,9 +94,9 @@ forced_unites cat asked top top_is replied table held compared = by (nat_eq tabl
     chosen = always_pre (is_crossed cat.schema asked table) (get_or replied table 0) (count_of cat table)
 
     by : (b : Bool) → nat_eq table top ≡ b → is_united (forms_of cat asked replied (Some Pre)) top table ≡ true
-    by true e = ap (λ b. b || option_map_or unites (get_or (forms_of cat asked replied (Some Pre)) table None) false) e
+    by true e = ap (λ b. b || option_map_or unites_whole (get_or (forms_of cat asked replied (Some Pre)) table None) false) e
     by false e =
-        ap₂ (λ b o. b || option_map_or unites o false) e its
-        ∙ ap (λ b. option_map_or unites (if b then Some (form_with (is_crossed cat.schema asked table) (Some Pre) (get_or replied table 0) (count_of cat table)) else None) false)
+        ap₂ (λ b o. b || option_map_or unites_whole o false) e its
+        ∙ ap (λ b. option_map_or unites_whole (if b then Some (form_with (is_crossed cat.schema asked table) (Some Pre) (get_or replied table 0) (count_of cat table)) else None) false)
         (linked cat.schema asked top table top_is held compared e)
-        ∙ ap unites chosen
+        ∙ ap (λ o. option_map_or unites_whole o false) (ap Some chosen)

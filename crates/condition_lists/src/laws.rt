@@ -1,6 +1,6 @@
 //! Laws of terms.
 
-ghost use Rattle.condition_lists.specs.Laws.{BoundsAreOfValues, EachTermIsOfTheQuery, TermsAreThoseOfQueries, TermsSiftRows, AllAreUnited, RowsOutsideRepliesAreNoAnswers, ListsAreOfTerms, ListsComeInOrder, GroupsAscend};
+ghost use Rattle.condition_lists.specs.Laws.{BoundsAreOfValues, EachTermIsOfTheQuery, EachTableTermIsOfTheQuery, TableTermsAreTermsBy, TermsAreThoseOfQueries, TermsSiftRows, AllAreUnited, RowsOutsideRepliesAreNoAnswers, RowsOutsideSetsAreNoAnswers, ListsAreOfTerms, ListsComeInOrder, GroupsAscend};
 
 /// Cells lie between bounds of their kind as their values do, and identifiers as the numbers that they are.
 pub fn bounds_are_of_values()
@@ -13,6 +13,21 @@ pub fn bounds_are_of_values()
 pub fn each_term_is_of_the_query()
     ensures { EachTermIsOfTheQuery }
 {}
+
+/// Each term at a FROM table with conditions on visible columns is that of a condition of the query, or that of the table's reply.
+pub fn each_table_term_is_of_the_query()
+    ensures { EachTableTermIsOfTheQuery }
+{}
+
+/// The terms at a FROM table with conditions on visible columns are those of an accepted query over that table, where no form unites
+/// other replies.
+pub fn table_terms_are_terms_by()
+    ensures { TableTermsAreTermsBy }
+{
+    ghost_model::query::one_reading();
+    ghost_model::layout::levels_are_ancestors();
+    ghost_laws::followed::accepted_queries_are_followed();
+}
 
 /// A row of the top table meets all terms of an accepted query exactly where all conditions that are the key's to test hold along
 /// it, and it stands along each table with conditions on visible columns whose reply is united.
@@ -44,6 +59,17 @@ pub fn all_are_united()
 pub fn rows_outside_replies_are_no_answers()
     ensures { RowsOutsideRepliesAreNoAnswers }
 {}
+
+/// A row of the top table that leads to no row of a FROM table which meets all terms at it has no line in what the key answers.
+pub fn rows_outside_sets_are_no_answers()
+    ensures { RowsOutsideSetsAreNoAnswers }
+{
+    ghost_model::query::one_reading();
+    ghost_model::meaning::rows_lead_to_rows();
+    ghost_model::flash::hidden_values_of_databases();
+    ghost_model::layout::levels_are_ancestors();
+    ghost_laws::followed::accepted_queries_are_followed();
+}
 
 /// The second of the groups that searches find by the bounds of an operator and a literal begins behind the first.
 pub fn groups_ascend()

@@ -1,17 +1,20 @@
 //! The conditions of a query as lists of identifiers of its top table.
 //!
 //! Each condition that is the key's to test is a term, and so is each reply to an ask with conditions, of the top table or of one
-//! that is linked by a form which unites lists: the lists that an index has at the top table's level for the entries between
+//! that is linked by the plain form which unites lists: the lists that an index has at the top table's level for the entries between
 //! bounds, for identifiers or for the rows of a reply. A row of the top table meets a term exactly where it stands in one of its
-//! lists. None of the calls takes memory.
+//! lists. The same terms at a table below, whose rows they are met by then, are made of those at the top table. None of the calls
+//! takes memory.
 #![tactic(auto)]
 
 pub mod bounds;
 pub mod costs;
 pub mod laws;
+pub mod levels;
 pub mod term;
 pub mod terms;
 
 pub use bounds::{Between, Bounds, bounds_of};
+pub use levels::{levels_at, terms_at};
 pub use term::Term;
-pub use terms::terms_of;
+pub use terms::{key_terms, reply_term, terms_of};

@@ -1,5 +1,5 @@
-use Rattle.std.proofs.Common.{◌≡◌, ◌∙◌, refl, sym, inl, inr, Bool, true, false, ◌&&◌, List, [], ◌∷◌, filter, map, if◌then◌else◌}
-use Rattle.std.specs.Prelude.{◌⊎◌, unwrap_or}
+use Rattle.std.proofs.Common.{◌∙◌, sym, inl, inr, ◌&&◌, [], ◌∷◌, filter, map}
+use Rattle.std.specs.Prelude.{unwrap_or}
 use Rattle.std.specs.List.{list_all}
 use Rattle.std.proofs.lemmas.Bool.{and_parts}
 use Rattle.ghost_model.specs.core.Meaning.{no_value}
@@ -7,24 +7,8 @@ use Rattle.ghost_laws.specs.Scans.{known_along, holds_or_asked_along, stands_alo
 use Rattle.candidate_rows.specs.Plans.{is_tested}
 use Rattle.condition_lists.specs.Terms.{is_compared, is_united}
 use Rattle.condition_lists.proofs.TermLemmas.{and_no, no_and, no_rows}
+use Rattle.condition_lists.proofs.UnionLemmas.{one_fails, either_fails}
 use Rattle.condition_lists.proofs.laws.terms_sift_rows.Goals as goal
-
--- what fails of those that are kept fails of all
-kept_on : (a f g : Bool) → (f ≡ false → g ≡ false) → (a && f) ≡ false → (a && g) ≡ false
-kept_on true f g rest e = rest e
-kept_on false f g rest e = refl
-
-one_fails : {X : Type 0} (p q : X → Bool) (xs : List X) → list_all p (filter q xs) ≡ false → list_all p xs ≡ false
-one_fails p q [] e = e
-one_fails p q (x ∷ xs) e = by (q x) (one_fails p q xs) e
-  where
-    by : (b : Bool) → (list_all p (filter q xs) ≡ false → list_all p xs ≡ false) → list_all p (if b then x ∷ filter q xs else filter q xs) ≡ false → (p x && list_all p xs) ≡ false
-    by true rest e = kept_on (p x) (list_all p (filter q xs)) (list_all p xs) rest e
-    by false rest e = and_no (p x) (list_all p xs) (rest e)
-
-either_fails : (a b : Bool) → (a && b) ≡ false → (a ≡ false) ⊎ (b ≡ false)
-either_fails true b e = inr e
-either_fails false b e = inl refl
 
 pub returns : goal.returns
 returns c = record {

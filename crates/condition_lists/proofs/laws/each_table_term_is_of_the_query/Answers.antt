@@ -1,0 +1,23 @@
+use Rattle.std.proofs.Common.{sym, subst, inl, inr, [], ◌∷◌, filter}
+use Rattle.ghost_model.proofs.MeaningLemmas.OneRow.{from_filter}
+use Rattle.condition_lists.specs.Terms.{IsReplyTermOf, is_listed}
+use Rattle.condition_lists.proofs.MemberLemmas.{contains_of}
+use Rattle.condition_lists.proofs.PlaceLemmas.{found}
+use Rattle.condition_lists.proofs.laws.each_table_term_is_of_the_query.Goals as goal
+
+pub returns : goal.returns
+returns c = λ cat asked table held compared terms are place term e.
+    elim (found cat table (filter (is_listed cat.schema table) asked.conditions) (table ∷ []) terms are place term e) [
+      | inl one ↦ (
+          let from = from_filter (is_listed cat.schema table) one.condition asked.conditions one.among in
+          inl (record { condition = one.condition; among = contains_of asked.conditions one.condition from.0; is = one.is }))
+      | inr other ↦ elim other.among [
+        | inl same ↦ inr (record {
+          table = table;
+          among = held;
+          compared = compared;
+          is = subst (λ t. IsReplyTermOf cat table t term) (sym same) other.is;
+        })
+        | inr later ↦ absurd later
+      ]
+    ]
