@@ -1,15 +1,17 @@
 -- How many pages a look-up has read so far, and the row at the place that it gives.
-use Rattle.std.proofs.Common.{ℕ, ◌+◌, ◌≤◌, Bool, true, false, ◌≡◌, ◌∙◌, ap, refl, List, Option, arith}
+use Rattle.std.proofs.Common.{ℕ, ◌+◌, ◌≤◌, ◌⊎◌, inl, inr, Bool, true, false, ◌≡◌, ◌∙◌, ap, sym, subst, refl, List, Option, arith}
 use Rattle.ghost_model.specs.core.Asks.{RowCells, row_in}
 use Rattle.ghost_base.specs.Runs.{run_of}
-use Rattle.edge_traits.specs.Devices.{Device}
-use Rattle.page_pool.specs.Pools.{Pool}
+use Rattle.ghost_model.specs.core.Causes.{Rose}
+use Rattle.edge_traits.specs.Devices.{Device, next_if}
+use Rattle.page_pool.specs.Pools.{Pool, page_at}
 use Rattle.flash_pages.specs.Reads.{ReadsPages, WasRead}
 use Rattle.visible_spool.specs.declared.reply.Reply.{Reply}
 use Rattle.visible_spool.specs.declared.search.Search.{Search}
+use Rattle.visible_spool.specs.declared.search.Search.TheVariants.{New}
 use Rattle.visible_spool.proofs.Frames.{quiet}
 use Rattle.visible_spool.specs.Replies.{IsRowOf, StandsIn}
-use Rattle.visible_spool.specs.Searches.{CallsLeft, IsAt, LiesHere, calls_if, row_at}
+use Rattle.visible_spool.specs.Searches.{CallsLeft, IsAt, IsOutside, LiesHere, calls_if, row_at}
 
 -- so many were read, and with those that are left they are no more than k + 3
 pub record HasFound (told : Bool) (before now : Device) (pool later : Pool) (lease k : ℕ) (search : Search) : Type 0 where
@@ -55,3 +57,32 @@ place_stands since device reply identifier held bytes page row place given lies 
   number = lies.number;
   may = lies.may;
 }
+
+-- a look-up has made no step, or it has made a call
+abbrev pub HasBegun : (before now : Device) (pool later : Pool) (lease : ℕ) (search : Search) → Type 0
+HasBegun before now pool later lease search =
+    ((search ≡ New) × (now ≡ before) × (page_at later lease ≡ page_at pool lease)) ⊎ Rose before.calls now.calls
+
+rose_by : (before now : ℕ) (made : Bool) → now ≡ next_if made before → made ≡ true → Rose before now
+rose_by before now true is it = omega (arith, is)
+rose_by before now false is it = absurd (cc (it))
+
+rose_on : (first before now : ℕ) → Rose first before → before ≤ now → Rose first now
+rose_on first before now rose up = omega (arith, rose, up)
+
+-- so a step that makes one where nothing was looked at leaves it with one
+pub begun_by : (told : Bool) (before here now : Device) (pool later : Pool) (lease identifier : ℕ) (reply : Reply) (sought : Search) (made : Bool)
+    → HasBegun before here pool later lease sought → here.calls ≤ now.calls → now.calls ≡ next_if made here.calls
+    → (told ≡ true → sought ≡ New → IsOutside here.page reply (page_at later lease) identifier → made ≡ true)
+    → told ≡ true → IsOutside before.page reply (page_at pool lease) identifier → Rose before.calls now.calls
+begun_by told before here now pool later lease identifier reply sought made (inl (fresh, same, held)) up calls reads it out =
+    let outside : IsOutside here.page reply (page_at later lease) identifier =
+    subst (λ (d : Device). IsOutside d.page reply (page_at later lease) identifier) (sym same) (subst (λ (o : Option ℕ). IsOutside before.page reply o identifier) (sym held) out) in
+    subst (λ (d : Device). Rose d.calls now.calls) same (rose_by here.calls now.calls made calls (reads it fresh outside))
+begun_by told before here now pool later lease identifier reply sought made (inr rose) up calls reads it out = rose_on before.calls here.calls now.calls rose up
+
+pub begun_on : (before here now : Device) (pool later : Pool) (lease : ℕ) (sought : Search) (made : Bool)
+    → HasBegun before here pool later lease sought → here.calls ≤ now.calls → now.calls ≡ next_if made here.calls → made ≡ true → Rose before.calls now.calls
+begun_on before here now pool later lease sought made (inl (fresh, same, held)) up calls it =
+    subst (λ (d : Device). Rose d.calls now.calls) same (rose_by here.calls now.calls made calls it)
+begun_on before here now pool later lease sought made (inr rose) up calls it = rose_on before.calls here.calls now.calls rose up

@@ -16,10 +16,10 @@ use Rattle.visible_spool.specs.declared.search.Looking.{Looking}
 use Rattle.visible_spool.specs.declared.search.Search.{Search}
 use Rattle.visible_spool.specs.declared.search.Search.TheVariants.{New, Among}
 use Rattle.visible_spool.specs.declared.search.Step.{Step}
-use Rattle.visible_spool.specs.declared.search.Step.TheVariants.{More, Found}
+use Rattle.visible_spool.specs.declared.search.Step.TheVariants.{More, Found, Beyond}
 use Rattle.visible_spool.specs.declared.search.Turn.{Turn}
 use Rattle.visible_spool.specs.declared.search.Turn.TheVariants.{Over, Narrowed}
-use Rattle.visible_spool.specs.Replies.{HasNone, IsSound, id_of, may_stand}
+use Rattle.visible_spool.specs.Replies.{HasNone, HoldsRows, IsSound, id_of, may_stand}
 
 -- how many rows a page takes, and how many pages a reply has; the page of a place, counted from the reply's first page
 abbrev pub rows_in : Reply → ℕ
@@ -110,15 +110,26 @@ pub record IsFewer (k : ℕ) (search : Search) (left : ℕ) : Type 0 where
 abbrev pub is_more : Step → Bool
 is_more More = true
 is_more (Found found) = false
+is_more Beyond = false
+
+-- it says that no row has the identifier
+abbrev pub IsNowhere : Step → Type 0
+IsNowhere More = ⊥
+IsNowhere (Found None) = ⊤
+IsNowhere (Found (Some place)) = ⊥
+IsNowhere Beyond = ⊤
 
 -- a buffer has another page than it had
 abbrev pub is_other : (before now : Option ℕ) → Bool
 is_other before None = false
 is_other before (Some page) = is_apart before page
 
--- whether a step made a call: the buffer has another page, or the flash failed
-abbrev pub step_calls : {T : Type 0} → (before now : Option ℕ) → Result T PageFault → Bool
-step_calls before now (Ok value) = is_other before now
+-- whether a step made a call: the buffer has another page, or a page was read before it was said that no row has the identifier, or
+-- the flash failed
+abbrev pub step_calls : (before now : Option ℕ) → Result Step PageFault → Bool
+step_calls before now (Ok More) = is_other before now
+step_calls before now (Ok (Found found)) = is_other before now
+step_calls before now (Ok Beyond) = true
 step_calls before now (Err Flash) = true
 step_calls before now (Err (Damaged number slot found)) = is_other before now
 
@@ -159,14 +170,17 @@ PlaceStands since device reply bytes (Some place) = WasRead since device (run_of
 abbrev pub StepFinds : Reply → (rows : List (List ℕ)) → (identifier : ℕ) → (bytes : List ℕ) → Step → Type 0
 StepFinds reply rows identifier bytes More = ⊤
 StepFinds reply rows identifier bytes (Found found) = IsPlace reply rows identifier bytes found
+StepFinds reply rows identifier bytes Beyond = HasNone rows identifier
 
 abbrev pub StepLies : Reply → (identifier : ℕ) → (held : Option ℕ) → (bytes : List ℕ) → Step → Type 0
 StepLies reply identifier held bytes More = ⊤
 StepLies reply identifier held bytes (Found found) = PlaceLies reply identifier held bytes found
+StepLies reply identifier held bytes Beyond = ⊤
 
 abbrev pub StepStands : (since : ℕ) → Device → Reply → (bytes : List ℕ) → Step → Type 0
 StepStands since device reply bytes More = ⊤
 StepStands since device reply bytes (Found found) = PlaceStands since device reply bytes found
+StepStands since device reply bytes Beyond = ⊤
 
 -- a buffer has the page that it had, or one of the reply
 abbrev pub HoldsOwn : Reply → (before now : Option ℕ) → Type 0
@@ -230,6 +244,18 @@ pub record IsInHeld (reply : Reply) (rows : List (List ℕ)) (held : Option ℕ)
   pub same_page : page_of reply last ≡ page_of reply first
   pub from : id_of rows first ≤ identifier
   pub to : identifier ≤ id_of rows last
+
+-- a reply has rows, and an identifier does not lie between those of rows of the page that a buffer has
+pub record IsOutside (page : ℕ → List ℕ) (reply : Reply) (held : Option ℕ) (identifier : ℕ) : Type 0 where
+  pub some : 0 < reply.run.count
+  pub rows : List (List ℕ)
+  pub holds : HoldsRows page reply rows
+  pub beyond : IsInHeld reply rows held identifier → ⊥
+
+-- where a look at the page that a buffer has decides, the identifier does
+abbrev pub TurnIsInHeld : Reply → (rows : List (List ℕ)) → (held : Option ℕ) → (identifier : ℕ) → Turn → Type 0
+TurnIsInHeld reply rows held identifier (Over found) = IsInHeld reply rows held identifier
+TurnIsInHeld reply rows held identifier (Narrowed looking) = ⊤
 
 -- a look-up has no more steps left than a table has rows, and one
 abbrev pub SearchesAreShort : Type 0

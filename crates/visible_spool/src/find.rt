@@ -6,7 +6,8 @@ ghost use Rattle.edge_traits.specs.Devices.{Device};
 ghost use Rattle.page_pool.specs.Pools.{Pool, page_at};
 ghost use Rattle.flash_pages.specs.Reads.{ReadsPages, CanRead, WasGiven};
 ghost use Rattle.flash_pages.specs.Cursors.{IsReady, IsPageOf, ids_left};
-ghost use Rattle.visible_spool.specs.Searches.{IsInHeld};
+ghost use Rattle.ghost_model.specs.core.Causes.{Rose};
+ghost use Rattle.visible_spool.specs.Searches.{IsInHeld, IsOutside};
 ghost use Rattle.visible_spool.specs.Replies.{IsReadable, HoldsRows, Finds, WasFound, id_of_bytes};
 
 use crate::reply::Reply;
@@ -22,7 +23,7 @@ impl Reply {
     /// The row of an identifier, and none exactly where the reply has none.
     ///
     /// Of a reply with less than 2^k rows it reads at most k + 3 pages, and none where the identifier lies between those of rows
-    /// of the page in the buffer.
+    /// of the page in the buffer. For each other identifier it reads a page at least, unless the reply has no rows.
     pub fn find<F: Flash>(
         &self,
         flash: &mut F,
@@ -35,6 +36,7 @@ impl Reply {
         ensures finds { F.told ≡ true → (rows : List (List ℕ)) → HoldsRows (F.state flash.old).page self.now rows → Finds rows id result }
         ensures found { (since : ℕ) → since ≤ (F.state flash.old).calls → WasGiven since (F.state flash.old) pool.old lease.now → WasFound since (F.state flash.new) self.now id result }
         ensures at_hand { F.told ≡ true → (rows : List (List ℕ)) → HoldsRows (F.state flash.old).page self.now rows → IsInHeld self.now rows (page_at pool.old lease.now) id → F.state flash.new ≡ F.state flash.old }
+        ensures reads { F.told ≡ true → IsOutside (F.state flash.old).page self.now (page_at pool.old lease.now) id → Rose (F.state flash.old).calls (F.state flash.new).calls }
         ensures readable { IsReadable (F.state flash.new) self.now }
         ensures read { (k : ℕ) → self.now.run.count < 2 ^ k → ReadsPages F.told (F.state flash.old) (F.state flash.new) pool.old pool.new lease.now (k + 3) result }
     {
@@ -43,6 +45,7 @@ impl Reply {
             match self.step(flash, pool, lease, &mut search, id) {
                 Err(fault) => return Err(fault),
                 Ok(Step::Found(None)) => return Ok(None),
+                Ok(Step::Beyond) => return Ok(None),
                 Ok(Step::Found(Some(place))) => {
                     return Ok(Some(SpoolRow::of(self.row(pool.page(lease), place))));
                 }

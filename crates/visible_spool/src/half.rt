@@ -1,13 +1,14 @@
 //! The replies of one text.
 
 ghost use Rattle.std.specs.Prelude.{◌≡◌, ◌<◌, ◌≤◌, ◌+◌, ◌^◌, ℕ, Bool, true, List, map, IfSome};
+ghost use Rattle.ghost_model.specs.core.Causes.{Rose};
 ghost use Rattle.ghost_base.specs.Runs.{run_of};
 ghost use Rattle.page_pool.specs.Pools.{Pool, page_at};
 ghost use Rattle.edge_traits.specs.Devices.{Device};
 ghost use Rattle.flash_pages.specs.Reads.{ReadsPages, CanRead, WasGiven};
 ghost use Rattle.flash_pages.specs.Cursors.{IsReady, IsPageOf, ids_left};
 ghost use Rattle.visible_spool.specs.Replies.{IsReadable, HoldsRows, Finds, WasFound, id_of_bytes};
-ghost use Rattle.visible_spool.specs.Searches.{IsInHeld};
+ghost use Rattle.visible_spool.specs.Searches.{IsInHeld, IsOutside};
 ghost use Rattle.visible_spool.specs.Halves.{reply_of, no_half, HasNoReply};
 
 use crate::reply::Reply;
@@ -72,6 +73,7 @@ impl Half {
         ensures finds { F.told ≡ true → (rows : List (List ℕ)) → HoldsRows (F.state flash.old).page (reply_of self.now table) rows → Finds rows id result }
         ensures found { (since : ℕ) → since ≤ (F.state flash.old).calls → WasGiven since (F.state flash.old) pool.old lease.now → WasFound since (F.state flash.new) (reply_of self.now table) id result }
         ensures at_hand { F.told ≡ true → (rows : List (List ℕ)) → HoldsRows (F.state flash.old).page (reply_of self.now table) rows → IsInHeld (reply_of self.now table) rows (page_at pool.old lease.now) id → F.state flash.new ≡ F.state flash.old }
+        ensures reads { F.told ≡ true → IsOutside (F.state flash.old).page (reply_of self.now table) (page_at pool.old lease.now) id → Rose (F.state flash.old).calls (F.state flash.new).calls }
         ensures readable { IsReadable (F.state flash.new) (reply_of self.now table) }
         ensures read { (k : ℕ) → (reply_of self.now table).run.count < 2 ^ k → ReadsPages F.told (F.state flash.old) (F.state flash.new) pool.old pool.new lease.now (k + 3) result }
     {

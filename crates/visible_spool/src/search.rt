@@ -1,14 +1,15 @@
 //! A look-up in a reply, step by step.
 
-ghost use Rattle.std.specs.Prelude.{◌≡◌, ◌<◌, ◌≤◌, ◌+◌, ◌-◌, ◌/◌, ◌^◌, ℕ, Bool, true, false, List, Some, IfOk, IfErr, OnErr};
+ghost use Rattle.std.specs.Prelude.{◌≡◌, ◌<◌, ◌≤◌, ◌+◌, ◌-◌, ◌/◌, ◌^◌, ℕ, Bool, true, false, List, None, Some, IfOk, IfErr, OnErr};
 ghost use Rattle.ghost_model.specs.forms.Runs as runs;
 ghost use Rattle.ghost_base.specs.Runs.{run_of};
 ghost use Rattle.edge_traits.specs.Devices.{Device, GaveSince, next_if};
-ghost use Rattle.page_pool.specs.Pools.{IsOut, bytes_at, page_at};
+ghost use Rattle.page_pool.specs.Pools.{ChangesPage, IsOut, bytes_at, page_at};
 ghost use Rattle.flash_pages.specs.Reads.{Reads, ReadsPages, CanRead, IsFilled, WasGiven, must_read, page_after};
 ghost use Rattle.flash_pages.specs.declared.fault.PageFault.TheVariants.{Damaged};
 ghost use Rattle.visible_spool.specs.Replies.{IsReadable, IsSound, HoldsRows, Blames, IsFlash};
-ghost use Rattle.visible_spool.specs.Searches.{IsSearch, IsSought, IsSoughtAmong, IsFewer, CallsLeft, LooksLeft, StepFinds, StepStands, TurnFinds, TurnStands, TurnNarrows, TurnLeaves, TurnLies, StepLies, HoldsOwn, BlamedHere, IsElsewhere, IsInHeld, IsSlot, is_more, left_in, pages_in, row_at, step_calls, calls_if, width_left};
+ghost use Rattle.visible_spool.specs.declared.search.Search.TheVariants.{New};
+ghost use Rattle.visible_spool.specs.Searches.{IsSearch, IsSought, IsSoughtAmong, IsFewer, IsNowhere, IsOutside, CallsLeft, LooksLeft, TurnIsInHeld, StepFinds, StepStands, TurnFinds, TurnStands, TurnNarrows, TurnLeaves, TurnLies, StepLies, HoldsOwn, BlamedHere, IsElsewhere, IsInHeld, IsSlot, is_more, left_in, pages_in, row_at, step_calls, calls_if, width_left};
 
 use crate::judging::Verdict;
 use crate::reply::Reply;
@@ -63,6 +64,8 @@ pub enum Step {
     More,
     /// The place of the row in the reply, if there is one. Its page is in the buffer: `Reply::row`.
     Found(Option<u32>),
+    /// No row has the identifier. No page was left in which it may stand, and one was read before this was said.
+    Beyond,
 }
 
 /// What a look at a page gives.
@@ -72,6 +75,16 @@ pub(crate) enum Turn {
     Over(Option<u32>),
     /// Other pages are left.
     Narrowed(Looking),
+}
+
+/// Forgets which page of the flash a buffer was filled from.
+fn forget(pool: &mut PagePool, lease: &Lease)
+    requires out { IsOut pool.old lease.now }
+    ensures out { IsOut pool.new lease.now }
+    ensures changes { ChangesPage pool.old pool.new lease.now }
+    ensures forgotten { page_at pool.new lease.now ≡ None }
+{
+    pool.page_mut(lease);
 }
 
 impl Reply {
@@ -177,6 +190,7 @@ impl Reply {
         requires within { looking.high ≤ pages_in self.now }
         requires small { self.now.run.first + page < 2 ^ 32 }
         ensures finds { (pages : ℕ → List ℕ) (rows : List (List ℕ)) → HoldsRows pages self.now rows → bytes.now ≡ pages (self.now.run.first + page) → IsSoughtAmong self.now rows id looking → IfOk result (TurnFinds self.now rows id bytes.now) }
+        ensures inside { (pages : ℕ → List ℕ) (rows : List (List ℕ)) → HoldsRows pages self.now rows → bytes.now ≡ pages (self.now.run.first + page) → IfOk result (TurnIsInHeld self.now rows (Some (self.now.run.first + page)) id) }
         ensures whole { (pages : ℕ → List ℕ) (rows : List (List ℕ)) → HoldsRows pages self.now rows → bytes.now ≡ pages (self.now.run.first + page) → IfErr result IsFlash }
         ensures stands { (since : ℕ) (device : Device) → GaveSince since device bytes.now (self.now.run.first + page) → IfOk result (TurnStands since device self.now bytes.now) }
         ensures blames { (since : ℕ) (device : Device) → GaveSince since device bytes.now (self.now.run.first + page) → IfErr result (Blames since device self.now) }
@@ -226,6 +240,7 @@ impl Reply {
         requires readable { IsSound self.now }
         requires within { looking.high ≤ pages_in self.now }
         ensures finds { (pages : ℕ → List ℕ) (rows : List (List ℕ)) → HoldsRows pages self.now rows → bytes.now ≡ pages number → IsSoughtAmong self.now rows id looking → IfOk result (TurnFinds self.now rows id bytes.now) }
+        ensures inside { (pages : ℕ → List ℕ) (rows : List (List ℕ)) → HoldsRows pages self.now rows → bytes.now ≡ pages number → IfOk result (TurnIsInHeld self.now rows (Some number) id) }
         ensures whole { (pages : ℕ → List ℕ) (rows : List (List ℕ)) → HoldsRows pages self.now rows → bytes.now ≡ pages number → IfErr result IsFlash }
         ensures stands { (since : ℕ) (device : Device) → GaveSince since device bytes.now number → IfOk result (TurnStands since device self.now bytes.now) }
         ensures blames { (since : ℕ) (device : Device) → GaveSince since device bytes.now number → IfErr result (Blames since device self.now) }
@@ -256,6 +271,7 @@ impl Reply {
         requires within { looking.high ≤ pages_in self.now }
         requires out { IsOut pool.now lease.now }
         ensures finds { (told : Bool) (pages : ℕ → List ℕ) (rows : List (List ℕ)) → told ≡ true → IsFilled told pages pool.now lease.now → HoldsRows pages self.now rows → IsSoughtAmong self.now rows id looking → IfOk result (TurnFinds self.now rows id (bytes_at pool.now lease.now)) }
+        ensures inside { (told : Bool) (pages : ℕ → List ℕ) (rows : List (List ℕ)) → told ≡ true → IsFilled told pages pool.now lease.now → HoldsRows pages self.now rows → IfOk result (TurnIsInHeld self.now rows (page_at pool.now lease.now) id) }
         ensures whole { (told : Bool) (pages : ℕ → List ℕ) (rows : List (List ℕ)) → told ≡ true → IsFilled told pages pool.now lease.now → HoldsRows pages self.now rows → IfErr result IsFlash }
         ensures stands { (since : ℕ) (device : Device) → WasGiven since device pool.now lease.now → IfOk result (TurnStands since device self.now (bytes_at pool.now lease.now)) }
         ensures blames { (since : ℕ) (device : Device) → WasGiven since device pool.now lease.now → IfErr result (Blames since device self.now) }
@@ -302,7 +318,72 @@ impl Reply {
         }
     }
 
-    /// Looks at the next page, and goes on where it does not decide.
+    /// The page of the reply that a buffer has, or the one that is nearest to it, counted from the first one. Where the buffer has
+    /// none, it is the first one.
+    fn near_page(&self, held: Option<u32>) -> u32
+        requires sound { IsSound self.now }
+        requires some { 0 < self.now.run.count }
+        ensures within { result < pages_in self.now }
+    {
+        held.unwrap_or(0)
+            .saturating_sub(self.run.first)
+            .min(pages(self.run.count, self.run.width) - 1)
+    }
+
+    /// Reads a page of the reply, also where it stands in the buffer.
+    fn read_anew<F: Flash>(
+        &self,
+        flash: &mut F,
+        pool: &mut PagePool,
+        lease: &Lease,
+    ) -> Result<(), PageFault>
+        requires readable { IsReadable (F.state flash.old) self.now }
+        requires some { 0 < self.now.run.count }
+        requires ready { CanRead F.told (F.state flash.old) pool.old lease.now }
+        ensures no_slot { IfErr result IsFlash }
+        ensures page { HoldsOwn self.now (page_at pool.old lease.now) (page_at pool.new lease.now) }
+        ensures calls { (F.state flash.new).calls ≡ next_if true (F.state flash.old).calls }
+        ensures readable { IsReadable (F.state flash.new) self.now }
+        ensures read { ReadsPages F.told (F.state flash.old) (F.state flash.new) pool.old pool.new lease.now 1 result }
+    {
+        let page = self.near_page(pool.filled_from(lease));
+        forget(pool, lease);
+        load(flash, pool, lease, self.run.first + page)
+    }
+
+    /// Says that no row has the identifier, since no page is left in which it may stand. Where no page was read for it and the
+    /// reply has one, one is read first.
+    fn nowhere<F: Flash>(
+        &self,
+        flash: &mut F,
+        pool: &mut PagePool,
+        lease: &Lease,
+        search: Search,
+    ) -> Result<Step, PageFault>
+        requires readable { IsReadable (F.state flash.old) self.now }
+        requires ready { CanRead F.told (F.state flash.old) pool.old lease.now }
+        ensures nowhere { IfOk result IsNowhere }
+        ensures no_slot { IfErr result IsFlash }
+        ensures page { HoldsOwn self.now (page_at pool.old lease.now) (page_at pool.new lease.now) }
+        ensures some { (k left : ℕ) → CallsLeft k search left → step_calls (page_at pool.old lease.now) (page_at pool.new lease.now) result ≡ true → 1 ≤ left }
+        ensures reads { search ≡ New → 0 < self.now.run.count → step_calls (page_at pool.old lease.now) (page_at pool.new lease.now) result ≡ true }
+        ensures calls { (F.state flash.new).calls ≡ next_if (step_calls (page_at pool.old lease.now) (page_at pool.new lease.now) result) (F.state flash.old).calls }
+        ensures readable { IsReadable (F.state flash.new) self.now }
+        ensures read { ReadsPages F.told (F.state flash.old) (F.state flash.new) pool.old pool.new lease.now (calls_if (step_calls (page_at pool.old lease.now) (page_at pool.new lease.now) result)) result }
+    {
+        if self.run.count == 0 {
+            return Ok(Step::Found(None));
+        }
+        match search {
+            Search::Among(_) => Ok(Step::Found(None)),
+            Search::New => match self.read_anew(flash, pool, lease) {
+                Err(fault) => Err(fault),
+                Ok(()) => Ok(Step::Beyond),
+            },
+        }
+    }
+
+    /// Looks at the next page, and goes on where it does not decide. Where no page is left, no row has the identifier.
     fn advance<F: Flash>(
         &self,
         flash: &mut F,
@@ -329,14 +410,15 @@ impl Reply {
         ensures blamed { IfErr result (BlamedHere (page_at pool.new lease.now)) }
         ensures shorter { IfOk result (λ step. is_more step ≡ true → left_in self.now search.new < width_left looking) }
         ensures fewer { (k left : ℕ) → LooksLeft looking left → IfOk result (λ step. is_more step ≡ true → IsFewer k search.new left) }
-        ensures some { (left : ℕ) → LooksLeft looking left → step_calls (page_at pool.old lease.now) (page_at pool.new lease.now) result ≡ true → 1 ≤ left }
+        ensures some { (k left : ℕ) → CallsLeft k search.old left → LooksLeft looking left → step_calls (page_at pool.old lease.now) (page_at pool.new lease.now) result ≡ true → 1 ≤ left }
+        ensures reads { search.old ≡ New → 0 < self.now.run.count → step_calls (page_at pool.old lease.now) (page_at pool.new lease.now) result ≡ true }
         ensures more { IfOk result (λ step. is_more step ≡ true → step_calls (page_at pool.old lease.now) (page_at pool.new lease.now) result ≡ true) }
         ensures calls { (F.state flash.new).calls ≡ next_if (step_calls (page_at pool.old lease.now) (page_at pool.new lease.now) result) (F.state flash.old).calls }
         ensures readable { IsReadable (F.state flash.new) self.now }
         ensures read { ReadsPages F.told (F.state flash.old) (F.state flash.new) pool.old pool.new lease.now (calls_if (step_calls (page_at pool.old lease.now) (page_at pool.new lease.now) result)) result }
     {
         if looking.low >= looking.high {
-            return Ok(Step::Found(None));
+            return self.nowhere(flash, pool, lease, *search);
         }
         let page = self.next_page(looking, id);
         let fewer = Looking {
@@ -359,7 +441,9 @@ impl Reply {
     /// The next step of a look-up of an identifier.
     ///
     /// The page in the buffer is looked at first, and another only where it does not decide: so a step reads at most one page,
-    /// and it answers `More` only where it read one. After a fault the same call is made anew.
+    /// and it answers `More` only where it read one. Of a reply with rows, a page is read for each identifier that does not lie
+    /// between those of rows of the page in the buffer, also where none is left in which it may stand. After a fault the same
+    /// call is made anew.
     pub fn step<F: Flash>(
         &self,
         flash: &mut F,
@@ -386,6 +470,7 @@ impl Reply {
         ensures blamed { IfErr result (BlamedHere (page_at pool.new lease.now)) }
         ensures fewer { (k left : ℕ) → self.now.run.count < 2 ^ k → CallsLeft k search.old left → IfOk result (λ step. is_more step ≡ true → IsFewer k search.new left) }
         ensures some { (k left : ℕ) → self.now.run.count < 2 ^ k → CallsLeft k search.old left → step_calls (page_at pool.old lease.now) (page_at pool.new lease.now) result ≡ true → 1 ≤ left }
+        ensures reads { F.told ≡ true → search.old ≡ New → IsOutside (F.state flash.old).page self.now (page_at pool.old lease.now) id → step_calls (page_at pool.old lease.now) (page_at pool.new lease.now) result ≡ true }
         ensures more { IfOk result (λ step. is_more step ≡ true → step_calls (page_at pool.old lease.now) (page_at pool.new lease.now) result ≡ true) }
         ensures calls { (F.state flash.new).calls ≡ next_if (step_calls (page_at pool.old lease.now) (page_at pool.new lease.now) result) (F.state flash.old).calls }
         ensures readable { IsReadable (F.state flash.new) self.now }

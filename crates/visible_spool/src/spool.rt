@@ -7,11 +7,12 @@ ghost use Rattle.ghost_model.specs.forms.Layout as layout;
 ghost use Rattle.ghost_base.specs.Views.{kind_of};
 ghost use Rattle.edge_traits.specs.Devices.{Device};
 ghost use Rattle.page_pool.specs.Pools.{Pool, IsOut, ChangesPage, page_at};
+ghost use Rattle.ghost_model.specs.core.Causes.{Rose};
 ghost use Rattle.ghost_base.specs.Runs.{run_of};
 ghost use Rattle.flash_pages.specs.Reads.{ReadsPages, CanRead, WasGiven};
 ghost use Rattle.flash_pages.specs.Cursors.{IsReady, IsPageOf, ids_left};
 ghost use Rattle.visible_spool.specs.Replies.{Finds, HoldsRows, IsReadable, WasFound, id_of_bytes, kinds_of};
-ghost use Rattle.visible_spool.specs.Searches.{IsInHeld};
+ghost use Rattle.visible_spool.specs.Searches.{IsInHeld, IsOutside};
 ghost use Rattle.visible_spool.specs.Halves.{reply_of};
 ghost use Rattle.visible_spool.specs.Areas.{AreAreasOf, AreAreas, first_of, end_of};
 ghost use Rattle.visible_spool.specs.Sides.{Changes, is_marked, replies_of, side_of};
@@ -340,6 +341,7 @@ impl Spool {
         ensures finds { F.told ≡ true → (rows : List (List ℕ)) → HoldsRows (F.state flash.old).page (reply_of (replies_of self.now.sides text) table) rows → Finds rows id result }
         ensures found { (since : ℕ) → since ≤ (F.state flash.old).calls → WasGiven since (F.state flash.old) pool.old lease.now → WasFound since (F.state flash.new) (reply_of (replies_of self.now.sides text) table) id result }
         ensures at_hand { F.told ≡ true → (rows : List (List ℕ)) → HoldsRows (F.state flash.old).page (reply_of (replies_of self.now.sides text) table) rows → IsInHeld (reply_of (replies_of self.now.sides text) table) rows (page_at pool.old lease.now) id → F.state flash.new ≡ F.state flash.old }
+        ensures reads { F.told ≡ true → IsOutside (F.state flash.old).page (reply_of (replies_of self.now.sides text) table) (page_at pool.old lease.now) id → Rose (F.state flash.old).calls (F.state flash.new).calls }
         ensures readable { IsReadable (F.state flash.new) (reply_of (replies_of self.now.sides text) table) }
         ensures read { (k : ℕ) → (reply_of (replies_of self.now.sides text) table).run.count < 2 ^ k → ReadsPages F.told (F.state flash.old) (F.state flash.new) pool.old pool.new lease.now (k + 3) result }
     {

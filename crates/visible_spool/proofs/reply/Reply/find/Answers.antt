@@ -1,4 +1,4 @@
-use Rattle.std.proofs.Common.{◌≡◌, ◌∙◌, ◌+◌, true, subst, sym, ap, ℕ, List, Option, None, Some, Ok, arith}
+use Rattle.std.proofs.Common.{◌≡◌, ◌∙◌, ◌+◌, true, subst, sym, ap, ℕ, List, Option, None, Some, Ok, inr, arith}
 use Rattle.ghost_base.specs.Runs.{run_of}
 use Rattle.flash_pages.specs.Reads.{WasRead}
 use Rattle.ghost_model.specs.core.Asks.{RowCells}
@@ -6,7 +6,7 @@ use Rattle.page_pool.specs.Pools.{bytes_at, page_at}
 use Rattle.visible_spool.specs.declared.search.Step.{Step}
 use Rattle.visible_spool.specs.Replies.{HoldsRows}
 use Rattle.visible_spool.specs.Searches.{IsAt, IsInHeld, IsFewer, IsPlace, LiesHere, PlaceLies, PlaceStands, StepFinds, StepLies, StepStands, is_more, calls_if, row_at, step_calls}
-use Rattle.visible_spool.proofs.Finding.{HasFound, call_left, one_call, row_of_place, place_stands}
+use Rattle.visible_spool.proofs.Finding.{HasFound, begun_by, begun_on, call_left, one_call, row_of_place, place_stands}
 use Rattle.visible_spool.proofs.Frames.{then_pages, calm, answered, faulted, failed, quiet}
 use Rattle.visible_spool.proofs.reply.Reply.find.Goals as goal
 
@@ -59,6 +59,8 @@ steps-preserved g c =
           (subst (λ (o : Option ℕ). IsInHeld c.args.self.now rows o c.args.id) (sym before_same.1) held) in
           let more : is_more c.in-Ok-More.field-0 ≡ true = ap is_more c.in-Ok-More.field-0-is in
           absurd (cc (decided, more));
+      begun = inr (begun_on before here after c.args.pool.now c.steps.pool c.args.lease.now c.steps.search calls was.begun step.read.kept.never_falls step.calls
+          (step.more (ap is_more c.in-Ok-More.field-0-is)));
       frame = record {
         made = was.frame.made + 1;
         reads = then_pages told before here after c.args.pool.now c.steps.pool c.step.new.pool c.args.lease.now was.frame.made (calls_if calls) (was.frame.made + 1) quiet (omega (arith, one)) was.frame.reads read;
@@ -165,3 +167,69 @@ returns-in-Ok-Found-Some-clause-at_hand g c = λ told rows holds held.
     c.in-Ok-Found-Some.ensures.at_hand told rows (subst (λ (p : ℕ → List ℕ). HoldsRows p c.args.self.now rows) (sym same) holds) (was.sought told rows holds)
     (subst (λ (o : Option ℕ). IsInHeld c.args.self.now rows o c.args.id) (sym so_far.1) held)
     ∙ so_far.0
+
+pub returns-in-Ok-Beyond-clause-finds : goal.returns-in-Ok-Beyond-clause-finds
+returns-in-Ok-Beyond-clause-finds g c = λ told rows holds.
+    let same = c.steps.invariant.frame.reads.kept.page in
+    subst (StepFinds c.args.self.now rows c.args.id (bytes_at c.step.new.pool c.args.lease.now)) c.in-Ok-Beyond.field-0-is
+    (c.in-Ok-Beyond.ensures.finds told rows (subst (λ (p : ℕ → List ℕ). HoldsRows p c.args.self.now rows) (sym same) holds) (c.steps.invariant.sought told rows holds))
+
+pub returns-in-Ok-Beyond-clause-read : goal.returns-in-Ok-Beyond-clause-read
+returns-in-Ok-Beyond-clause-read g c = λ k fewer.
+    let told = g.F.Flash.told in
+    let before = g.F.Flash.state c.args.flash.now in
+    let here = g.F.Flash.state c.steps.flash in
+    let after = g.F.Flash.state c.step.new.flash in
+    let has : HasFound told before here c.args.pool.now c.steps.pool c.args.lease.now k c.steps.search = c.steps.invariant.reads k fewer in
+    let enough = has.enough in
+    let calls = step_calls (page_at c.steps.pool c.args.lease.now) (page_at c.step.new.pool c.args.lease.now) (Ok c.in-Ok-Beyond.field-0) in
+    let few = call_left calls has.rest (c.in-Ok-Beyond.ensures.some k has.rest fewer has.calls_left) in
+    let given : Option RowCells = None in
+    answered told before after c.args.pool.now c.step.new.pool c.args.lease.now (k + 3) given
+    (then_pages told before here after c.args.pool.now c.steps.pool c.step.new.pool c.args.lease.now has.made (calls_if calls) (k + 3) quiet (omega (arith, enough, few)) has.reads
+    (calm told here after c.steps.pool c.step.new.pool c.args.lease.now (calls_if calls) c.in-Ok-Beyond.field-0 c.in-Ok-Beyond.ensures.read))
+
+pub returns-in-Ok-Beyond-clause-at_hand : goal.returns-in-Ok-Beyond-clause-at_hand
+returns-in-Ok-Beyond-clause-at_hand g c = λ told rows holds held.
+    let was = c.steps.invariant in
+    let same = was.frame.reads.kept.page in
+    let so_far = was.at_hand told rows holds held in
+    c.in-Ok-Beyond.ensures.at_hand told rows (subst (λ (p : ℕ → List ℕ). HoldsRows p c.args.self.now rows) (sym same) holds) (was.sought told rows holds)
+    (subst (λ (o : Option ℕ). IsInHeld c.args.self.now rows o c.args.id) (sym so_far.1) held)
+    ∙ so_far.0
+
+pub returns-in-Err-clause-reads : goal.returns-in-Err-clause-reads
+returns-in-Err-clause-reads g c = λ told outside.
+    let before = g.F.Flash.state c.args.flash.now in
+    let here = g.F.Flash.state c.steps.flash in
+    let after = g.F.Flash.state c.step.new.flash in
+    let calls = step_calls (page_at c.steps.pool c.args.lease.now) (page_at c.step.new.pool c.args.lease.now) (failed Step c.in-Err.fault) in
+    begun_by g.F.Flash.told before here after c.args.pool.now c.steps.pool c.args.lease.now c.args.id c.args.self.now c.steps.search calls c.steps.invariant.begun
+    c.in-Err.ensures.read.kept.never_falls c.in-Err.ensures.calls c.in-Err.ensures.reads told outside
+
+pub returns-in-Ok-Found-None-clause-reads : goal.returns-in-Ok-Found-None-clause-reads
+returns-in-Ok-Found-None-clause-reads g c = λ told outside.
+    let before = g.F.Flash.state c.args.flash.now in
+    let here = g.F.Flash.state c.steps.flash in
+    let after = g.F.Flash.state c.step.new.flash in
+    let calls = step_calls (page_at c.steps.pool c.args.lease.now) (page_at c.step.new.pool c.args.lease.now) (Ok c.in-Ok-Found-None.field-0) in
+    begun_by g.F.Flash.told before here after c.args.pool.now c.steps.pool c.args.lease.now c.args.id c.args.self.now c.steps.search calls c.steps.invariant.begun
+    c.in-Ok-Found-None.ensures.read.kept.never_falls c.in-Ok-Found-None.ensures.calls c.in-Ok-Found-None.ensures.reads told outside
+
+pub returns-in-Ok-Beyond-clause-reads : goal.returns-in-Ok-Beyond-clause-reads
+returns-in-Ok-Beyond-clause-reads g c = λ told outside.
+    let before = g.F.Flash.state c.args.flash.now in
+    let here = g.F.Flash.state c.steps.flash in
+    let after = g.F.Flash.state c.step.new.flash in
+    let calls = step_calls (page_at c.steps.pool c.args.lease.now) (page_at c.step.new.pool c.args.lease.now) (Ok c.in-Ok-Beyond.field-0) in
+    begun_by g.F.Flash.told before here after c.args.pool.now c.steps.pool c.args.lease.now c.args.id c.args.self.now c.steps.search calls c.steps.invariant.begun
+    c.in-Ok-Beyond.ensures.read.kept.never_falls c.in-Ok-Beyond.ensures.calls c.in-Ok-Beyond.ensures.reads told outside
+
+pub returns-in-Ok-Found-Some-clause-reads : goal.returns-in-Ok-Found-Some-clause-reads
+returns-in-Ok-Found-Some-clause-reads g c = λ told outside.
+    let before = g.F.Flash.state c.args.flash.now in
+    let here = g.F.Flash.state c.steps.flash in
+    let after = g.F.Flash.state c.step.new.flash in
+    let calls = step_calls (page_at c.steps.pool c.args.lease.now) (page_at c.step.new.pool c.args.lease.now) (Ok c.in-Ok-Found-Some.field-0) in
+    begun_by g.F.Flash.told before here after c.args.pool.now c.steps.pool c.args.lease.now c.args.id c.args.self.now c.steps.search calls c.steps.invariant.begun
+    c.in-Ok-Found-Some.ensures.read.kept.never_falls c.in-Ok-Found-Some.ensures.calls c.in-Ok-Found-Some.ensures.reads told outside

@@ -3,6 +3,7 @@ use Rattle.edge_traits.specs.Devices.{GaveSince}
 use Rattle.visible_spool.specs.Replies.{Blames}
 use Rattle.visible_spool.specs.Searches.{BlamedHere, row_at}
 use Rattle.visible_spool.proofs.Readable.{IsPage, page_of_rows, its_page}
+use Rattle.visible_spool.proofs.HeldPage.{held_between}
 use Rattle.visible_spool.proofs.RowsHere.{rows_from, rows_to, nowhere, row_found, not_wrong}
 use Rattle.visible_spool.proofs.reply.Reply.read_off.Goals as goal
 
@@ -148,3 +149,30 @@ returns-in-Wrong-clause-blamed c =
     let told = c.in-Wrong.ensures.verdict in
     let at = its_page c.args.self.now c.args.page (c.args.page * c.per_page-each.result) c.min-last.result c.in-Wrong.place p told.0 told.1 in
     subst (BlamedHere (Some (c.args.self.now.run.first + c.args.page))) (sym c.damage.ensures.fault) (ap (λ q. Some (c.args.self.now.run.first + q)) (sym at))
+
+pub returns-in-At-clause-inside : goal.returns-in-At-clause-inside
+returns-in-At-clause-inside c = λ pages rows holds is.
+    let high = c.requires.high in
+    let within = c.requires.within in
+    let p : IsPage c.args.self.now c.args.page (c.args.page * c.per_page-each.result) c.min-last.result =
+    page_of_rows c.args.self.now c.requires.readable c.args.page c.per_page-each.result c.min-last.result c.per_page-each.ensures.value (omega (arith, high, within)) c.min-last.ensures in
+    let told = c.in-At.ensures.verdict in
+    let to = told.1 in
+    let end = p.within in
+    let number = told.2 in
+    let at = its_page c.args.self.now c.args.page (c.args.page * c.per_page-each.result) c.min-last.result c.in-At.place p told.0 told.1 in
+    held_between pages c.args.self.now rows holds c.args.bytes.now c.args.page is c.in-At.place c.in-At.place c.args.id (omega arith) (omega (arith, to, end)) at at
+    (omega (arith, number)) (omega (arith, number))
+
+pub returns-in-Nowhere-clause-inside : goal.returns-in-Nowhere-clause-inside
+returns-in-Nowhere-clause-inside c = λ pages rows holds is.
+    let high = c.requires.high in
+    let within = c.requires.within in
+    let p : IsPage c.args.self.now c.args.page (c.args.page * c.per_page-each.result) c.min-last.result =
+    page_of_rows c.args.self.now c.requires.readable c.args.page c.per_page-each.result c.min-last.result c.per_page-each.ensures.value (omega (arith, high, within)) c.min-last.ensures in
+    let told = c.in-Nowhere.ensures.verdict in
+    let first = c.args.page * c.per_page-each.result in
+    held_between pages c.args.self.now rows holds c.args.bytes.now c.args.page is first c.min-last.result c.args.id p.order p.within
+    (its_page c.args.self.now c.args.page first c.min-last.result first p (omega arith) p.order)
+    (its_page c.args.self.now c.args.page first c.min-last.result c.min-last.result p p.order (omega arith))
+    told.0 told.1
