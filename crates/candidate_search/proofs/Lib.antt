@@ -3,6 +3,8 @@ pub mod RowLists
 pub mod ListDamage
 pub mod TermsTaken
 pub mod RowReplies
+pub mod SetReplies
+pub mod SetRights
 pub mod TermDamage
 pub mod TakingFrames
 pub mod TakingOpens

@@ -54,10 +54,10 @@ some_above (y ∷ []) (suc i) x low e = absurd (cc (e))
 some_above (y ∷ z ∷ xs) (suc i) x low e = refl
 
 -- what stands in one of some lists
-has_one : (ids : List ℕ) (id : ℕ) → Contains ids id → IsOneOf ids id
+pub has_one : (ids : List ℕ) (id : ℕ) → Contains ids id → IsOneOf ids id
 has_one ids id has = record { at = has.0; within = has.1; is = sym (got ids has.0 0 id has.1 ∙ has.2) }
 
-is_one : (ids : List ℕ) (id : ℕ) → IsOneOf ids id → Contains ids id
+pub is_one : (ids : List ℕ) (id : ℕ) → IsOneOf ids id → Contains ids id
 is_one ids id is = (is.at, is.within, got ids is.at id 0 is.within ∙ sym is.is)
 
 pub in_one : (lists : List (List ℕ)) (id : ℕ) → InLists lists id ↔ IsInOne lists id

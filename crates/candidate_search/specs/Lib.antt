@@ -5,5 +5,6 @@ pub mod Laws
 pub mod Gathered
 pub mod Taking
 pub mod Taken
+pub mod Sets
 pub mod Given
 pub mod Costs

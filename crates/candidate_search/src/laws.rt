@@ -3,6 +3,7 @@
 ghost use Rattle.candidate_search.specs.Gathered.{CandidatesAreGathered};
 ghost use Rattle.candidate_search.specs.Given.{ListsBlame, SearchesBlame};
 ghost use Rattle.candidate_search.specs.Laws.{ListsHaveTheirRows, RepliesAreLists, DamageOfListsIsOfSlots};
+ghost use Rattle.candidate_search.specs.Sets.{RightsOfSets, SetsAreReplies};
 
 /// Over pages that have the indexes of a database but for slots that are out of range by themselves, and the rows of a reply, the
 /// lists of a term have exactly the rows of the top table that meet it, and cost no more than the term.
@@ -24,6 +25,19 @@ pub fn replies_are_lists()
 {
     condition_lists::laws::lists_are_of_terms();
 }
+
+/// Candidates that stand as a list are the rows of a reply without cells, whose lists have exactly the rows of the top table that lead to
+/// one of them.
+pub fn sets_are_replies()
+    ensures { SetsAreReplies }
+{
+    lists_have_their_rows();
+}
+
+/// Lists of a set that lies where pages are right by themselves are taken by pages that are right there as they are.
+pub fn rights_of_sets()
+    ensures { RightsOfSets }
+{}
 
 /// What is damaged of such lists is a damaged slot of the layout.
 pub fn damage_of_lists_is_of_slots()
