@@ -1,4 +1,5 @@
 pub mod Scratches
+pub mod Regions
 pub mod ReadPages
 pub mod ReadLists
 pub mod GivenOn

@@ -24,6 +24,7 @@ use Rattle.visible_spool.specs.declared.reply.Reply.{Reply}
 use Rattle.visible_spool.specs.Areas.{half_begin, half_end}
 use Rattle.entry_lists.specs.Entries.{is_in, level_run}
 use Rattle.entry_lists.proofs.ValueLists.{file_at}
+use Rattle.candidate_lists.specs.declared.scratch.Scratch.{Scratch}
 use Rattle.candidate_lists.specs.Outside.{ScratchOutside}
 use Rattle.condition_lists.specs.Terms.{IsIdIndexAt, IsIndexAt}
 use Rattle.candidate_search.specs.declared.term_lists.TermLists.{TermLists}
@@ -38,7 +39,7 @@ use Rattle.candidate_knowledge.proofs.ListPages.{any_of, before, behind, is_belo
 use Rattle.candidate_lists.specs.Damaging.{ListsInside}
 use Rattle.candidate_search.specs.Given.{ListsBlame}
 use Rattle.candidate_gathering.specs.Given.{ListsRead, UsesRead}
-use Rattle.candidate_gathering.specs.Stages.{scratch_of}
+use Rattle.candidate_gathering.specs.Stages.{AreAreas}
 use Rattle.candidate_gathering.proofs.ReadPages.{either_of}
 use Rattle.candidate_gathering.proofs.Scratches.{scratch_outside, scratch_within}
 
@@ -102,14 +103,16 @@ module _ (cat : Catalog) (asked : Query) (top side : ℕ) where
           let from = ltb-false number (spool_end cat) high in
           true_false (is_list_page cat asked top side number) (scratch_read number (omega (arith, from)) (ltb-true number (need cat) e)) unread
 
-  pub scratch_away : (number : ℕ) → is_list_page cat asked top side number ≡ false → ScratchOutside number (number + 1) (scratch_of cat) (largest_count cat) (largest_count cat)
-  scratch_away number unread =
+  pub scratch_away : (number : ℕ) → is_list_page cat asked top side number ≡ false → (scratch : Scratch) → AreAreas cat scratch
+      → ScratchOutside number (number + 1) scratch (largest_count cat) (largest_count cat)
+  scratch_away number unread scratch areas =
+      let within = scratch_within cat scratch areas in
       elim (out_of_scratch number unread) [
-        | inl below_it ↦ scratch_outside cat number (number + 1) below_it
+        | inl below_it ↦ scratch_outside cat scratch areas number (number + 1) below_it
         | inr above_it ↦ record {
-          candidates = λ first is. inl (let to = ((scratch_within cat).candidates first is).to in omega (arith, above_it, to));
-          lists = λ first is. inl (let to = ((scratch_within cat).lists first is).to in omega (arith, above_it, to));
-          places = λ first is. inl (let to = ((scratch_within cat).places first is).to in omega (arith, above_it, to));
+          candidates = inl (let to = within.candidates.to in omega (arith, above_it, to));
+          lists = λ first is. inl (let to = (within.lists first is).to in omega (arith, above_it, to));
+          places = λ first is. inl (let to = (within.places first is).to in omega (arith, above_it, to));
         }
       ]
 

@@ -1,6 +1,7 @@
-//! The candidates of a query: the rows of its top table that meet all terms, gathered term by term from the indexes and the replies.
+//! The candidates of a query: the rows of a table that meet all terms of it, gathered term by term from the indexes and the replies. The
+//! table is the top one, or one below it, of which the rows are a set that rows of the top table have to lead to.
 //!
-//! `Gathering` takes the terms in one after another: ranges of identifiers and the reply of the top table at once, the entries of a
+//! `Gathering` takes the terms in one after another: ranges of identifiers and the reply of the table at once, the entries of a
 //! hidden column after a search, and the lists of entries and of replies through `Taking`. Where the lists in hand leave too few
 //! buffers, the candidates are written to scratch as one list. At the end it answers a merge that gives the candidates, ascending, or
 //! the candidates themselves.
