@@ -1,0 +1,5 @@
+pub mod Stages
+pub mod Contents
+pub mod Given
+pub mod Turns
+pub mod Laws
