@@ -24,6 +24,7 @@ use Rattle.ghost_model.specs.laws.LayoutLaws.{IsLimited}
 use Rattle.ghost_model.specs.laws.FlashLaws.{HoldingsAreKept}
 use Rattle.climbing_index.specs.Laws.{IsOf}
 use Rattle.candidate_knowledge.specs.Laws.{HeldFilesAreKnown, KnowledgeStays}
+use Rattle.leakless_plan.specs.Choices.{may_cross}
 use Rattle.key_exec.specs.Plans.{by_indexes}
 use Rattle.key_exec.specs.Reading.{Knows, KnowsBut, KnowsBy, KnowsButBy}
 use Rattle.key_exec.specs.Blaming.{IsDamaged, IsDamagedInScan}
@@ -266,7 +267,7 @@ pub damage_kept :
 damage_kept small order stand stays plans.Scan told page now cat asked top side half number slot found tree keeps is =
     scan_damage_kept small order stand told page now cat asked top side half number slot found tree keeps is
 damage_kept small order stand stays (plans.Linked forced) told page now cat asked top side half number slot found tree keeps is = λ database knows.
-    stays.bad page now cat asked top database tree keeps number slot found
+    stays.bad page now cat asked (may_cross forced) top database tree keeps number slot found
     (is database (columns_kept_by small order stand stays by_indexes told now page cat database tree (λ at low. sym (keeps at low)) knows))
 
 pub files_kept :

@@ -1,6 +1,6 @@
 -- Where a slot lies that is blamed while candidates are gone through: on a page that is read for the query by the indexes, of which
 -- a read gave what was found.
-use Rattle.std.proofs.Common.{◌≡◌, ◌∙◌, inl, inr, ◌⊎◌, ◌-◌, ◌+◌, ◌<◌, ◌≤◌, ◌&&◌, ℕ, Bool, true, false, not, nat_le, nat_lt, List, [], ◌∷◌, length, Result, Ok, Err, refl, ap, sym, subst, arith}
+use Rattle.std.proofs.Common.{◌≡◌, ◌∙◌, inl, inr, ◌⊎◌, ◌-◌, ◌+◌, ◌<◌, ◌≤◌, ◌&&◌, ℕ, Bool, true, false, not, nat_le, nat_lt, List, [], ◌∷◌, length, Option, Result, Ok, Err, refl, ap, sym, subst, arith}
 use Rattle.std.specs.Prelude.{IfErr}
 use Rattle.std.proofs.lemmas.Bool.Decides.{nat_tests}
 use Rattle.ghost_model.specs.core.Schema.{is_empty}
@@ -27,8 +27,11 @@ use Rattle.candidate_rows.specs.Steps.{BlamesNeeded}
 use Rattle.candidate_search.specs.Given.{ListsBlame}
 use Rattle.candidate_search.proofs.ReadsGiven.{slot_found}
 use Rattle.candidate_knowledge.specs.Found.{InFile, InReplies, ListPagesAreRead, is_list_page}
+use Rattle.candidate_knowledge.specs.Laws.{ListsAreRead}
 use Rattle.candidate_gathering.specs.Given.{ListsRead}
-use Rattle.key_exec.specs.Plans.{by_indexes}
+use Rattle.leakless_plan.specs.Choices.{may_cross}
+use Rattle.leakless_plan.specs.declared.form.Form.{Form}
+use Rattle.leakless_plan.specs.declared.plan.Plan.TheVariants as plans
 use Rattle.key_exec.specs.declared.job.Went.{Went}
 use Rattle.key_exec.specs.Blaming.{BlamesRead}
 use Rattle.key_exec.proofs.ChosenLemmas.{IsChosen}
@@ -48,14 +51,14 @@ in_run stand run place number least most within page_is =
 
 -- ---- the work on a candidate
 
-module _ (small : LayoutIsSmall) (stand : RecordsStandWithin) (told : Bool) (since : ℕ) (before now : Device) (cat : Catalog) (asked : Query) (side : ℕ) (half : Half) (plan : RowPlan)
+module _ (small : LayoutIsSmall) (stand : RecordsStandWithin) (told : Bool) (since : ℕ) (before now : Device) (forced : Option Form) (cat : Catalog) (asked : Query) (side : ℕ) (half : Half) (plan : RowPlan)
     (tree : IsTree cat.schema) (is_half : IsHalf told cat side before half) where
   some_of : {X : Type 0} (xs : List X) → is_empty xs ≡ false → 0 < length xs
   some_of [] none = cc
   some_of (x ∷ xs) none = omega arith
 
   need_was_read : (need : Need) (fault : PageFault) → IsNeed cat plan need → IsChosen cat asked plan.top need → BlamesNeeded since now half need fault
-      → BlamesRead by_indexes told since now cat asked plan.top side half fault
+      → BlamesRead (plans.Linked forced) told since now cat asked plan.top side half fault
   need_was_read need Flash needed chosen blames = tt
   need_was_read NoNeed (Damaged number slot found) needed chosen blames = absurd blames
   need_was_read (OfSlot at) (Damaged number slot found) needed chosen blames =
@@ -70,7 +73,7 @@ module _ (small : LayoutIsSmall) (stand : RecordsStandWithin) (told : Bool) (sin
         page = InFile (record {
           file = Cells chosen.table chosen.column;
           has = chosen.file.hidden;
-          read_for = chosen.selected;
+          read_for = inl chosen.selected;
           within =
               in_run stand (column_file cat chosen.table chosen.column) place number (narrow.least chosen.table chosen.column chosen.file.hidden) (omega (arith, most))
               (omega (arith, chosen.some, chosen.within)) (blames.page_is ∙ ap (λ (r : Run). page_of r place) run);
@@ -95,7 +98,7 @@ module _ (small : LayoutIsSmall) (stand : RecordsStandWithin) (told : Bool) (sin
         page = InFile (record {
           file = Subtrees plan.top;
           has = ap not of.some_below;
-          read_for = (refl, chosen);
+          read_for = inl (refl, chosen);
           within =
               in_run stand (subtree_table cat plan.top) place number (omega (arith, least)) (omega (arith, most))
               (omega (arith, needed.some, needed.within)) (blames.page_is ∙ ap (λ (r : Run). page_of r place) run);
@@ -103,19 +106,20 @@ module _ (small : LayoutIsSmall) (stand : RecordsStandWithin) (told : Bool) (sin
       }
 
   pub needed_was_read : (need : Need) (result : Result Went PageFault) → IsNeed cat plan need → IsChosen cat asked plan.top need → IfErr result (BlamesNeeded since now half need)
-      → IfErr result (BlamesRead by_indexes told since now cat asked plan.top side half)
+      → IfErr result (BlamesRead (plans.Linked forced) told since now cat asked plan.top side half)
   needed_was_read need (Ok went) needed chosen blames = tt
   needed_was_read need (Err fault) needed chosen blames = need_was_read need fault needed chosen blames
 
 -- ---- the merge of candidates
 
-pub list_was_read : ListsBlame → ListPagesAreRead → (told : Bool) (since : ℕ) (now : Device) (later : Pool) (cat : Catalog) (asked : Query) (top side : ℕ) (half : Half) (cursors : List Cursor) (number slot found : ℕ)
+pub list_was_read : ListsBlame → ListPagesAreRead → ListsAreRead → (told : Bool) (since : ℕ) (now : Device) (later : Pool) (forced : Option Form) (cat : Catalog) (asked : Query) (top side : ℕ) (half : Half) (cursors : List Cursor) (number slot found : ℕ)
     → AllReady told now later cursors → ListsRead cat asked top side cursors
-    → BlamesList since now cursors number slot found → BlamesRead by_indexes told since now cat asked top side half (Damaged number slot found)
-list_was_read law reads told since now later cat asked top side half cursors number slot found ready pages blames = record {
-  was = law.found since now cursors (law.inside told now later cursors ready) number slot found blames;
-  page = reads cat asked top side number (listed (is_list_page cat asked top side number) refl);
-}
+    → BlamesList since now cursors number slot found → BlamesRead (plans.Linked forced) told since now cat asked top side half (Damaged number slot found)
+list_was_read law reads lists told since now later forced cat asked top side half cursors number slot found ready pages blames =
+    lists.found since now cat asked (may_cross forced) top side number slot found (record {
+      was = law.found since now cursors (law.inside told now later cursors ready) number slot found blames;
+      page = reads cat asked top side number (listed (is_list_page cat asked top side number) refl);
+    })
   where
     beyond : (number < number) ⊎ (number + 1 ≤ number) → ⊥
     beyond (inl less) = omega (arith, less)

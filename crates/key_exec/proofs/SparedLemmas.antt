@@ -39,6 +39,7 @@ use Rattle.candidate_linking.specs.Stages.{IsLinking, linking_left}
 use Rattle.candidate_linking.specs.Contents.{LinkingHas, Walks, WalksUnited}
 use Rattle.candidate_linking.specs.Given.{LinkingGiven}
 use Rattle.candidate_linking.specs.Turns.{SparesLinking}
+use Rattle.key_exec.specs.Plans.{crosses_by}
 use Rattle.key_exec.proofs.HalfLemmas.{others_spare}
 use Rattle.key_exec.specs.declared.job.Scan.{Scan}
 use Rattle.key_exec.specs.declared.job.Phase.{Phase}
@@ -199,19 +200,19 @@ walking_still stay fill give merges cat asked side told before now pool later ha
 
 -- what a linking keeps, where others spare it
 pub record LinkingIsSpared (linking : LinkingModel) : Type 0 where
-  pub ready : (told : Bool) (before now : Device) (pool later : Pool) (cat : Catalog) (asked : Query) (top side : ℕ) (half : Half)
-      → SparesLinking cat side before now pool later linking → IsLinking told before pool cat asked top side half linking
-      → IsLinking told now later cat asked top side half linking
-  pub has : (told : Bool) (before now : Device) (pool later : Pool) (cat : Catalog) (asked : Query) (top side : ℕ) (half : Half)
-      → SparesLinking cat side before now pool later linking → IsLinking told before pool cat asked top side half linking
-      → (database : Database) (given : List Reply) → LinkingHas told before.page pool cat asked database given top half linking
-      → LinkingHas told now.page later cat asked database given top half linking
+  pub ready : (told : Bool) (before now : Device) (pool later : Pool) (cat : Catalog) (asked : Query) (crosses : Bool) (top side : ℕ) (half : Half)
+      → SparesLinking cat side before now pool later linking → IsLinking told before pool cat asked crosses top side half linking
+      → IsLinking told now later cat asked crosses top side half linking
+  pub has : (told : Bool) (before now : Device) (pool later : Pool) (cat : Catalog) (asked : Query) (crosses : Bool) (top side : ℕ) (half : Half)
+      → SparesLinking cat side before now pool later linking → IsLinking told before pool cat asked crosses top side half linking
+      → (database : Database) (given : List Reply) → LinkingHas told before.page pool cat asked crosses database given top half linking
+      → LinkingHas told now.page later cat asked crosses database given top half linking
   pub left : (before now : Device) (pool later : Pool) (cat : Catalog) (side : ℕ) → SparesLinking cat side before now pool later linking
       → linking_left later linking ≡ linking_left pool linking
   pub given : (before now : Device) (pool later : Pool) (cat : Catalog) (side since : ℕ) → SparesLinking cat side before now pool later linking
       → LinkingGiven since before pool linking → LinkingGiven since now later linking
-  pub costs : (told : Bool) (before now : Device) (pool later : Pool) (cat : Catalog) (asked : Query) (top side : ℕ) (half : Half)
-      → SparesLinking cat side before now pool later linking → IsLinking told before pool cat asked top side half linking
+  pub costs : (told : Bool) (before now : Device) (pool later : Pool) (cat : Catalog) (asked : Query) (crosses : Bool) (top side : ℕ) (half : Half)
+      → SparesLinking cat side before now pool later linking → IsLinking told before pool cat asked crosses top side half linking
       → (database : Database) (given : List Reply) (cost : ℕ) → LinkingCosts told before.page pool cat asked database given top half linking cost
       → LinkingCosts told now.page later cat asked database given top half linking cost
 
@@ -223,15 +224,15 @@ SparedIn (Walking leases merge scan) = ⊤
 SparedIn Over = ⊤
 
 link_still :
-    (cat : Catalog) (asked : Query) (side : ℕ) (told : Bool) (before now : Device) (pool later : Pool) (half : Half)
+    (cat : Catalog) (asked : Query) (crosses : Bool) (side : ℕ) (told : Bool) (before now : Device) (pool later : Pool) (half : Half)
     (plan : RowPlan) (rows left given spent : ℕ) (linking : LinkingModel) → LinkingIsSpared linking
     → Spares cat side before now pool later (links.leases_in linking)
-    → IsLinkingFor cat asked side told before pool half plan rows left given spent linking → IsLinkingFor cat asked side told now later half plan rows left given spent linking
-link_still cat asked side told before now pool later half plan rows left given spent linking law spares is =
+    → IsLinkingFor cat asked crosses side told before pool half plan rows left given spent linking → IsLinkingFor cat asked crosses side told now later half plan rows left given spent linking
+link_still cat asked crosses side told before now pool later half plan rows left given spent linking law spares is =
     let same : linking_left later linking ≡ linking_left pool linking = law.left before now pool later cat side (spares_all spares) in
     record {
       none = is.none;
-      is = law.ready told before now pool later cat asked plan.top side half (spares_all spares) is.is;
+      is = law.ready told before now pool later cat asked crosses plan.top side half (spares_all spares) is.is;
       rows_are = is.rows_are;
       counted = record { enough = omega (arith, is.counted.enough, same); most = is.counted.most };
     }
@@ -250,7 +251,7 @@ phase_still stay fill give merges unread by cat asked side told before now pool 
   ),
 )
 phase_still stay fill give merges unread by cat asked side told before now pool later half plan rows left given spent work (Linking linking) law lies spares at =
-    (at.0, link_still cat asked side told before now pool later half plan rows left given spent linking law spares at.1)
+    (at.0, link_still cat asked (crosses_by by) side told before now pool later half plan rows left given spent linking law spares at.1)
 phase_still stay fill give merges unread by cat asked side told before now pool later half plan rows left given spent work (Walking leases merge scan) law lies spares at =
     let same : unread_in later merge.cursors.items ≡ unread_in pool merge.cursors.items =
     unread _ _ before now pool later merge.cursors.items (spares_second leases.items (leases_of merge.cursors.items) spares) in (
@@ -293,18 +294,18 @@ static_kept spares number low = (spares.static number low).bytes
 
 -- a merge has the rows that it had
 abbrev pub walks_still :
-    CursorsStayRight → DamageStays → (bad : KnowledgeStays) → (cat : Catalog) (asked : Query) (side : ℕ) (told : Bool) (before now : Device) (pool : Pool) (database : Database) (given : List Reply)
+    CursorsStayRight → DamageStays → (bad : KnowledgeStays) → (cat : Catalog) (asked : Query) (crosses : Bool) (side : ℕ) (told : Bool) (before now : Device) (pool : Pool) (database : Database) (given : List Reply)
     (top : ℕ) (merge : Merge) → IsTree cat.schema → KeepsStatic cat before.page now.page
     → ChangesOnly (half_begin cat (1 - side)) (half_end cat (1 - side)) before now → AllOutside (half_begin cat (1 - side)) (half_end cat (1 - side)) merge.cursors.items
     → AllReady told before pool merge.cursors.items
-    → Walks before.page cat asked database given top merge → Walks now.page cat asked database given top merge
-walks_still right damage bad cat asked side told before now pool database given top merge tree keeps changes outside ready walks = record {
+    → Walks before.page cat asked crosses database given top merge → Walks now.page cat asked crosses database given top merge
+walks_still right damage bad cat asked crosses side told before now pool database given top merge tree keeps changes outside ready walks = record {
   whole = walks.whole;
   lists = right _ _ told before now pool walks.whole merge.cursors.items changes outside ready walks.lists;
   met = walks.met;
   kept = walks.kept;
   bad = λ number slot found damaged.
-      bad.bad before.page now.page cat asked top database tree keeps number slot found
+      bad.bad before.page now.page cat asked crosses top database tree keeps number slot found
       (walks.bad number slot found (damage _ _ before now merge.cursors.items changes outside number slot found damaged));
 }
 
@@ -312,15 +313,15 @@ pub stands_still :
     WorkStillStands → CursorsStayRight → DamageStays → KnowledgeStays → (by : Plan) (cat : Catalog) (asked : Query) (side : ℕ) (told : Bool) (before now : Device) (pool later : Pool) (half : Half) (plan : RowPlan) (rows left count spent : ℕ)
     (work : RowWork) (phase : Phase) (database : Database) (given : List Reply) → SparedIn phase → Spares cat side before now pool later (leases_in phase) → AreInHalf cat side half
     → IsAtPhase by cat asked side told before pool half plan rows left count spent work phase
-    → PhaseStands cat asked database given told before.page pool half plan work phase → PhaseStands cat asked database given told now.page later half plan work phase
+    → PhaseStands cat asked (crosses_by by) database given told before.page pool half plan work phase → PhaseStands cat asked (crosses_by by) database given told now.page later half plan work phase
 stands_still stay right damage bad by cat asked side told before now pool later half plan rows left count spent work Begun database given law spares lies at stands = tt
 stands_still stay right damage bad by cat asked side told before now pool later half plan rows left count spent work (Scanning leases scan) database given law spares lies at stands =
     work_stands_still stay cat asked side before now half plan rows scan.next (work_in scan work) database given (half_spared spares) lies at.1.0.work_is stands
 stands_still stay right damage bad by cat asked side told before now pool later half plan rows left count spent work (Linking linking) database given law spares lies at stands =
-    law.has told before now pool later cat asked plan.top side half (spares_all spares) at.1.is database given stands
+    law.has told before now pool later cat asked (crosses_by by) plan.top side half (spares_all spares) at.1.is database given stands
 stands_still stay right damage bad by cat asked side told before now pool later half plan rows left count spent work (Walking leases merge scan) database given law spares lies at stands = (
   work_stands_still stay cat asked side before now half plan rows scan.next (work_in scan work) database given (half_spared spares) lies at.1.0.work_is stands.0,
-  walks_still right damage bad cat asked side told before now pool database given plan.top merge at.1.0.tree (static_kept (half_spared spares)) spares.device at.1.0.outside at.1.0.merge_is.cursors stands.1,
+  walks_still right damage bad cat asked (crosses_by by) side told before now pool database given plan.top merge at.1.0.tree (static_kept (half_spared spares)) spares.device at.1.0.outside at.1.0.merge_is.cursors stands.1,
 )
 stands_still stay right damage bad by cat asked side told before now pool later half plan rows left count spent work Over database given law spares lies at stands = tt
 
@@ -351,13 +352,13 @@ knowledge_still pages stay by told cat side before now asked database half given
 
 -- the same where the lists of all replies are united
 united_still :
-    CursorsStayRight → DamageStays → (bad : KnowledgeStays) → (cat : Catalog) (asked : Query) (side : ℕ) (told : Bool) (before now : Device) (pool : Pool) (database : Database) (given : List Reply)
+    CursorsStayRight → DamageStays → (bad : KnowledgeStays) → (cat : Catalog) (asked : Query) (crosses : Bool) (side : ℕ) (told : Bool) (before now : Device) (pool : Pool) (database : Database) (given : List Reply)
     (top : ℕ) (merge : Merge) → IsTree cat.schema → KeepsStatic cat before.page now.page
     → ChangesOnly (half_begin cat (1 - side)) (half_end cat (1 - side)) before now → AllOutside (half_begin cat (1 - side)) (half_end cat (1 - side)) merge.cursors.items
     → AllReady told before pool merge.cursors.items
-    → WalksUnited before.page cat asked database given top merge → WalksUnited now.page cat asked database given top merge
-united_still right damage bad cat asked side told before now pool database given top merge tree keeps changes outside ready united = record {
-  walks = walks_still right damage bad cat asked side told before now pool database given top merge tree keeps changes outside ready united.walks;
+    → WalksUnited before.page cat asked crosses database given top merge → WalksUnited now.page cat asked crosses database given top merge
+united_still right damage bad cat asked crosses side told before now pool database given top merge tree keeps changes outside ready united = record {
+  walks = walks_still right damage bad cat asked crosses side told before now pool database given top merge tree keeps changes outside ready united.walks;
   exact = united.exact;
 }
 
@@ -371,14 +372,15 @@ costs_still right damage bad unread by cat asked side told before now pool later
 costs_still right damage bad unread by cat asked side told before now pool later half plan rows left count spent work (Scanning leases scan) database given cost law spares at costs = costs
 costs_still right damage bad unread by cat asked side told before now pool later half plan rows left count spent work (Linking linking) database given cost law spares at costs = record {
   link = costs.link;
-  costs = law.costs told before now pool later cat asked plan.top side half (spares_all spares) at.1.is database given costs.link costs.costs;
+  costs = law.costs told before now pool later cat asked (crosses_by by) plan.top side half (spares_all spares) at.1.is database given costs.link costs.costs;
   enough = costs.enough;
 }
 costs_still right damage bad unread by cat asked side told before now pool later half plan rows left count spent work (Walking leases merge scan) database given cost law spares at costs =
     let same : unread_in later merge.cursors.items ≡ unread_in pool merge.cursors.items =
     unread _ _ before now pool later merge.cursors.items (spares_second leases.items (leases_of merge.cursors.items) spares) in
     record {
-      walks = united_still right damage bad cat asked side told before now pool database given plan.top merge at.1.0.tree (static_kept (half_spared spares)) spares.device at.1.0.outside at.1.0.merge_is.cursors costs.walks;
+      crosses = costs.crosses;
+      walks = united_still right damage bad cat asked costs.crosses side told before now pool database given plan.top merge at.1.0.tree (static_kept (half_spared spares)) spares.device at.1.0.outside at.1.0.merge_is.cursors costs.walks;
       enough = (let enough = costs.enough in omega (arith, enough, same));
     }
 costs_still right damage bad unread by cat asked side told before now pool later half plan rows left count spent work Over database given cost law spares at costs = tt

@@ -145,7 +145,7 @@ KeptStays = (by : Plan) (cat : Catalog) (first before now : Device) → KeepsBy 
 
 -- so many steps of a text are left at most
 abbrev pub most_left : ℕ
-most_left = 2 ^ 56
+most_left = 2 ^ 61
 
 abbrev pub FewStepsAreLeft : Type 0
 FewStepsAreLeft =

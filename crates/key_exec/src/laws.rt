@@ -76,7 +76,7 @@ pub fn what_jobs_keep_adds_up()
     ghost_model::layout::layout_is_small();
 }
 
-/// A text goes on for 2 ^ 56 steps at most.
+/// A text goes on for 2 ^ 61 steps at most.
 pub fn few_steps_are_left()
     ensures few { FewStepsAreLeft }
 {}
