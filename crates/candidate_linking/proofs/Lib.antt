@@ -5,6 +5,9 @@ mod PassingRows
 mod ReplyRows
 mod FillingOn
 mod SiftingOn
+mod SetLists
+mod UnitingOn
+mod CrossedLists
 mod Walking
 mod Turning
 mod Staying
