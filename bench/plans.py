@@ -8,8 +8,8 @@
 `calls` prints a line for each text: the calls of its job by each plan, counted from outside by `strace`; the bound of the
 plan pre, and the least that is possible, one read for each page that holds what the answer needs. `growth` does so over
 tables in which the answer, what satisfies, and what is replied stay the same while the visits grow. `times` prints seconds
-of a session of each plan beside those of sqlite3 with an index on each column, and compares the rows. The plans are scan,
-pre and post, where none is named. FOLDER (a temporary one, where none is named) gets the clinic and all that is written.
+of a session of each plan beside those of sqlite3 with an index on each column, and compares the rows. All six
+plans are compared, where none is named. FOLDER (a temporary one, where none is named) gets the clinic and all that is written.
 README.md says what is compared.
 """
 import os
@@ -25,7 +25,7 @@ from clinic_pages import Clinic
 
 STRACE = shutil.which('strace')
 CALL = re.compile(r'(?:\d+ +)?(pread64|pwrite64)\((\d+), .*, (\d+), (\d+)\) += \d+$')
-PLANS = ['scan', 'pre', 'post']
+PLANS = ['auto', 'scan', 'pre', 'post', 'cross-pre', 'cross-post']
 BOUNDED = 'pre'
 BUFFERS = 32
 SELECTIVE = [
@@ -97,7 +97,7 @@ def calls(key, host, visits, folder):
     load(key, name)
     clinic = Clinic(visits)
     spool, same = scratch_begins(clinic, visits), True
-    line = ' '.join(['%8s'] * (len(PLANS) + 3)) + ' %10s %10s  %s'
+    line = ' '.join(['%10s'] * (len(PLANS) + 3)) + ' %10s %10s  %s'
     print(line % ('rows', *PLANS, 'bound', 'least', 'of bound', 'of least', 'text'))
     for one in [text(number).strip() for number in range(1, 41)] + SELECTIVE:
         read = clinic.read(one)
@@ -164,7 +164,7 @@ def times(key, host, visits, folder):
         print(what)
         for plan, one in ours.items():
             beside = '   beside sqlite3 %.2f, of CPU %.2f' % (one.seconds / theirs.seconds, one.cpu / theirs.cpu) if theirs else ''
-            print('  %-6s %s%s' % (plan, figures(one), beside), flush=True)
+            print('  %-10s %s%s' % (plan, figures(one), beside), flush=True)
         if theirs:
             print('  sqlite3 %s' % figures(theirs), flush=True)
             same = tell_rows(name('out.' + PLANS[0]), name('sqlite.out')) and same

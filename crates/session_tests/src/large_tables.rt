@@ -1,4 +1,4 @@
-//! `local` and `plain` over tables whose columns and replies take many pages.
+//! `local` by each plan, and `plain`, over tables whose columns and replies take many pages.
 
 ghost use Rattle.key_words.specs.Blocks.{AreBuffers};
 
@@ -20,6 +20,16 @@ const SCHEMA: &str =
 /// A condition on a hidden and on a visible column; visible values alone; a join; and hidden values far behind.
 const SCRIPT: &str =
     "SELECT num FROM top WHERE val = 7 AND num > 6000; SELECT num FROM top WHERE num <= 11000; SELECT top.id FROM top, leaf WHERE lf = leaf.id AND tag = 0 AND mark >= 30000; SELECT mark FROM leaf WHERE mark BETWEEN 40990 AND 99999;";
+
+/// All six plans.
+pub const PLANS: [Plan; 6] = [
+    Plan::Linked(None),
+    Plan::Scan,
+    Plan::Linked(Some(Form::Pre)),
+    Plan::Linked(Some(Form::Post)),
+    Plan::Linked(Some(Form::CrossPre)),
+    Plan::Linked(Some(Form::CrossPost)),
+];
 
 const PLAIN_WORDS: PlainWords<'static> = PlainWords {
     schema: "schema",
@@ -138,11 +148,7 @@ fn columns_and_replies_of_many_pages_are_answered_in_order(
         tops(rt.alloc())?.as_str(),
         SCRIPT,
     )?;
-    for plan in [
-        Plan::Scan,
-        Plan::Linked(Some(Form::Pre)),
-        Plan::Linked(Some(Form::Post)),
-    ] {
+    for plan in PLANS {
         let calls = calls_of(rt.alloc(), &mut depot, plan, 8, lines.as_str())?;
         assert!(rt; calls.is_some());
     }

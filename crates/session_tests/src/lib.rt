@@ -17,6 +17,8 @@ mod paces_kept;
 #[cfg(test)]
 mod plain_answers;
 #[cfg(test)]
+mod plans_chosen;
+#[cfg(test)]
 mod printed_lines;
 #[cfg(test)]
 mod texts_asked;
