@@ -6,7 +6,6 @@
 #![tactic(auto)]
 
 pub mod filling;
-mod finishing;
 pub mod laws;
 pub mod sifting;
 
