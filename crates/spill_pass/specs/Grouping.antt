@@ -124,13 +124,6 @@ pub record TookMore (told : Bool) (device : Device) (pool later : Pool) (list : 
   pub over : AllOver list.run old.into.rows old.into.merge.cursors.items → AllOver list.run old.into.rows new.into.merge.cursors.items
   pub outside : (low high : ℕ) → ListOutside low high list → AllOutside low high old.into.merge.cursors.items → AllOutside low high new.into.merge.cursors.items
 
--- so many calls were made, and never more than two
-pub record Made (calls : ℕ) (before now : Device) : Type 0 where
-  pub few : calls ≤ 2
-  pub at_most : MadeAtMost calls before now
-  pub called : 0 < calls → Rose before.calls now.calls
-  pub exact : Counts calls before.calls now.calls
-
 -- the merge of the group at hand went on
 pub record WentOn (told : Bool) (now : Device) (pool later : Pool) (old new : Groups) : Type 0 where
   pub grouping : IsGrouping told now later new
@@ -148,9 +141,9 @@ pub record ListStands (told : Bool) (now : Device) (pool later : Pool) (old new 
   pub placed : new.places.filler.count ≡ old.places.filler.count + 1
   pub none_found : new.into.merge.last ≡ 0
 
-abbrev pub TurnTells : (told : Bool) (before now : Device) (pool later : Pool) (old new : Groups) → GroupTurn → Type 0
-TurnTells told before now pool later old new (Went calls) = Made calls before now × WentOn told now pool later old new
-TurnTells told before now pool later old new (Listed calls) = Made calls before now × ListStands told now pool later old new
+abbrev pub TurnTells : (told : Bool) (now : Device) (pool later : Pool) (old new : Groups) → GroupTurn → Type 0
+TurnTells told now pool later old new Went = WentOn told now pool later old new
+TurnTells told now pool later old new Listed = ListStands told now pool later old new
 
 -- identifiers that ascend, from 1 to the rows
 pub record IsRowList (rows : ℕ) (ids : List ℕ) : Type 0 where
@@ -192,8 +185,8 @@ pub record ListsGroup (told : Bool) (right : ℕ → List ℕ) (merge : Merge) (
   pub empty : (id : ℕ) → Remains right groups.into.merge id → ⊥
 
 abbrev pub TurnGives : (told : Bool) (right : ℕ → List ℕ) → Merge → (lists : List (List ℕ)) (page : ℕ → List ℕ) → Pool → Groups → Result GroupTurn PageFault → Type 0
-TurnGives told right merge lists page pool groups (Ok (Went calls)) = IsGrouped told right merge lists page pool groups
-TurnGives told right merge lists page pool groups (Ok (Listed calls)) = ListsGroup told right merge lists page pool groups
+TurnGives told right merge lists page pool groups (Ok Went) = IsGrouped told right merge lists page pool groups
+TurnGives told right merge lists page pool groups (Ok Listed) = ListsGroup told right merge lists page pool groups
 TurnGives told right merge lists page pool groups (Err fault) = ⊤
 
 -- the pages have these lists, one behind another in a run, and their places
