@@ -65,9 +65,9 @@ none_gives {told = told} {right = right} {page = page} {merge = merge} {earlier 
     let P : Bool → Type 0 = λ answer. AdvanceGives told right merge earlier page pool into (Ok answer) in subst P is gives
 
 pub some_tells :
-    {told : Bool} {device later_device : Device} {before now : ℕ} {pool later : Pool} {old new : MergeInto} {answer : Bool} → answer ≡ true
+    {told : Bool} (device : Device) {later_device : Device} {before now : ℕ} {pool later : Pool} {old new : MergeInto} {answer : Bool} → answer ≡ true
     → AdvanceTells told device later_device before now pool later old new answer → WentOn told later_device before now pool later old new
-some_tells {told = told} {device = device} {later_device = later_device} {before = before} {now = now} {pool = pool} {later = later} {old = old} {new = new} is tells =
+some_tells {told = told} device {later_device = later_device} {before = before} {now = now} {pool = pool} {later = later} {old = old} {new = new} is tells =
     let P : Bool → Type 0 = λ answer. AdvanceTells told device later_device before now pool later old new answer in subst P is tells
 
 pub none_tells :
