@@ -1,21 +1,18 @@
 -- What a turn came to, and calls counted over several of them.
 use Rattle.std.proofs.Common.{◌≡◌, ℕ, ◌+◌, ◌-◌, ◌<◌, ◌≤◌, inl, inr, Bool, true, false, List, [], Option, Some, None, subst, Ok, arith}
-use Rattle.std.specs.Prelude.{Result, Err}
+use Rattle.std.specs.Prelude.{Err}
 use Rattle.std.proofs.lemmas.Bool.{cases_lt}
 use Rattle.ghost_model.specs.core.Causes.{Rose, last_count}
 use Rattle.ghost_base.specs.declared.runs.Run.{Run}
 use Rattle.edge_traits.specs.Devices.{Counts, Device}
-use Rattle.edge_traits.proofs.DeviceFrames.{counts_more, counts_next}
+use Rattle.edge_traits.proofs.DeviceFrames.{counts_more}
 use Rattle.flash_pages.specs.declared.fault.PageFault.{PageFault}
 use Rattle.flash_pages.specs.declared.fault.PageFault.TheVariants.{Flash, Damaged}
 use Rattle.spill_pass.specs.Causes.{CallsAtFault}
 use Rattle.page_pool.specs.Pools.{Pool}
 use Rattle.id_merge.specs.declared.merge.Merge.{Merge}
 use Rattle.spill_pass.specs.declared.merging.MergeInto.{MergeInto}
-use Rattle.id_merge.specs.declared.merge.Step.{Step}
-use Rattle.id_merge.specs.declared.merge.Step.TheVariants.{More, Found, End}
-use Rattle.id_merge.specs.Merges.{StepTells}
-use Rattle.spill_pass.specs.Merging.{Gathers, GathersAll, GivesList, IsListOf, AdvanceGives, AdvanceTells, TurnTells, WentOn, WentByPages, DoneByPages, ListDone, CameToEnd, step_calls}
+use Rattle.spill_pass.specs.Merging.{Gathers, GathersAll, GivesList, IsListOf, AdvanceGives, AdvanceTells, TurnTells, WentOn, WentByPages, DoneByPages, ListDone, CameToEnd}
 
 pub went_gives :
     {told : Bool} {right page : ℕ → List ℕ} {merge : Merge} {pool : Pool} {into : MergeInto} {answer : Option Run} → answer ≡ None
@@ -76,37 +73,17 @@ pub none_tells :
 none_tells {told = told} {device = device} {later_device = later_device} {before = before} {now = now} {pool = pool} {later = later} {old = old} {new = new} is tells =
     let P : Bool → Type 0 = λ answer. AdvanceTells told device later_device before now pool later old new answer in subst P is tells
 
--- a step of a merge makes the call that is counted
-pub step_counts :
-    (before now : Device) (unread left : ℕ) (result : Result Step PageFault) → StepTells before now unread left result
-    → Counts (step_calls result) before.calls now.calls
-step_counts before now unread left (Ok More) tells = counts_next tells.calls
-step_counts before now unread left (Ok (Found id)) tells = record { most = omega (arith, tells.calls); exact = λ below. omega (arith, tells.calls) }
-step_counts before now unread left (Ok End) tells = record { most = omega (arith, tells.calls); exact = λ below. omega (arith, tells.calls) }
-step_counts before now unread left (Err Flash) tells = counts_next tells.calls
-step_counts before now unread left (Err (Damaged page slot found)) tells =
-    record { most = omega (arith, tells.calls); exact = λ below. omega (arith, tells.calls) }
+-- a count that rose in one of two parts rose in both together
+pub rose_again :
+    (spent calls before mid now : ℕ) → before ≤ mid → mid ≤ now → (0 < spent → Rose before mid) → (0 < calls → Rose mid now)
+    → 0 < spent + calls → Rose before now
+rose_again spent calls before mid now one two first second some =
+    elim (cases_lt 0 spent) [
+      | inl earlier ↦ omega (arith, first earlier, one, two)
+      | inr none ↦ omega (arith, second (omega (arith, none, some)), one, two)
+    ]
 
-pub step_reads :
-    (before now : Device) (unread left : ℕ) (result : Result Step PageFault) → StepTells before now unread left result
-    → now.deep_reads ≤ before.deep_reads + 1 → now.deep_reads ≤ before.deep_reads + step_calls result
-step_reads before now unread left (Ok More) tells most = omega (arith, most)
-step_reads before now unread left (Ok (Found id)) tells most = omega (arith, tells.deep_reads)
-step_reads before now unread left (Ok End) tells most = omega (arith, tells.deep_reads)
-step_reads before now unread left (Err Flash) tells most = omega (arith, most)
-step_reads before now unread left (Err (Damaged page slot found)) tells most = omega (arith, tells.deep_reads)
-
-pub few_steps : (result : Result Step PageFault) → step_calls result ≤ 1
-few_steps (Ok More) = omega arith
-few_steps (Ok (Found id)) = omega arith
-few_steps (Ok End) = omega arith
-few_steps (Err Flash) = omega arith
-few_steps (Err (Damaged page slot found)) = omega arith
-
--- calls that were made after none
-pub counts_from : {calls before mid now : ℕ} → mid ≡ before → Counts calls mid now → Counts calls before now
-counts_from {calls = calls} {now = now} same counts = let P : ℕ → Type 0 = λ n. Counts calls n now in subst P same counts
-
+-- calls that were made after others
 pub counts_again : {a b c : ℕ} (old mid new : ℕ) → old ≤ mid → mid ≤ new → Counts (mid - old) a b → Counts (new - mid) b c → Counts (new - old) a c
 counts_again {a = a} {c = c} old mid new one two first second =
     let P : ℕ → Type 0 = λ n. Counts n a c in

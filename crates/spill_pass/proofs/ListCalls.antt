@@ -32,12 +32,12 @@ use Rattle.spill_pass.proofs.Reducing.{ReadsPlaced}
 
 -- a list was taken
 pub took_spent :
-    {told : Bool} {now : Device} {from to : ℕ} {pool mid later : Pool} (source rest : Source) (old new : Groups) (list : ListRef) (ids left : ℕ)
+    {told : Bool} {now : Device} (from to : ℕ) {pool mid later : Pool} (source rest : Source) (old new : Groups) (list : ListRef) (ids left : ℕ)
     → IsGrouping told now mid old → ChangesPage pool mid source.lease → AreOut pool (pass_held source old) → GaveList now source rest list
     → to + 3 * rest.lists_left ≤ from + 3 * source.lists_left → TookMore told now mid later list old new → list.count + left ≤ ids
     → (ids_at_hand new + left ≤ ids_at_hand old + ids)
     × (to + calls_over later rest.lists_left left new ≤ from + calls_over pool source.lists_left ids old)
-took_spent {pool = pool} {mid = mid} {later = later} source rest old new list ids left was changes are gave looked more fits =
+took_spent from to {pool = pool} {mid = mid} {later = later} source rest old new list ids left was changes are gave looked more fits =
     let width : list.count / per_page list.run.width ≡ list.count / 512 =
     let P : ℕ → Type 0 = λ w. list.count / (2048 / w) ≡ list.count / 512 in
     subst P (sym gave.width) refl in
@@ -67,9 +67,9 @@ pub took_counts :
     → IsGrouping told now mid old → ChangesPage pool mid source.lease → AreOut pool (pass_held source old) → GaveList now source rest list
     → to + 3 * rest.lists_left ≤ from + 3 * source.lists_left → TookMore told now mid later list old new
     → HasSpent has told right now.page from to pool later source rest old new lists (ids_of given)
-took_counts source rest old new {given = given} {list = list} gives all is was changes are gave looked more =
+took_counts {from = from} {to = to} source rest old new {given = given} {list = list} gives all is was changes are gave looked more =
     let P : List (List ℕ) → Type 0 = λ ls. list.count + ids_of ls ≤ ids_of given in
-    let spent = took_spent source rest old new list (ids_of given) (ids_of all.left) was changes are gave looked more (subst P (sym is) (first_fits gives)) in
+    let spent = took_spent from to source rest old new list (ids_of given) (ids_of all.left) was changes are gave looked more (subst P (sym is) (first_fits gives)) in
     record { all = all; fewer = spent.0; calls = spent.1 }
 
 -- no list was left

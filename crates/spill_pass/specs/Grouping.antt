@@ -1,11 +1,10 @@
 -- Lists that are merged group by group: where what is written lies, which leases are held, and what stands so far.
 use Rattle.std.specs.Prelude.{◌≡◌, ℕ, ◌+◌, ◌-◌, ◌*◌, ◌/◌, ◌<◌, ◌≤◌, ◌⊎◌, ◌↔◌, ◌++◌, Bool, true, ⊤, List, [], ◌∷◌, length, map, get_or, Result, Ok, Err}
 use Rattle.std.specs.List.{concat}
-use Rattle.ghost_model.specs.core.Causes.{Rose}
 use Rattle.ghost_model.specs.forms.Runs as runs
 use Rattle.ghost_base.specs.declared.runs.ListRef.{ListRef}
 use Rattle.ghost_base.specs.Runs.{run_of}
-use Rattle.edge_traits.specs.Devices.{Device, Counts, SamePage}
+use Rattle.edge_traits.specs.Devices.{Device, SamePage}
 use Rattle.page_pool.specs.Pools.{Pool, AreOut, KeepsOthers, others_out}
 use Rattle.flash_pages.specs.declared.fault.PageFault.{PageFault}
 use Rattle.flash_pages.specs.Writing.{IsEntered}
@@ -18,7 +17,7 @@ use Rattle.spill_pass.specs.declared.groups.GroupTurn.{GroupTurn}
 use Rattle.spill_pass.specs.declared.groups.GroupTurn.TheVariants.{Went, Listed}
 use Rattle.spill_pass.specs.declared.groups.PlacedLists.{PlacedLists}
 use Rattle.spill_pass.specs.Lists.{InList, IsReadable, ListOutside}
-use Rattle.spill_pass.specs.Merging.{IsArea, IsMerging, Gathers, AreAscending, IsOneOf, AllOutside, AllOver, MadeAtMost, leases_held, area_pages, area_end, left_of, calls_left}
+use Rattle.spill_pass.specs.Merging.{IsArea, IsMerging, Gathers, AreAscending, IsOneOf, AllOutside, AllOver, leases_held, area_pages, area_end, left_of, calls_left}
 
 -- the leases of the places' writer, of the lists' writer and of the lists at hand
 abbrev pub groups_held : Groups → List ℕ
