@@ -56,14 +56,17 @@ fn copy_cell(bytes: &mut [u8; 2048], at: usize, cell: &[u8])
     bytes[at..at + cell.len()].copy_from_slice(cell);
 }
 
-/// Writes a page, and erases its block before where the page is its first and that is asked for.
+/// Writes a page, and erases its block before where the page is its first and that is asked for. It adds each call to `spent`
+/// before it makes it.
 fn write_next<F: Flash>(
     flash: &mut F,
     page: u32,
     erase: bool,
     bytes: &[u8; 2048],
+    spent: &mut u64,
 ) -> Result<(), Failed>
     requires can { CanWritePage (F.state flash.old) page erase }
+    requires few { spent.old + 2 < 2 ^ 64 }
     ensures written { OnOk result (F.told ≡ true → (F.state flash.new).page page ≡ bytes.now) }
     ensures entered { OnOk result (IsEntered (F.state flash.new) (page + 1) erase) }
     ensures others { ChangesOnly page (reach page erase) (F.state flash.old) (F.state flash.new) }
@@ -73,11 +76,18 @@ fn write_next<F: Flash>(
     ensures cause { HasCause (F.state flash.old).faults (F.state flash.new).faults result }
     ensures last { OnErr result ((F.state flash.new).since_fault ≡ 0) }
     ensures called { OnErr result (Rose (F.state flash.old).calls (F.state flash.new).calls) }
+    ensures counted { Counts (spent.new - spent.old) (F.state flash.old).calls (F.state flash.new).calls }
+    ensures rises { spent.old ≤ spent.new }
+    ensures most { spent.new ≤ spent.old + page_calls page erase }
+    ensures all { OnOk result (spent.new ≡ spent.old + page_calls page erase) }
 {
     if erase && page % 64 == 0 {
+        *spent += 1;
         flash.erase_block(page / 64)?;
+        *spent += 1;
         return flash.write_page(page, bytes);
     }
+    *spent += 1;
     flash.write_page(page, bytes)
 }
 
@@ -136,13 +146,51 @@ impl RunFiller {
         ensures last { OnErr result ((F.state flash.new).since_fault ≡ 0) }
         ensures called { OnErr result (Rose (F.state flash.old).calls (F.state flash.new).calls) }
     {
+        let mut spent = 0;
+        self.put_and_count(flash, buf, cell, &mut spent)
+    }
+
+    /// Adds a record, which has the run's width, and writes the page that it fills. Each call is added to `spent` before it is made.
+    ///
+    /// After a failure nothing may be put any more.
+    pub fn put_and_count<F: Flash>(
+        &mut self,
+        flash: &mut F,
+        buf: &mut [u8; 2048],
+        cell: &[u8],
+        spent: &mut u64,
+    ) -> Result<(), Failed>
+        requires can { CanWrite (F.state flash.old) self.old }
+        requires width { length cell.now ≡ self.old.width }
+        requires room { self.old.count < 2 ^ 32 - 1 }
+        requires few { spent.old + 2 < 2 ^ 64 }
+        ensures appended { OnOk result ((records : List (List ℕ)) → HasWritten F.told (F.state flash.old).page buf.old self.old records → HasWritten F.told (F.state flash.new).page buf.new self.new (records ++ cell.now ∷ [])) }
+        ensures count { OnOk result (self.new.count ≡ self.old.count + 1) }
+        ensures pages { OnOk result (self.new.pages ≡ self.old.pages + (if fills self.old then 1 else 0)) }
+        ensures held { OnOk result (self.new.held ≡ (if fills self.old then 0 else self.old.held + 1)) }
+        ensures failed { OnErr result (self.new ≡ self.old) }
+        ensures same { SameRun self.old self.new }
+        ensures entered { OnOk result (IsEntered (F.state flash.new) (next_page self.new) self.new.erase) }
+        ensures unwritten { fills self.old ≡ false → KeepsPages (F.state flash.old) (F.state flash.new) }
+        ensures others { ChangesOnly (next_page self.old) (reach (next_page self.old) self.old.erase) (F.state flash.old) (F.state flash.new) }
+        ensures exact { OnOk result (Counts (put_calls self.old) (F.state flash.old).calls (F.state flash.new).calls) }
+        ensures at_most { (F.state flash.new).calls ≤ (F.state flash.old).calls + put_calls self.old }
+        ensures deep_reads { (F.state flash.new).deep_reads ≡ (F.state flash.old).deep_reads }
+        ensures cause { HasCause (F.state flash.old).faults (F.state flash.new).faults result }
+        ensures last { OnErr result ((F.state flash.new).since_fault ≡ 0) }
+        ensures called { OnErr result (Rose (F.state flash.old).calls (F.state flash.new).calls) }
+        ensures counted { Counts (spent.new - spent.old) (F.state flash.old).calls (F.state flash.new).calls }
+        ensures rises { spent.old ≤ spent.new }
+        ensures most { spent.new ≤ spent.old + put_calls self.old }
+        ensures all { OnOk result (spent.new ≡ spent.old + put_calls self.old) }
+    {
         put_cell(buf, (self.held * self.width) as usize, cell);
         if self.held + 1 < per_page(self.width) {
             self.held += 1;
             self.count += 1;
             return Ok(());
         }
-        write_next(flash, self.first + self.pages, self.erase, buf)?;
+        write_next(flash, self.first + self.pages, self.erase, buf, spent)?;
         self.held = 0;
         self.pages += 1;
         self.count += 1;
@@ -164,6 +212,36 @@ impl RunFiller {
         ensures last { OnErr result ((F.state flash.new).since_fault ≡ 0) }
         ensures called { OnErr result (Rose (F.state flash.old).calls (F.state flash.new).calls) }
     {
+        let mut spent = 0;
+        self.finish_and_count(flash, buf, &mut spent)
+    }
+
+    /// Writes the last page, if records wait for it, and answers the run. Nothing may be put after it. Each call is added
+    /// to `spent` before it is made.
+    pub fn finish_and_count<F: Flash>(
+        &mut self,
+        flash: &mut F,
+        buf: &[u8; 2048],
+        spent: &mut u64,
+    ) -> Result<Run, Failed>
+        requires can { waits self.old ≡ true → CanWrite (F.state flash.old) self.old }
+        requires few { spent.old + 2 < 2 ^ 64 }
+        ensures run { IfOk result (λ run. IsRunOf self.old run) }
+        ensures stores { IfOk result (λ run. F.told ≡ true → (records : List (List ℕ)) → HasWritten F.told (F.state flash.old).page buf.now self.old records → Stores (F.state flash.new).page (run_of run) records) }
+        ensures same { self.new ≡ self.old }
+        ensures unwritten { waits self.old ≡ false → KeepsPages (F.state flash.old) (F.state flash.new) }
+        ensures others { ChangesOnly (next_page self.old) (reach (next_page self.old) self.old.erase) (F.state flash.old) (F.state flash.new) }
+        ensures exact { OnOk result (Counts (finish_calls self.old) (F.state flash.old).calls (F.state flash.new).calls) }
+        ensures at_most { (F.state flash.new).calls ≤ (F.state flash.old).calls + finish_calls self.old }
+        ensures deep_reads { (F.state flash.new).deep_reads ≡ (F.state flash.old).deep_reads }
+        ensures cause { HasCause (F.state flash.old).faults (F.state flash.new).faults result }
+        ensures last { OnErr result ((F.state flash.new).since_fault ≡ 0) }
+        ensures called { OnErr result (Rose (F.state flash.old).calls (F.state flash.new).calls) }
+        ensures counted { Counts (spent.new - spent.old) (F.state flash.old).calls (F.state flash.new).calls }
+        ensures rises { spent.old ≤ spent.new }
+        ensures most { spent.new ≤ spent.old + finish_calls self.old }
+        ensures all { OnOk result (spent.new ≡ spent.old + finish_calls self.old) }
+    {
         let run = Run {
             first: self.first,
             count: self.count,
@@ -172,7 +250,7 @@ impl RunFiller {
         if self.held == 0 {
             return Ok(run);
         }
-        write_next(flash, self.first + self.pages, self.erase, buf)?;
+        write_next(flash, self.first + self.pages, self.erase, buf, spent)?;
         Ok(run)
     }
 }

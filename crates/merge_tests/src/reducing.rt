@@ -54,7 +54,7 @@ fn each_call_of_a_reduction_may_fail(rt: HostRuntime) -> Result<(), AttachFault>
     let mut failed = 0u32;
     for call in 1..160u64 {
         if let Ok(came) = reduce(rt.alloc(), &drawn.ids, &drawn.places, ROWS, 6, &[call]) {
-            assert!(rt; came.left == 64, "call {call}");
+            assert!(rt; came.left == 64 && came.spent == came.calls, "call {call}");
             match came.run {
                 Ok(Some(run)) => assert!(rt; has_rows(&came.flash, &run, &drawn.wanted)),
                 Err(PageFault::Flash) => failed = failed.saturating_add(1),

@@ -67,11 +67,11 @@ group_spends {pool = pool} {later = later} old new ids left a b x was is rows si
 
 -- a list was taken
 pub spent_taken :
-    {told : Bool} {before now : Device} {pool mid later : Pool} (source rest : Source) (old new : Groups) (list : ListRef)
+    {told : Bool} {now : Device} {from to : ℕ} {pool mid later : Pool} (source rest : Source) (old new : Groups) (list : ListRef)
     → IsGrouping told now mid old → ChangesPage pool mid source.lease → AreOut pool (pass_held source old) → GaveList now source rest list
-    → now.calls + 3 * rest.lists_left ≤ before.calls + 3 * source.lists_left → TookMore told now mid later list old new
-    → PassSpent before now pool later source rest old new
-spent_taken {before = before} {now = now} {pool = pool} {mid = mid} {later = later} source rest old new list was changes are gave looked more =
+    → to + 3 * rest.lists_left ≤ from + 3 * source.lists_left → TookMore told now mid later list old new
+    → PassSpent from to pool later source rest old new
+spent_taken {pool = pool} {mid = mid} {later = later} source rest old new list was changes are gave looked more =
     let width : list.count / per_page list.run.width ≡ list.count / 512 =
     let P : ℕ → Type 0 = λ w. list.count / (2048 / w) ≡ list.count / 512 in
     subst P (sym gave.width) refl in
@@ -93,9 +93,9 @@ spent_taken {before = before} {now = now} {pool = pool} {mid = mid} {later = lat
 
 -- no list was left
 pub spent_looking :
-    {before now : Device} {pool later : Pool} (source rest : Source) (groups : Groups) → ChangesPage pool later source.lease
-    → AreOut pool (pass_held source groups) → SameSource source rest → now.calls + 3 * rest.lists_left ≤ before.calls + 3 * source.lists_left
-    → PassSpent before now pool later source rest groups groups
+    {from to : ℕ} {pool later : Pool} (source rest : Source) (groups : Groups) → ChangesPage pool later source.lease
+    → AreOut pool (pass_held source groups) → SameSource source rest → to + 3 * rest.lists_left ≤ from + 3 * source.lists_left
+    → PassSpent from to pool later source rest groups groups
 spent_looking {pool = pool} source rest groups changes are same looked = record {
   ids = omega (arith, same.ids);
   calls =
@@ -110,13 +110,13 @@ spent_looking {pool = pool} source rest groups changes are same looked = record 
 
 -- the merge of the group at hand went on
 pub spent_merging :
-    {told : Bool} {before now : Device} {pool later : Pool} (source : Source) (old new : Groups)
+    {told : Bool} {before now : Device} {from to : ℕ} {pool later : Pool} (source : Source) (old new : Groups)
     → IsGrouping told before pool old → IsGrouping told now later new → new.into.rows ≡ old.into.rows → new.size ≡ old.size
-    → ids_at_hand new ≤ ids_at_hand old → now.calls + calls_to_come later new ≤ before.calls + calls_to_come pool old
-    → PassSpent before now pool later source source old new
-spent_merging {before = before} {now = now} source old new was is rows size ids calls =
+    → ids_at_hand new ≤ ids_at_hand old → to + calls_to_come later new ≤ from + calls_to_come pool old
+    → PassSpent from to pool later source source old new
+spent_merging {from = from} {to = to} source old new was is rows size ids calls =
     let group =
-    group_spends old new (ids_in_pass source old) (ids_in_pass source new) now.calls before.calls 0 was is rows size (omega arith) (omega (arith, ids))
+    group_spends old new (ids_in_pass source old) (ids_in_pass source new) to from 0 was is rows size (omega arith) (omega (arith, ids))
     (omega (arith, calls)) in
     record { ids = omega (arith, ids); calls = omega (arith, group) }
 
@@ -128,7 +128,7 @@ more_passes p size size' ids ids' few fewer =
     mul-le-mul q m
 
 pub fewer_went :
-    {before now : Device} {pool later : Pool} (source rest : Source) (areas : Areas) (old new : Groups) (left : ℕ)
+    {before now : ℕ} {pool later : Pool} (source rest : Source) (areas : Areas) (old new : Groups) (left : ℕ)
     → PassSpent before now pool later source rest old new → new.size ≡ old.size → new.into.writer.filler.first ≡ old.into.writer.filler.first
     → CallsLeft pool source areas old left → FewerCalls before now later rest areas new left
 fewer_went {later = later} source rest areas old new left spent size first calls =
@@ -192,12 +192,12 @@ one_pass p q a b fewer less = let all : (q + 1) * a ≤ p * b = mul-le-mul fewer
 
 -- the next pass was begun
 pub fewer_passes :
-    {told : Bool} {before now : Device} {pool later : Pool} (source rest : Source) (areas : Areas) (old new begun : Groups) (placed : PlacedLists) (fan calls left : ℕ)
-    → PassEnds before now old new placed calls → PassesTo told now later rest areas new begun placed fan
-    → CallsLeft pool source areas old left → FewerCalls before now later rest areas begun left
-fewer_passes {later = later} source rest areas old new begun placed fan calls left ends to was =
-    let on = to.passed in
-    let next = after areas placed old.into.writer.filler.first to.first old.size was.passes ends.half ends.runs.lists_first was.halved was.elsewhere to.next in
+    {told : Bool} {before now : Device} {from to : ℕ} {pool later : Pool} (source rest : Source) (areas : Areas) (old new begun : Groups) (placed : PlacedLists) (fan calls left : ℕ)
+    → to ≤ from + 4 → PassEnds before now old new placed calls → PassesTo told now later rest areas new begun placed fan
+    → CallsLeft pool source areas old left → FewerCalls from to later rest areas begun left
+fewer_passes {later = later} source rest areas old new begun placed fan calls left few ends passes was =
+    let on = passes.passed in
+    let next = after areas placed old.into.writer.filler.first passes.first old.size was.passes ends.half ends.runs.lists_first was.halved was.elsewhere passes.next in
     let H : ℕ → Type 0 = λ n. n ≤ 2 ^ next.rest in
     let E : ℕ → Type 0 = λ at. (at ≡ areas.to) ⊎ (1 ≤ next.rest) in
     let most : pass_calls begun.size (ids_in_pass rest begun) ≤ pass_calls old.size (ids_in_pass source old) =
@@ -213,8 +213,7 @@ fewer_passes {later = later} source rest areas old new begun placed fan calls le
       spent =
           omega (
             arith,
-            ends.made.few,
-            ends.made.at_most.calls,
+            few,
             was.enough,
             on.calls,
             one_pass was.passes next.rest (pass_calls begun.size (ids_in_pass rest begun)) (pass_calls old.size (ids_in_pass source old)) next.fewer most,
@@ -256,19 +255,19 @@ calls_begun {pool = pool} source areas groups to places rows lists_lease places_
 
 -- what a turn of the pass came to
 pub went_spends :
-    {before now : Device} {pool later : Pool} {source rest : Source} {old new : Groups} {turn : PassTurn} {calls : ℕ} → turn ≡ Went calls
+    {before now : ℕ} {pool later : Pool} {source rest : Source} {old new : Groups} {turn : PassTurn} {calls : ℕ} → turn ≡ Went calls
     → PassSpends before now pool later source rest old new turn → PassSpent before now pool later source rest old new
 went_spends {before = before} {now = now} {pool = pool} {later = later} {source = source} {rest = rest} {old = old} {new = new} is spends =
     let P : PassTurn → Type 0 = PassSpends before now pool later source rest old new in subst P is spends
 
 -- turns one after another
 pub fewer_none :
-    {device : Device} {pool : Pool} {source : Source} {areas : Areas} {groups : Groups} {left : ℕ} → CallsLeft pool source areas groups left
-    → FewerCalls device device pool source areas groups left
-fewer_none {left = left} calls = record { still = left; calls_left = calls; spent = omega arith }
+    {calls : ℕ} {pool : Pool} {source : Source} {areas : Areas} {groups : Groups} {left : ℕ} → CallsLeft pool source areas groups left
+    → FewerCalls calls calls pool source areas groups left
+fewer_none {left = left} few = record { still = left; calls_left = few; spent = omega arith }
 
 pub fewer_again :
-    {before mid now : Device} {pool later : Pool} {source rest : Source} {areas areas' : Areas} {groups new : Groups} {left calls : ℕ} {turn : Option ℕ}
+    {before mid now : ℕ} {pool later : Pool} {source rest : Source} {areas areas' : Areas} {groups new : Groups} {left calls : ℕ} {turn : Option ℕ}
     → areas' ≡ areas → turn ≡ Some calls → FewerCalls before mid pool source areas groups left
     → ((still : ℕ) → CallsLeft pool source areas' groups still → TurnSpends mid now later rest areas' new still (Ok turn))
     → FewerCalls before now later rest areas new left
@@ -280,19 +279,19 @@ fewer_again {mid = mid} {now = now} {pool = pool} {later = later} {source = sour
     record { still = next.still; calls_left = subst D same next.calls_left; spent = omega (arith, fewer.spent, next.spent) }
 
 pub done_after :
-    {before mid : Device} {pool : Pool} {source : Source} {areas areas' : Areas} {groups : Groups} {left : ℕ} {turn : Option ℕ} (now : Device) (later : Pool) (rest : Source) (new : Groups)
+    {before mid : ℕ} {pool : Pool} {source : Source} {areas areas' : Areas} {groups : Groups} {left : ℕ} {turn : Option ℕ} (now : ℕ) (later : Pool) (rest : Source) (new : Groups)
     → areas' ≡ areas → turn ≡ None → FewerCalls before mid pool source areas groups left
     → ((still : ℕ) → CallsLeft pool source areas' groups still → TurnSpends mid now later rest areas' new still (Ok turn))
-    → now.calls ≤ before.calls + left
+    → now ≤ before + left
 done_after {mid = mid} {pool = pool} {source = source} {areas' = areas'} {groups = groups} now later rest new same is fewer turn =
     let C : Areas → Type 0 = λ x. CallsLeft pool source x groups fewer.still in
     let T : Option ℕ → Type 0 = λ o. TurnSpends mid now later rest areas' new fewer.still (Ok o) in
     omega (arith, fewer.spent, subst T is (turn fewer.still (subst C (sym same) fewer.calls_left)))
 
 pub failed_after :
-    {before mid : Device} {pool : Pool} {source : Source} {areas areas' : Areas} {groups : Groups} {left : ℕ} (now : Device) → areas' ≡ areas
-    → FewerCalls before mid pool source areas groups left → ((still : ℕ) → CallsLeft pool source areas' groups still → now.calls ≤ mid.calls + still)
-    → now.calls ≤ before.calls + left
+    {before mid : ℕ} {pool : Pool} {source : Source} {areas areas' : Areas} {groups : Groups} {left : ℕ} (now : ℕ) → areas' ≡ areas
+    → FewerCalls before mid pool source areas groups left → ((still : ℕ) → CallsLeft pool source areas' groups still → now ≤ mid + still)
+    → now ≤ before + left
 failed_after {pool = pool} {source = source} {groups = groups} now same fewer turn =
     let C : Areas → Type 0 = λ x. CallsLeft pool source x groups fewer.still in
     omega (arith, fewer.spent, turn fewer.still (subst C (sym same) fewer.calls_left))

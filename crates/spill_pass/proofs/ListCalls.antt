@@ -32,12 +32,12 @@ use Rattle.spill_pass.proofs.Reducing.{ReadsPlaced}
 
 -- a list was taken
 pub took_spent :
-    {told : Bool} (before : Device) {now : Device} {pool mid later : Pool} (source rest : Source) (old new : Groups) (list : ListRef) (ids left : ℕ)
+    {told : Bool} {now : Device} (from to : ℕ) {pool mid later : Pool} (source rest : Source) (old new : Groups) (list : ListRef) (ids left : ℕ)
     → IsGrouping told now mid old → ChangesPage pool mid source.lease → AreOut pool (pass_held source old) → GaveList now source rest list
-    → now.calls + 3 * rest.lists_left ≤ before.calls + 3 * source.lists_left → TookMore told now mid later list old new → list.count + left ≤ ids
+    → to + 3 * rest.lists_left ≤ from + 3 * source.lists_left → TookMore told now mid later list old new → list.count + left ≤ ids
     → (ids_at_hand new + left ≤ ids_at_hand old + ids)
-    × (now.calls + calls_over later rest.lists_left left new ≤ before.calls + calls_over pool source.lists_left ids old)
-took_spent before {now = now} {pool = pool} {mid = mid} {later = later} source rest old new list ids left was changes are gave looked more fits =
+    × (to + calls_over later rest.lists_left left new ≤ from + calls_over pool source.lists_left ids old)
+took_spent from to {pool = pool} {mid = mid} {later = later} source rest old new list ids left was changes are gave looked more fits =
     let width : list.count / per_page list.run.width ≡ list.count / 512 =
     let P : ℕ → Type 0 = λ w. list.count / (2048 / w) ≡ list.count / 512 in
     subst P (sym gave.width) refl in
@@ -61,24 +61,24 @@ first_fits :
 first_fits gives = omega (arith, gives.count, ap ids_of gives.is, length-append gives.first (concat gives.rest))
 
 pub took_counts :
-    {has has' : List (List ℕ) → Type 0} {told : Bool} {right : ℕ → List ℕ} {before now : Device} {pool mid later : Pool} (source rest : Source) (old new : Groups)
+    {has has' : List (List ℕ) → Type 0} {told : Bool} {right : ℕ → List ℕ} {now : Device} {from to : ℕ} {pool mid later : Pool} (source rest : Source) (old new : Groups)
     {lists given : List (List ℕ)} {rows : ℕ} {list : ListRef} (gives : GivesFirst has' now.page right rows given list)
     (all : HasAll has told right now.page later new lists) → all.left ≡ gives.rest
     → IsGrouping told now mid old → ChangesPage pool mid source.lease → AreOut pool (pass_held source old) → GaveList now source rest list
-    → now.calls + 3 * rest.lists_left ≤ before.calls + 3 * source.lists_left → TookMore told now mid later list old new
-    → HasSpent has told right before now pool later source rest old new lists (ids_of given)
-took_counts {before = before} {now = now} {pool = pool} {later = later} source rest old new {given = given} {list = list} gives all is was changes are gave looked more =
+    → to + 3 * rest.lists_left ≤ from + 3 * source.lists_left → TookMore told now mid later list old new
+    → HasSpent has told right now.page from to pool later source rest old new lists (ids_of given)
+took_counts {from = from} {to = to} source rest old new {given = given} {list = list} gives all is was changes are gave looked more =
     let P : List (List ℕ) → Type 0 = λ ls. list.count + ids_of ls ≤ ids_of given in
-    let spent = took_spent before source rest old new list (ids_of given) (ids_of all.left) was changes are gave looked more (subst P (sym is) (first_fits gives)) in
+    let spent = took_spent from to source rest old new list (ids_of given) (ids_of all.left) was changes are gave looked more (subst P (sym is) (first_fits gives)) in
     record { all = all; fewer = spent.0; calls = spent.1 }
 
 -- no list was left
 pub looked_counts :
-    {has : List (List ℕ) → Type 0} {told : Bool} {right : ℕ → List ℕ} {before now : Device} {pool later : Pool} (source rest : Source) (groups : Groups)
-    {lists : List (List ℕ)} (given : List (List ℕ)) (all : HasAll has told right now.page later groups lists) → all.left ≡ given
+    {has : List (List ℕ) → Type 0} {told : Bool} {right page : ℕ → List ℕ} {from to : ℕ} {pool later : Pool} (source rest : Source) (groups : Groups)
+    {lists : List (List ℕ)} (given : List (List ℕ)) (all : HasAll has told right page later groups lists) → all.left ≡ given
     → ChangesPage pool later source.lease → AreOut pool (pass_held source groups) → SameSource source rest
-    → now.calls + 3 * rest.lists_left ≤ before.calls + 3 * source.lists_left
-    → HasSpent has told right before now pool later source rest groups groups lists (ids_of given)
+    → to + 3 * rest.lists_left ≤ from + 3 * source.lists_left
+    → HasSpent has told right page from to pool later source rest groups groups lists (ids_of given)
 looked_counts {pool = pool} source rest groups given all is changes are same looked =
     let ids = ap ids_of is in
     record {
@@ -96,57 +96,57 @@ looked_counts {pool = pool} source rest groups given all is changes are same loo
 
 -- the merge of the group at hand went on
 pub merged_counts :
-    {has : List (List ℕ) → Type 0} {told : Bool} {right : ℕ → List ℕ} {before now : Device} {pool later : Pool} (source : Source) (old new : Groups)
+    {has : List (List ℕ) → Type 0} {told : Bool} {right : ℕ → List ℕ} {before now : Device} {from to : ℕ} {pool later : Pool} (source : Source) (old new : Groups)
     {lists : List (List ℕ)} (given : List (List ℕ)) (all : HasAll has told right now.page later new lists) → all.left ≡ given
     → IsGrouping told before pool old → IsGrouping told now later new → new.into.rows ≡ old.into.rows → new.size ≡ old.size
-    → ids_at_hand new ≤ ids_at_hand old → now.calls + calls_to_come later new ≤ before.calls + calls_to_come pool old
-    → HasSpent has told right before now pool later source source old new lists (ids_of given)
-merged_counts {before = before} {now = now} source old new given all is was grouping rows size ids calls =
+    → ids_at_hand new ≤ ids_at_hand old → to + calls_to_come later new ≤ from + calls_to_come pool old
+    → HasSpent has told right now.page from to pool later source source old new lists (ids_of given)
+merged_counts {from = from} {to = to} source old new given all is was grouping rows size ids calls =
     let same = ap ids_of is in
     let group =
-    group_spends old new (ids_at_hand old + ids_of given) (ids_at_hand new + ids_of all.left) now.calls before.calls 0 was grouping rows size
+    group_spends old new (ids_at_hand old + ids_of given) (ids_at_hand new + ids_of all.left) to from 0 was grouping rows size
     (omega arith) (omega (arith, ids, same)) (omega (arith, calls)) in
     record { all = all; fewer = omega (arith, ids, same); calls = omega (arith, group, same) }
 
 -- the last pages were written, where no list was left
 pub ends_counts :
-    {has : List (List ℕ) → Type 0} (has' : List (List ℕ) → Type 0) {told : Bool} {right : ℕ → List ℕ} {before mid : Device} (now : Device) {pool then : Pool} (later : Pool)
+    {has : List (List ℕ) → Type 0} (has' : List (List ℕ) → Type 0) {told : Bool} {right page : ℕ → List ℕ} {before mid : ℕ} (later_page : ℕ → List ℕ) (now : ℕ) {pool then : Pool} (later : Pool)
     {source rest : Source} (last : Source) {old groups : Groups} (new : Groups) {lists : List (List ℕ)} {ids : ℕ} (result : Result PassTurn PageFault)
-    → HasSpent has told right before mid pool then source rest old groups lists ids → IfOk result (EndsPass groups)
-    → IfOk result (PassSpendsIds has' told right before now pool later source last old new lists ids)
-ends_counts has' now later last new (Ok (Went calls)) spent ends = absurd ends
-ends_counts has' now later last new (Ok (Placed placed calls)) spent ends = omega (arith, ends, spent.fewer)
-ends_counts has' now later last new (Err fault) spent ends = tt
+    → HasSpent has told right page before mid pool then source rest old groups lists ids → IfOk result (EndsPass groups)
+    → IfOk result (PassSpendsIds has' told right later_page before now pool later source last old new lists ids)
+ends_counts has' later_page now later last new (Ok (Went calls)) spent ends = absurd ends
+ends_counts has' later_page now later last new (Ok (Placed placed calls)) spent ends = omega (arith, ends, spent.fewer)
+ends_counts has' later_page now later last new (Err fault) spent ends = tt
 
 -- nothing was done
 pub no_counts :
-    {has : List (List ℕ) → Type 0} {told : Bool} {right : ℕ → List ℕ} {device : Device} {pool : Pool} (source : Source) (groups : Groups) {lists : List (List ℕ)}
-    (h : HasAll has told right device.page pool groups lists) → HasSpent has told right device device pool pool source source groups groups lists (ids_of h.left)
+    {has : List (List ℕ) → Type 0} {told : Bool} {right page : ℕ → List ℕ} {calls : ℕ} {pool : Pool} (source : Source) (groups : Groups) {lists : List (List ℕ)}
+    (h : HasAll has told right page pool groups lists) → HasSpent has told right page calls calls pool pool source source groups groups lists (ids_of h.left)
 no_counts source groups h = record { all = h; fewer = omega arith; calls = omega arith }
 
 -- what a turn of the pass came to
 pub went_counts :
-    {has : List (List ℕ) → Type 0} {told : Bool} {right : ℕ → List ℕ} {before now : Device} {pool later : Pool} {source rest : Source} {old new : Groups}
+    {has : List (List ℕ) → Type 0} {told : Bool} {right page : ℕ → List ℕ} {before now : ℕ} {pool later : Pool} {source rest : Source} {old new : Groups}
     {lists : List (List ℕ)} {ids : ℕ} {turn : PassTurn} {calls : ℕ} → turn ≡ Went calls
-    → PassSpendsIds has told right before now pool later source rest old new lists ids turn
-    → HasSpent has told right before now pool later source rest old new lists ids
-went_counts {has = has} {told = told} {right = right} {before = before} {now = now} {pool = pool} {later = later} {source = source} {rest = rest} {old = old} {new = new} {lists = lists} {ids = ids} is spends =
-    let P : PassTurn → Type 0 = PassSpendsIds has told right before now pool later source rest old new lists ids in subst P is spends
+    → PassSpendsIds has told right page before now pool later source rest old new lists ids turn
+    → HasSpent has told right page before now pool later source rest old new lists ids
+went_counts {has = has} {told = told} {right = right} {page = page} {before = before} {now = now} {pool = pool} {later = later} {source = source} {rest = rest} {old = old} {new = new} {lists = lists} {ids = ids} is spends =
+    let P : PassTurn → Type 0 = PassSpendsIds has told right page before now pool later source rest old new lists ids in subst P is spends
 
 pub placed_counts :
-    (has : List (List ℕ) → Type 0) (told : Bool) (right : ℕ → List ℕ) (before now : Device) (pool later : Pool) (source rest : Source) (old new : Groups)
+    (has : List (List ℕ) → Type 0) (told : Bool) (right page : ℕ → List ℕ) (before now : ℕ) (pool later : Pool) (source rest : Source) (old new : Groups)
     (lists : List (List ℕ)) (ids : ℕ) {turn : PassTurn} {placed : PlacedLists} {calls : ℕ} → turn ≡ Placed placed calls
-    → PassSpendsIds has told right before now pool later source rest old new lists ids turn → placed.lists.count ≤ ids_at_hand old + ids
-placed_counts has told right before now pool later source rest old new lists ids is spends =
-    let P : PassTurn → Type 0 = PassSpendsIds has told right before now pool later source rest old new lists ids in subst P is spends
+    → PassSpendsIds has told right page before now pool later source rest old new lists ids turn → placed.lists.count ≤ ids_at_hand old + ids
+placed_counts has told right page before now pool later source rest old new lists ids is spends =
+    let P : PassTurn → Type 0 = PassSpendsIds has told right page before now pool later source rest old new lists ids in subst P is spends
 
 -- a turn of the pass
 pub counts_went :
-    {told : Bool} {before now : Device} {pool later : Pool} (has has' : (ℕ → List ℕ) → List (List ℕ) → Type 0) (source rest : Source) (areas : Areas) (old new : Groups)
-    {lists : List (List ℕ)} {left : ℕ} (h : ReduceCounts has told before.page pool source areas old lists left)
-    → HasSpent (has' h.has_all.right) told h.has_all.right before now pool later source rest old new h.has_all.ids (ids_of h.has_all.holds.left)
+    {told : Bool} {page later_page : ℕ → List ℕ} {before now : ℕ} {pool later : Pool} (has has' : (ℕ → List ℕ) → List (List ℕ) → Type 0) (source rest : Source) (areas : Areas) (old new : Groups)
+    {lists : List (List ℕ)} {left : ℕ} (h : ReduceCounts has told page pool source areas old lists left)
+    → HasSpent (has' h.has_all.right) told h.has_all.right later_page before now pool later source rest old new h.has_all.ids (ids_of h.has_all.holds.left)
     → new.size ≡ old.size → new.into.writer.filler.first ≡ old.into.writer.filler.first
-    → FewerCounts has' told before now later rest areas new lists left
+    → FewerCounts has' told later_page before now later rest areas new lists left
 counts_went {later = later} has has' source rest areas old new h spent size first =
     let E : ℕ → Type 0 = λ at. (at ≡ areas.to) ⊎ (1 ≤ h.passes) in
     let H : ℕ → Type 0 = λ n. n ≤ 2 ^ h.passes in
@@ -174,14 +174,14 @@ less_over pool source groups ids few = omega (arith, few)
 
 -- the next pass was begun
 pub counts_passed :
-    {told : Bool} {before now : Device} {pool later : Pool} (has has' : (ℕ → List ℕ) → List (List ℕ) → Type 0) (source rest : Source) (areas : Areas) (old new begun : Groups)
+    {told : Bool} {before now : Device} {from to : ℕ} {pool later : Pool} (has has' : (ℕ → List ℕ) → List (List ℕ) → Type 0) (source rest : Source) (areas : Areas) (old new begun : Groups)
     (placed : PlacedLists) (fan calls : ℕ) {lists : List (List ℕ)} {left : ℕ} (h : ReduceCounts has told before.page pool source areas old lists left)
-    → PassEnds before now old new placed calls → placed.lists.count ≤ ids_at_hand old + ids_of h.has_all.holds.left
+    → to ≤ from + 4 → PassEnds before now old new placed calls → placed.lists.count ≤ ids_at_hand old + ids_of h.has_all.holds.left
     → PassesTo told now later rest areas new begun placed fan → BeginsPass has' told now.page later rest begun lists
-    → FewerCounts has' told before now later rest areas begun lists left
-counts_passed {later = later} has has' source rest areas old new begun placed fan calls h ends few to begins =
-    let on = to.passed in
-    let next = after areas placed old.into.writer.filler.first to.first old.size h.passes ends.half ends.runs.lists_first h.halved h.elsewhere to.next in
+    → FewerCounts has' told now.page from to later rest areas begun lists left
+counts_passed {later = later} has has' source rest areas old new begun placed fan calls h most_calls ends few passes begins =
+    let on = passes.passed in
+    let next = after areas placed old.into.writer.filler.first passes.first old.size h.passes ends.half ends.runs.lists_first h.halved h.elsewhere passes.next in
     let H : ℕ → Type 0 = λ n. n ≤ 2 ^ next.rest in
     let E : ℕ → Type 0 = λ at. (at ≡ areas.to) ⊎ (1 ≤ next.rest) in
     let had = ids_at_hand old + ids_of h.has_all.holds.left in
@@ -199,8 +199,7 @@ counts_passed {later = later} has has' source rest areas old new begun placed fa
       spent =
           omega (
             arith,
-            ends.made.few,
-            ends.made.at_most.calls,
+            most_calls,
             h.enough,
             on.calls,
             less_over later rest begun ids begins.few,
@@ -237,46 +236,46 @@ counts_enough pool source groups to places rows lists_lease places_lease k lists
 
 -- turns one after another
 pub counts_none :
-    {has : (ℕ → List ℕ) → List (List ℕ) → Type 0} {told : Bool} {device : Device} {pool : Pool} {source : Source} {areas : Areas} {groups : Groups} {lists : List (List ℕ)} {left : ℕ}
-    → ReduceCounts has told device.page pool source areas groups lists left → FewerCounts has told device device pool source areas groups lists left
+    {has : (ℕ → List ℕ) → List (List ℕ) → Type 0} {told : Bool} {page : ℕ → List ℕ} {calls : ℕ} {pool : Pool} {source : Source} {areas : Areas} {groups : Groups} {lists : List (List ℕ)} {left : ℕ}
+    → ReduceCounts has told page pool source areas groups lists left → FewerCounts has told page calls calls pool source areas groups lists left
 counts_none {left = left} counts = record { still = left; counts = counts; spent = omega arith }
 
 pub again_counts :
-    (has has' : ℕ → (ℕ → List ℕ) → List (List ℕ) → Type 0) {told : Bool} {before mid now : Device} {pool later : Pool} {source rest : Source} {areas areas' : Areas} {groups new : Groups}
+    (has has' : ℕ → (ℕ → List ℕ) → List (List ℕ) → Type 0) {told : Bool} {page later_page : ℕ → List ℕ} {before mid now : ℕ} {pool later : Pool} {source rest : Source} {areas areas' : Areas} {groups new : Groups}
     {lists : List (List ℕ)} {rows rows' left calls : ℕ} {turn : Option ℕ}
-    → rows' ≡ rows → areas' ≡ areas → turn ≡ Some calls → FewerCounts (has rows) told before mid pool source areas groups lists left
-    → ((still : ℕ) → ReduceCounts (has rows') told mid.page pool source areas' groups lists still → TurnCounts (has' rows') told mid now later rest areas' new lists still (Ok turn))
-    → FewerCounts (has' rows) told before now later rest areas new lists left
-again_counts has has' {told = told} {mid = mid} {now = now} {pool = pool} {later = later} {source = source} {rest = rest} {areas = areas} {areas' = areas'} {groups = groups} {new = new} {lists = lists} {rows = rows} {rows' = rows'} same_rows same is fewer turn =
-    let R : ℕ → Type 0 = λ n. ReduceCounts (has n) told mid.page pool source areas' groups lists fewer.still in
-    let C : Areas → Type 0 = λ x. ReduceCounts (has rows) told mid.page pool source x groups lists fewer.still in
-    let T : Option ℕ → Type 0 = λ o. TurnCounts (has' rows') told mid now later rest areas' new lists fewer.still (Ok o) in
+    → rows' ≡ rows → areas' ≡ areas → turn ≡ Some calls → FewerCounts (has rows) told page before mid pool source areas groups lists left
+    → ((still : ℕ) → ReduceCounts (has rows') told page pool source areas' groups lists still → TurnCounts (has' rows') told later_page mid now later rest areas' new lists still (Ok turn))
+    → FewerCounts (has' rows) told later_page before now later rest areas new lists left
+again_counts has has' {told = told} {page = page} {later_page = later_page} {mid = mid} {now = now} {pool = pool} {later = later} {source = source} {rest = rest} {areas = areas} {areas' = areas'} {groups = groups} {new = new} {lists = lists} {rows = rows} {rows' = rows'} same_rows same is fewer turn =
+    let R : ℕ → Type 0 = λ n. ReduceCounts (has n) told page pool source areas' groups lists fewer.still in
+    let C : Areas → Type 0 = λ x. ReduceCounts (has rows) told page pool source x groups lists fewer.still in
+    let T : Option ℕ → Type 0 = λ o. TurnCounts (has' rows') told later_page mid now later rest areas' new lists fewer.still (Ok o) in
     let next = subst T is (turn fewer.still (subst R (sym same_rows) (subst C (sym same) fewer.counts))) in
-    let D : Areas → Type 0 = λ x. ReduceCounts (has' rows') told now.page later rest x new lists next.still in
-    let E : ℕ → Type 0 = λ n. ReduceCounts (has' n) told now.page later rest areas new lists next.still in
+    let D : Areas → Type 0 = λ x. ReduceCounts (has' rows') told later_page later rest x new lists next.still in
+    let E : ℕ → Type 0 = λ n. ReduceCounts (has' n) told later_page later rest areas new lists next.still in
     record { still = next.still; counts = subst E same_rows (subst D same next.counts); spent = omega (arith, fewer.spent, next.spent) }
 
 pub counts_done :
-    (has has' : ℕ → (ℕ → List ℕ) → List (List ℕ) → Type 0) {told : Bool} {before mid : Device} {pool : Pool} {source : Source} {areas areas' : Areas} {groups : Groups}
-    {lists : List (List ℕ)} {rows rows' left : ℕ} {turn : Option ℕ} (now : Device) (later : Pool) (rest : Source) (new : Groups)
-    → rows' ≡ rows → areas' ≡ areas → turn ≡ None → FewerCounts (has rows) told before mid pool source areas groups lists left
-    → ((still : ℕ) → ReduceCounts (has rows') told mid.page pool source areas' groups lists still → TurnCounts (has' rows') told mid now later rest areas' new lists still (Ok turn))
-    → now.calls ≤ before.calls + left
-counts_done has has' {told = told} {mid = mid} {pool = pool} {source = source} {areas = areas} {areas' = areas'} {groups = groups} {lists = lists} {rows = rows} {rows' = rows'} now later rest new same_rows same is fewer turn =
-    let R : ℕ → Type 0 = λ n. ReduceCounts (has n) told mid.page pool source areas' groups lists fewer.still in
-    let C : Areas → Type 0 = λ x. ReduceCounts (has rows) told mid.page pool source x groups lists fewer.still in
-    let T : Option ℕ → Type 0 = λ o. TurnCounts (has' rows') told mid now later rest areas' new lists fewer.still (Ok o) in
+    (has has' : ℕ → (ℕ → List ℕ) → List (List ℕ) → Type 0) {told : Bool} {page : ℕ → List ℕ} {before mid : ℕ} {pool : Pool} {source : Source} {areas areas' : Areas} {groups : Groups}
+    {lists : List (List ℕ)} {rows rows' left : ℕ} {turn : Option ℕ} (later_page : ℕ → List ℕ) (now : ℕ) (later : Pool) (rest : Source) (new : Groups)
+    → rows' ≡ rows → areas' ≡ areas → turn ≡ None → FewerCounts (has rows) told page before mid pool source areas groups lists left
+    → ((still : ℕ) → ReduceCounts (has rows') told page pool source areas' groups lists still → TurnCounts (has' rows') told later_page mid now later rest areas' new lists still (Ok turn))
+    → now ≤ before + left
+counts_done has has' {told = told} {page = page} {mid = mid} {pool = pool} {source = source} {areas = areas} {areas' = areas'} {groups = groups} {lists = lists} {rows = rows} {rows' = rows'} later_page now later rest new same_rows same is fewer turn =
+    let R : ℕ → Type 0 = λ n. ReduceCounts (has n) told page pool source areas' groups lists fewer.still in
+    let C : Areas → Type 0 = λ x. ReduceCounts (has rows) told page pool source x groups lists fewer.still in
+    let T : Option ℕ → Type 0 = λ o. TurnCounts (has' rows') told later_page mid now later rest areas' new lists fewer.still (Ok o) in
     omega (arith, fewer.spent, subst T is (turn fewer.still (subst R (sym same_rows) (subst C (sym same) fewer.counts))))
 
 pub counts_failed :
-    (has : ℕ → (ℕ → List ℕ) → List (List ℕ) → Type 0) {told : Bool} {before mid : Device} {pool : Pool} {source : Source} {areas areas' : Areas} {groups : Groups}
-    {lists : List (List ℕ)} {rows rows' left : ℕ} (now : Device) → rows' ≡ rows → areas' ≡ areas
-    → FewerCounts (has rows) told before mid pool source areas groups lists left
-    → ((still : ℕ) → ReduceCounts (has rows') told mid.page pool source areas' groups lists still → now.calls ≤ mid.calls + still)
-    → now.calls ≤ before.calls + left
-counts_failed has {told = told} {mid = mid} {pool = pool} {source = source} {areas' = areas'} {groups = groups} {lists = lists} {rows = rows} now same_rows same fewer turn =
-    let R : ℕ → Type 0 = λ n. ReduceCounts (has n) told mid.page pool source areas' groups lists fewer.still in
-    let C : Areas → Type 0 = λ x. ReduceCounts (has rows) told mid.page pool source x groups lists fewer.still in
+    (has : ℕ → (ℕ → List ℕ) → List (List ℕ) → Type 0) {told : Bool} {page : ℕ → List ℕ} {before mid : ℕ} {pool : Pool} {source : Source} {areas areas' : Areas} {groups : Groups}
+    {lists : List (List ℕ)} {rows rows' left : ℕ} (now : ℕ) → rows' ≡ rows → areas' ≡ areas
+    → FewerCounts (has rows) told page before mid pool source areas groups lists left
+    → ((still : ℕ) → ReduceCounts (has rows') told page pool source areas' groups lists still → now ≤ mid + still)
+    → now ≤ before + left
+counts_failed has {told = told} {page = page} {mid = mid} {pool = pool} {source = source} {areas' = areas'} {groups = groups} {lists = lists} {rows = rows} now same_rows same fewer turn =
+    let R : ℕ → Type 0 = λ n. ReduceCounts (has n) told page pool source areas' groups lists fewer.still in
+    let C : Areas → Type 0 = λ x. ReduceCounts (has rows) told page pool source x groups lists fewer.still in
     omega (arith, fewer.spent, turn fewer.still (subst R (sym same_rows) (subst C (sym same) fewer.counts)))
 
 -- at the beginning of a pass

@@ -1,16 +1,17 @@
 -- What holds of a pass where the merge of the group at hand went on, where its list stands, and at the beginning and the end.
-use Rattle.std.proofs.Common.{◌≡◌, ◌∙◌, ℕ, zero, suc, ◌+◌, ◌*◌, ◌<◌, ◌≤◌, ◌⊎◌, inl, inr, Bool, true, false, List, [], ◌∷◌, length, ap, sym, refl, subst, arith}
+use Rattle.std.proofs.Common.{◌≡◌, ◌∙◌, ℕ, zero, suc, ◌+◌, ◌-◌, ◌*◌, ◌<◌, ◌≤◌, ◌⊎◌, inl, inr, Bool, true, false, List, [], ◌∷◌, length, ap, sym, refl, subst, arith}
 use Rattle.ghost_model.specs.core.Causes.{Rose}
-use Rattle.edge_traits.specs.Devices.{Device}
+use Rattle.edge_traits.specs.Devices.{Device, Counts}
 use Rattle.page_pool.specs.Pools.{Pool, AreOut}
 use Rattle.id_merge.specs.Cursors.{leases_of}
 use Rattle.spill_pass.specs.declared.groups.Groups.{Groups}
 use Rattle.spill_pass.specs.declared.groups.PlacedLists.{PlacedLists}
-use Rattle.spill_pass.specs.Grouping.{IsBegun, AreRunsOf, Made, IsGrouping, WentOn, ListStands, groups_held, lists_at_hand}
+use Rattle.spill_pass.specs.Grouping.{IsBegun, AreRunsOf, IsGrouping, WentOn, ListStands, groups_held, lists_at_hand}
 use Rattle.spill_pass.specs.Merging.{AllOver, MadeAtMost, area_pages}
 use Rattle.spill_pass.specs.Passing.{CanPass, IsPassing, PassGoes, ArePairs, IsComplete, MadeFew, PassWent, PassEnds, pass_held, pass_left}
 use Rattle.spill_pass.specs.Sources.{Source}
 use Rattle.spill_pass.proofs.Closing.{none_hand}
+use Rattle.spill_pass.proofs.Counted.{counts_rose}
 use Rattle.spill_pass.proofs.Over.{over_none, over_of}
 use Rattle.spill_pass.proofs.PassFrames.{buffers_same}
 use Rattle.spill_pass.proofs.PassTaking.{no_truth, outside_still}
@@ -178,8 +179,14 @@ pub went_less :
     → pass_left later source new true < pass_left pool source old true
 went_less source old new went = omega (arith, went.lists, went.fewer)
 
-pub made_two : {calls : ℕ} {before now : Device} → Made calls before now → MadeFew calls before now
-made_two made = record { few = omega (arith, made.few); at_most = made.at_most; called = made.called }
+pub made_two :
+    {calls : ℕ} {before now : Device} (old new : ℕ) → calls ≡ new - old → new ≤ old + 2 → MadeAtMost (new - old) before now
+    → Counts (new - old) before.calls now.calls → MadeFew calls before now
+made_two old new is few most counts = record {
+  few = omega (arith, is, few);
+  at_most = record { calls = omega (arith, is, most.calls); deep_reads = omega (arith, is, most.deep_reads) };
+  called = λ some. counts_rose (omega (arith, is, some)) counts;
+}
 
 -- a pass begins
 pub pass_begun :

@@ -1,6 +1,5 @@
 -- How many calls of the flash the passes make at most, those of their source among them.
 use Rattle.std.specs.Prelude.{◌≡◌, ℕ, ◌+◌, ◌-◌, ◌*◌, ◌/◌, ◌^◌, ◌≤◌, ◌⊎◌, Bool, true, false, Option, Some, None, Result, Ok, Err}
-use Rattle.edge_traits.specs.Devices.{Device}
 use Rattle.page_pool.specs.Pools.{Pool}
 use Rattle.flash_pages.specs.declared.fault.PageFault.{PageFault}
 use Rattle.id_merge.specs.Merges.{unread}
@@ -31,13 +30,13 @@ pass_calls_left pool source groups =
     5 * source.lists_left + source.ids_left / 512 + group_calls_left pool (ids_in_pass source groups) groups + 4
 
 -- what was called is taken off what is left, and no identifier came to the pass
-pub record PassSpent (before now : Device) (pool later : Pool) (source rest : Source) (old new : Groups) : Type 0 where
+pub record PassSpent (before now : ℕ) (pool later : Pool) (source rest : Source) (old new : Groups) : Type 0 where
   pub ids : ids_in_pass rest new ≤ ids_in_pass source old
-  pub calls : now.calls + pass_calls_left later rest new ≤ before.calls + pass_calls_left pool source old
+  pub calls : now + pass_calls_left later rest new ≤ before + pass_calls_left pool source old
 
-abbrev pub PassSpends : (before now : Device) (pool later : Pool) (source rest : Source) (old new : Groups) → PassTurn → Type 0
+abbrev pub PassSpends : (before now : ℕ) (pool later : Pool) (source rest : Source) (old new : Groups) → PassTurn → Type 0
 PassSpends before now pool later source rest old new (Went calls) = PassSpent before now pool later source rest old new
-PassSpends before now pool later source rest old new (Placed placed calls) = now.calls ≤ before.calls + pass_calls_left pool source old
+PassSpends before now pool later source rest old new (Placed placed calls) = now ≤ before + pass_calls_left pool source old
 
 -- all passes make no more calls than are left: after the one at hand there are so many at most, since half as many lists come from
 -- each, rounded up, and one more may bring the one list where it is to stand
@@ -48,17 +47,17 @@ pub record CallsLeft (pool : Pool) (source : Source) (areas : Areas) (groups : G
   pub enough : pass_calls_left pool source groups + passes * pass_calls groups.size (ids_in_pass source groups) ≤ left
 
 -- what was called is taken off what is left
-pub record FewerCalls (before now : Device) (later : Pool) (rest : Source) (areas : Areas) (new : Groups) (left : ℕ) : Type 0 where
+pub record FewerCalls (before now : ℕ) (later : Pool) (rest : Source) (areas : Areas) (new : Groups) (left : ℕ) : Type 0 where
   pub still : ℕ
   pub calls_left : CallsLeft later rest areas new still
-  pub spent : now.calls + still ≤ before.calls + left
+  pub spent : now + still ≤ before + left
 
-abbrev pub TurnSpends : (before now : Device) (later : Pool) (rest : Source) (areas : Areas) (new : Groups) (left : ℕ) → Result (Option ℕ) PageFault → Type 0
+abbrev pub TurnSpends : (before now : ℕ) (later : Pool) (rest : Source) (areas : Areas) (new : Groups) (left : ℕ) → Result (Option ℕ) PageFault → Type 0
 TurnSpends before now later rest areas new left (Ok (Some calls)) = FewerCalls before now later rest areas new left
-TurnSpends before now later rest areas new left (Ok None) = now.calls ≤ before.calls + left
-TurnSpends before now later rest areas new left (Err fault) = now.calls ≤ before.calls + left
+TurnSpends before now later rest areas new left (Ok None) = now ≤ before + left
+TurnSpends before now later rest areas new left (Err fault) = now ≤ before + left
 
-abbrev pub StepSpends : (before now : Device) (later : Pool) (rest : Source) (areas : Areas) (new : Groups) (left : ℕ) → Result Bool PageFault → Type 0
-StepSpends before now later rest areas new left (Ok true) = now.calls ≤ before.calls + left
+abbrev pub StepSpends : (before now : ℕ) (later : Pool) (rest : Source) (areas : Areas) (new : Groups) (left : ℕ) → Result Bool PageFault → Type 0
+StepSpends before now later rest areas new left (Ok true) = now ≤ before + left
 StepSpends before now later rest areas new left (Ok false) = FewerCalls before now later rest areas new left
-StepSpends before now later rest areas new left (Err fault) = now.calls ≤ before.calls + left
+StepSpends before now later rest areas new left (Err fault) = now ≤ before + left

@@ -1,7 +1,6 @@
 -- What a fault of a call that reads and writes pages tells of the flash.
-use Rattle.std.specs.Prelude.{◌≡◌, ℕ, ◌-◌, ⊤, Result, Ok, Err}
+use Rattle.std.specs.Prelude.{◌≡◌, ℕ, ⊤, Result, Ok, Err}
 use Rattle.ghost_model.specs.core.Causes.{Rose}
-use Rattle.edge_traits.specs.Devices.{Counts}
 use Rattle.flash_pages.specs.declared.fault.PageFault.{PageFault}
 use Rattle.flash_pages.specs.declared.fault.PageFault.TheVariants.{Flash, Damaged}
 
@@ -22,15 +21,3 @@ abbrev pub CallsAtFault : {T : Type 0} → (before now : ℕ) → Result T PageF
 CallsAtFault before now (Ok value) = ⊤
 CallsAtFault before now (Err Flash) = Rose before now
 CallsAtFault before now (Err (Damaged page slot found)) = ⊤
-
--- what was added to a count is how many calls were made; where the flash is blamed, it was called
-abbrev pub CountsCalls : {T : Type 0} → (before now : ℕ) → (old new : ℕ) → Result T PageFault → Type 0
-CountsCalls before now old new (Ok value) = Counts (new - old) before now
-CountsCalls before now old new (Err Flash) = Rose before now
-CountsCalls before now old new (Err (Damaged page slot found)) = Counts (new - old) before now
-
--- where a slot is blamed no call was made
-abbrev pub QuietAtDamage : {T : Type 0} → (before now : ℕ) → Result T PageFault → Type 0
-QuietAtDamage before now (Ok value) = ⊤
-QuietAtDamage before now (Err Flash) = ⊤
-QuietAtDamage before now (Err (Damaged page slot found)) = now ≡ before

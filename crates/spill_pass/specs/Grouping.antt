@@ -1,11 +1,10 @@
 -- Lists that are merged group by group: where what is written lies, which leases are held, and what stands so far.
 use Rattle.std.specs.Prelude.{◌≡◌, ℕ, ◌+◌, ◌-◌, ◌*◌, ◌/◌, ◌<◌, ◌≤◌, ◌⊎◌, ◌↔◌, ◌++◌, Bool, true, ⊤, List, [], ◌∷◌, length, map, get_or, Result, Ok, Err}
 use Rattle.std.specs.List.{concat}
-use Rattle.ghost_model.specs.core.Causes.{Rose}
 use Rattle.ghost_model.specs.forms.Runs as runs
 use Rattle.ghost_base.specs.declared.runs.ListRef.{ListRef}
 use Rattle.ghost_base.specs.Runs.{run_of}
-use Rattle.edge_traits.specs.Devices.{Device, Counts, SamePage}
+use Rattle.edge_traits.specs.Devices.{Device, SamePage}
 use Rattle.page_pool.specs.Pools.{Pool, AreOut, KeepsOthers, others_out}
 use Rattle.flash_pages.specs.declared.fault.PageFault.{PageFault}
 use Rattle.flash_pages.specs.Writing.{IsEntered}
@@ -18,7 +17,7 @@ use Rattle.spill_pass.specs.declared.groups.GroupTurn.{GroupTurn}
 use Rattle.spill_pass.specs.declared.groups.GroupTurn.TheVariants.{Went, Listed}
 use Rattle.spill_pass.specs.declared.groups.PlacedLists.{PlacedLists}
 use Rattle.spill_pass.specs.Lists.{InList, IsReadable, ListOutside}
-use Rattle.spill_pass.specs.Merging.{IsArea, IsMerging, Gathers, AreAscending, IsOneOf, AllOutside, AllOver, MadeAtMost, leases_held, area_pages, area_end, left_of, calls_left}
+use Rattle.spill_pass.specs.Merging.{IsArea, IsMerging, Gathers, AreAscending, IsOneOf, AllOutside, AllOver, leases_held, area_pages, area_end, left_of, calls_left}
 
 -- the leases of the places' writer, of the lists' writer and of the lists at hand
 abbrev pub groups_held : Groups → List ℕ
@@ -124,13 +123,6 @@ pub record TookMore (told : Bool) (device : Device) (pool later : Pool) (list : 
   pub over : AllOver list.run old.into.rows old.into.merge.cursors.items → AllOver list.run old.into.rows new.into.merge.cursors.items
   pub outside : (low high : ℕ) → ListOutside low high list → AllOutside low high old.into.merge.cursors.items → AllOutside low high new.into.merge.cursors.items
 
--- so many calls were made, and never more than two
-pub record Made (calls : ℕ) (before now : Device) : Type 0 where
-  pub few : calls ≤ 2
-  pub at_most : MadeAtMost calls before now
-  pub called : 0 < calls → Rose before.calls now.calls
-  pub exact : Counts calls before.calls now.calls
-
 -- the merge of the group at hand went on
 pub record WentOn (told : Bool) (now : Device) (pool later : Pool) (old new : Groups) : Type 0 where
   pub grouping : IsGrouping told now later new
@@ -148,9 +140,9 @@ pub record ListStands (told : Bool) (now : Device) (pool later : Pool) (old new 
   pub placed : new.places.filler.count ≡ old.places.filler.count + 1
   pub none_found : new.into.merge.last ≡ 0
 
-abbrev pub TurnTells : (told : Bool) (before now : Device) (pool later : Pool) (old new : Groups) → GroupTurn → Type 0
-TurnTells told before now pool later old new (Went calls) = Made calls before now × WentOn told now pool later old new
-TurnTells told before now pool later old new (Listed calls) = Made calls before now × ListStands told now pool later old new
+abbrev pub TurnTells : (told : Bool) (now : Device) (pool later : Pool) (old new : Groups) → GroupTurn → Type 0
+TurnTells told now pool later old new Went = WentOn told now pool later old new
+TurnTells told now pool later old new Listed = ListStands told now pool later old new
 
 -- identifiers that ascend, from 1 to the rows
 pub record IsRowList (rows : ℕ) (ids : List ℕ) : Type 0 where
@@ -192,8 +184,8 @@ pub record ListsGroup (told : Bool) (right : ℕ → List ℕ) (merge : Merge) (
   pub empty : (id : ℕ) → Remains right groups.into.merge id → ⊥
 
 abbrev pub TurnGives : (told : Bool) (right : ℕ → List ℕ) → Merge → (lists : List (List ℕ)) (page : ℕ → List ℕ) → Pool → Groups → Result GroupTurn PageFault → Type 0
-TurnGives told right merge lists page pool groups (Ok (Went calls)) = IsGrouped told right merge lists page pool groups
-TurnGives told right merge lists page pool groups (Ok (Listed calls)) = ListsGroup told right merge lists page pool groups
+TurnGives told right merge lists page pool groups (Ok Went) = IsGrouped told right merge lists page pool groups
+TurnGives told right merge lists page pool groups (Ok Listed) = ListsGroup told right merge lists page pool groups
 TurnGives told right merge lists page pool groups (Err fault) = ⊤
 
 -- the pages have these lists, one behind another in a run, and their places

@@ -1,7 +1,6 @@
 -- How many calls of the flash the passes make at most by the identifiers that their lists have themselves, where pages are told.
 use Rattle.std.specs.Prelude.{◌≡◌, ℕ, ◌+◌, ◌*◌, ◌/◌, ◌^◌, ◌≤◌, ◌⊎◌, Bool, true, false, List, length, Option, Some, None, Result, Ok, Err}
 use Rattle.std.specs.List.{concat}
-use Rattle.edge_traits.specs.Devices.{Device}
 use Rattle.page_pool.specs.Pools.{Pool}
 use Rattle.flash_pages.specs.declared.fault.PageFault.{PageFault}
 use Rattle.spill_pass.specs.declared.groups.Groups.{Groups}
@@ -23,15 +22,15 @@ abbrev pub calls_over : Pool → (lists ids : ℕ) → Groups → ℕ
 calls_over pool lists ids groups = 5 * lists + ids / 512 + group_calls_left pool (ids_at_hand groups + ids) groups + 4
 
 -- all lists have together what they had. What was called is taken off what is left, and no identifier came to the pass
-pub record HasSpent (has : List (List ℕ) → Type 0) (told : Bool) (right : ℕ → List ℕ) (before now : Device) (pool later : Pool) (source rest : Source) (old new : Groups) (lists : List (List ℕ)) (ids : ℕ) : Type 0 where
-  pub all : HasAll has told right now.page later new lists
+pub record HasSpent (has : List (List ℕ) → Type 0) (told : Bool) (right page : ℕ → List ℕ) (before now : ℕ) (pool later : Pool) (source rest : Source) (old new : Groups) (lists : List (List ℕ)) (ids : ℕ) : Type 0 where
+  pub all : HasAll has told right page later new lists
   pub fewer : ids_at_hand new + ids_of all.left ≤ ids_at_hand old + ids
-  pub calls : now.calls + calls_over later rest.lists_left (ids_of all.left) new ≤ before.calls + calls_over pool source.lists_left ids old
+  pub calls : now + calls_over later rest.lists_left (ids_of all.left) new ≤ before + calls_over pool source.lists_left ids old
 
 -- where the lists of all groups stand they have no more identifiers than all lists have
-abbrev pub PassSpendsIds : (has : List (List ℕ) → Type 0) (told : Bool) (right : ℕ → List ℕ) (before now : Device) (pool later : Pool) (source rest : Source) (old new : Groups) (lists : List (List ℕ)) (ids : ℕ) → PassTurn → Type 0
-PassSpendsIds has told right before now pool later source rest old new lists ids (Went calls) = HasSpent has told right before now pool later source rest old new lists ids
-PassSpendsIds has told right before now pool later source rest old new lists ids (Placed placed calls) = placed.lists.count ≤ ids_at_hand old + ids
+abbrev pub PassSpendsIds : (has : List (List ℕ) → Type 0) (told : Bool) (right page : ℕ → List ℕ) (before now : ℕ) (pool later : Pool) (source rest : Source) (old new : Groups) (lists : List (List ℕ)) (ids : ℕ) → PassTurn → Type 0
+PassSpendsIds has told right page before now pool later source rest old new lists ids (Went calls) = HasSpent has told right page before now pool later source rest old new lists ids
+PassSpendsIds has told right page before now pool later source rest old new lists ids (Placed placed calls) = placed.lists.count ≤ ids_at_hand old + ids
 
 -- what is still to come has no more identifiers than so many
 pub record HasFew (has : List (List ℕ) → Type 0) (told : Bool) (right page : ℕ → List ℕ) (pool : Pool) (groups : Groups) (lists : List (List ℕ)) (ids : ℕ) : Type 0 where
@@ -59,17 +58,17 @@ pub record ReduceCounts (has : (ℕ → List ℕ) → List (List ℕ) → Type 0
       + passes * pass_calls groups.size (ids_at_hand groups + ids_of has_all.holds.left) ≤ left
 
 -- what was called is taken off what is left
-pub record FewerCounts (has : (ℕ → List ℕ) → List (List ℕ) → Type 0) (told : Bool) (before now : Device) (later : Pool) (rest : Source) (areas : Areas) (new : Groups) (lists : List (List ℕ)) (left : ℕ) : Type 0 where
+pub record FewerCounts (has : (ℕ → List ℕ) → List (List ℕ) → Type 0) (told : Bool) (page : ℕ → List ℕ) (before now : ℕ) (later : Pool) (rest : Source) (areas : Areas) (new : Groups) (lists : List (List ℕ)) (left : ℕ) : Type 0 where
   pub still : ℕ
-  pub counts : ReduceCounts has told now.page later rest areas new lists still
-  pub spent : now.calls + still ≤ before.calls + left
+  pub counts : ReduceCounts has told page later rest areas new lists still
+  pub spent : now + still ≤ before + left
 
-abbrev pub TurnCounts : (has : (ℕ → List ℕ) → List (List ℕ) → Type 0) (told : Bool) (before now : Device) (later : Pool) (rest : Source) (areas : Areas) (new : Groups) (lists : List (List ℕ)) (left : ℕ) → Result (Option ℕ) PageFault → Type 0
-TurnCounts has told before now later rest areas new lists left (Ok (Some calls)) = FewerCounts has told before now later rest areas new lists left
-TurnCounts has told before now later rest areas new lists left (Ok None) = now.calls ≤ before.calls + left
-TurnCounts has told before now later rest areas new lists left (Err fault) = now.calls ≤ before.calls + left
+abbrev pub TurnCounts : (has : (ℕ → List ℕ) → List (List ℕ) → Type 0) (told : Bool) (page : ℕ → List ℕ) (before now : ℕ) (later : Pool) (rest : Source) (areas : Areas) (new : Groups) (lists : List (List ℕ)) (left : ℕ) → Result (Option ℕ) PageFault → Type 0
+TurnCounts has told page before now later rest areas new lists left (Ok (Some calls)) = FewerCounts has told page before now later rest areas new lists left
+TurnCounts has told page before now later rest areas new lists left (Ok None) = now ≤ before + left
+TurnCounts has told page before now later rest areas new lists left (Err fault) = now ≤ before + left
 
-abbrev pub StepCounts : (has : (ℕ → List ℕ) → List (List ℕ) → Type 0) (told : Bool) (before now : Device) (later : Pool) (rest : Source) (areas : Areas) (new : Groups) (lists : List (List ℕ)) (left : ℕ) → Result Bool PageFault → Type 0
-StepCounts has told before now later rest areas new lists left (Ok true) = now.calls ≤ before.calls + left
-StepCounts has told before now later rest areas new lists left (Ok false) = FewerCounts has told before now later rest areas new lists left
-StepCounts has told before now later rest areas new lists left (Err fault) = now.calls ≤ before.calls + left
+abbrev pub StepCounts : (has : (ℕ → List ℕ) → List (List ℕ) → Type 0) (told : Bool) (page : ℕ → List ℕ) (before now : ℕ) (later : Pool) (rest : Source) (areas : Areas) (new : Groups) (lists : List (List ℕ)) (left : ℕ) → Result Bool PageFault → Type 0
+StepCounts has told page before now later rest areas new lists left (Ok true) = now ≤ before + left
+StepCounts has told page before now later rest areas new lists left (Ok false) = FewerCounts has told page before now later rest areas new lists left
+StepCounts has told page before now later rest areas new lists left (Err fault) = now ≤ before + left

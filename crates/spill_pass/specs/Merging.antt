@@ -1,24 +1,24 @@
 -- What a merge gives, as a list that is being written: where it lies, which leases are held, and what the list has so far.
-use Rattle.std.specs.Prelude.{◌≡◌, ℕ, ◌+◌, ◌-◌, ◌*◌, ◌/◌, ◌%◌, ◌^◌, ◌<◌, ◌≤◌, ◌⊎◌, ◌↔◌, ◌++◌, Bool, true, ⊤, List, [], ◌∷◌, length, map, get_or, Option, Some, None, Result, Ok, Err}
-use Rattle.ghost_model.specs.core.Causes.{Rose}
+use Rattle.std.specs.Prelude.{◌≡◌, ℕ, ◌+◌, ◌-◌, ◌*◌, ◌/◌, ◌%◌, ◌^◌, ◌<◌, ◌≤◌, ◌⊎◌, ◌↔◌, ◌++◌, Bool, true, false, ⊤, List, [], ◌∷◌, length, map, get_or, Option, Some, None, Result, Ok, Err}
 use Rattle.ghost_model.specs.forms.Runs as runs
 use Rattle.ghost_base.specs.declared.runs.Run.{Run}
 use Rattle.ghost_base.specs.Runs.{run_of}
-use Rattle.edge_traits.specs.Devices.{Device, Counts, KeepsPages, ChangesOnly}
+use Rattle.edge_traits.specs.Devices.{Device, KeepsPages, ChangesOnly}
 use Rattle.page_pool.specs.Pools.{Pool, AreOut, KeepsOthers, others_out}
 use Rattle.flash_pages.specs.declared.fault.PageFault.{PageFault}
+use Rattle.flash_pages.specs.declared.fault.PageFault.TheVariants.{Flash, Damaged}
 use Rattle.flash_pages.specs.Writing.{IsEntered}
 use Rattle.flash_pages.specs.Writers.{HasPut, next_page}
 use Rattle.flash_pages.specs.declared.cursor.RunCursor.{RunCursor}
 use Rattle.id_merge.specs.declared.cursor.Cursor.{Cursor}
 use Rattle.id_merge.specs.declared.cursor.Cursor.TheVariants.{List as OfList, Range}
 use Rattle.id_merge.specs.declared.merge.Merge.{Merge}
+use Rattle.id_merge.specs.declared.merge.Step.{Step}
+use Rattle.id_merge.specs.declared.merge.Step.TheVariants.{More, Found, End}
 use Rattle.id_merge.specs.Cursors.{cursor_at, id_in, leases_of, AreRight, AllAtMost, AllGiven}
 use Rattle.id_merge.specs.Merges.{CanMerge, Remains, unread, at_hand}
 pub use Rattle.id_merge.specs.Spared.{LiesOutside, AllOutside}
 use Rattle.spill_pass.specs.declared.merging.MergeInto.{MergeInto}
-use Rattle.spill_pass.specs.declared.merging.Turn.{Turn}
-use Rattle.spill_pass.specs.declared.merging.Turn.TheVariants.{Went, Done}
 
 -- the pages of an area for so many identifiers: whole blocks
 abbrev pub area_pages : (rows : ℕ) → ℕ
@@ -118,15 +118,18 @@ pub record GathersAll (told : Bool) (right : ℕ → List ℕ) (merge : Merge) (
   pub gathers : Gathers told right merge earlier page pool into
   pub none : (id : ℕ) → Remains right into.merge id → ⊥
 
-abbrev pub AdvanceGives : (told : Bool) (right : ℕ → List ℕ) → Merge → (earlier : List ℕ) (page : ℕ → List ℕ) → Pool → MergeInto → Result (Option ℕ) PageFault → Type 0
-AdvanceGives told right merge earlier page pool into (Ok (Some calls)) = Gathers told right merge earlier page pool into
-AdvanceGives told right merge earlier page pool into (Ok None) = GathersAll told right merge earlier page pool into
+abbrev pub AdvanceGives : (told : Bool) (right : ℕ → List ℕ) → Merge → (earlier : List ℕ) (page : ℕ → List ℕ) → Pool → MergeInto → Result Bool PageFault → Type 0
+AdvanceGives told right merge earlier page pool into (Ok true) = Gathers told right merge earlier page pool into
+AdvanceGives told right merge earlier page pool into (Ok false) = GathersAll told right merge earlier page pool into
 AdvanceGives told right merge earlier page pool into (Err fault) = ⊤
 
-abbrev pub TurnGives : (told : Bool) (right : ℕ → List ℕ) → Merge → (page : ℕ → List ℕ) → Pool → MergeInto → Result Turn PageFault → Type 0
-TurnGives told right merge page pool into (Ok (Went calls)) = Gathers told right merge [] page pool into
-TurnGives told right merge page pool into (Ok (Done run calls)) = IsListOf right merge page run
-TurnGives told right merge page pool into (Err fault) = ⊤
+-- the calls that a step of a merge made
+abbrev pub step_calls : Result Step PageFault → ℕ
+step_calls (Ok More) = 1
+step_calls (Ok (Found id)) = 0
+step_calls (Ok End) = 0
+step_calls (Err Flash) = 1
+step_calls (Err (Damaged page slot found)) = 0
 
 -- the list lies at the beginning of its area, and has no more identifiers than there are rows
 pub record IsPlaced (into : MergeInto) (run : Run) : Type 0 where
@@ -170,35 +173,32 @@ pub record MadeAtMost (most : ℕ) (before now : Device) : Type 0 where
   pub deep_reads : now.deep_reads ≤ before.deep_reads + most
 
 -- what was called by the pages themselves: one call a page that was read, and two a page that was written
-pub record WentByPages (before now : Device) (pool later : Pool) (old new : MergeInto) : Type 0 where
+pub record WentByPages (before now : ℕ) (pool later : Pool) (old new : MergeInto) : Type 0 where
   pub further : old.writer.filler.pages ≤ new.writer.filler.pages
-  pub calls : now.calls + unread later new.merge ≤ before.calls + unread pool old.merge + 2 * (new.writer.filler.pages - old.writer.filler.pages)
+  pub calls : now + unread later new.merge ≤ before + unread pool old.merge + 2 * (new.writer.filler.pages - old.writer.filler.pages)
 
 -- the same where the list stands, on as many pages as its identifiers take
-pub record DoneByPages (before now : Device) (pool : Pool) (old : MergeInto) (run : Run) : Type 0 where
+pub record DoneByPages (before now : ℕ) (pool : Pool) (old : MergeInto) (run : Run) : Type 0 where
   pub further : old.writer.filler.pages ≤ runs.pages_of run.count 4
-  pub calls : now.calls ≤ before.calls + unread pool old.merge + 2 * (runs.pages_of run.count 4 - old.writer.filler.pages)
+  pub calls : now ≤ before + unread pool old.merge + 2 * (runs.pages_of run.count 4 - old.writer.filler.pages)
 
--- what is counted in a turn after which there is more to do
-pub record WentOn (told : Bool) (before now : Device) (pool later : Pool) (old new : MergeInto) (calls : ℕ) : Type 0 where
-  pub ready : IsMerging told now later new
+-- what is counted in a turn after which there is more to do: the calls so far, before it and now
+pub record WentOn (told : Bool) (device : Device) (before now : ℕ) (pool later : Pool) (old new : MergeInto) : Type 0 where
+  pub ready : IsMerging told device later new
   pub fewer : left_of later new < left_of pool old
-  pub few : calls ≤ 2
-  pub at_most : MadeAtMost calls before now
-  pub spent : now.calls + calls_left later new ≤ before.calls + calls_left pool old
+  pub spent : now + calls_left later new ≤ before + calls_left pool old
   pub by_pages : WentByPages before now pool later old new
-  pub called : 0 < calls → Rose before.calls now.calls
-  pub exact : Counts calls before.calls now.calls
   pub unions : new.merge.unions ≡ old.merge.unions
   pub written : old.writer.filler.count ≤ new.writer.filler.count
   pub room : new.writer.filler.count + at_hand new.merge ≤ old.writer.filler.count + at_hand old.merge
 
 -- what is counted where the merge has nothing left: no call was made, and no more is written
-pub record CameToEnd (told : Bool) (before now : Device) (pool later : Pool) (old new : MergeInto) : Type 0 where
-  pub ready : IsMerging told now later new
-  pub calls : now.calls ≡ before.calls
-  pub deep_reads : now.deep_reads ≡ before.deep_reads
-  pub kept : KeepsPages before now
+pub record CameToEnd (told : Bool) (device later_device : Device) (before now : ℕ) (pool later : Pool) (old new : MergeInto) : Type 0 where
+  pub ready : IsMerging told later_device later new
+  pub none : now ≡ before
+  pub calls : later_device.calls ≡ device.calls
+  pub deep_reads : later_device.deep_reads ≡ device.deep_reads
+  pub kept : KeepsPages device later_device
   pub writer : new.writer ≡ old.writer
   pub unions : new.merge.unions ≡ old.merge.unions
   pub fewer : left_of later new ≤ left_of pool old
@@ -206,30 +206,28 @@ pub record CameToEnd (told : Bool) (before now : Device) (pool later : Pool) (ol
   pub written : old.writer.filler.count ≤ new.writer.filler.count
   pub room : new.writer.filler.count + at_hand new.merge ≤ old.writer.filler.count + at_hand old.merge
 
-abbrev pub AdvanceTells : (told : Bool) (before now : Device) (pool later : Pool) (old new : MergeInto) → Option ℕ → Type 0
-AdvanceTells told before now pool later old new (Some calls) = WentOn told before now pool later old new calls
-AdvanceTells told before now pool later old new None = CameToEnd told before now pool later old new
+abbrev pub AdvanceTells : (told : Bool) (device later_device : Device) (before now : ℕ) (pool later : Pool) (old new : MergeInto) → Bool → Type 0
+AdvanceTells told device later_device before now pool later old new true = WentOn told later_device before now pool later old new
+AdvanceTells told device later_device before now pool later old new false = CameToEnd told device later_device before now pool later old new
 
--- the list stands, after so many calls
-pub record ListDone (before now : Device) (pool : Pool) (old : MergeInto) (run : Run) (calls : ℕ) : Type 0 where
+-- the list stands
+pub record ListDone (before now : ℕ) (pool : Pool) (old : MergeInto) (run : Run) : Type 0 where
   pub placed : IsPlaced old run
-  pub spent : now.calls ≤ before.calls + calls_left pool old
+  pub spent : now ≤ before + calls_left pool old
   pub by_pages : DoneByPages before now pool old run
-  pub few : calls ≤ 2
-  pub exact : Counts calls before.calls now.calls
 
-abbrev pub TurnTells : (told : Bool) (before now : Device) (pool later : Pool) (old new : MergeInto) → Turn → Type 0
-TurnTells told before now pool later old new (Went calls) = WentOn told before now pool later old new calls
-TurnTells told before now pool later old new (Done run calls) = ListDone before now pool old run calls
+abbrev pub TurnTells : (told : Bool) (device : Device) (before now : ℕ) (pool later : Pool) (old new : MergeInto) → Option Run → Type 0
+TurnTells told device before now pool later old new None = WentOn told device before now pool later old new
+TurnTells told device before now pool later old new (Some run) = ListDone before now pool old run
 
 -- what is spent of the calls that may be made: a fault may cost one more
-abbrev pub Spends : (before now : Device) (pool later : Pool) (old new : MergeInto) → Result (Option Run) PageFault → Type 0
-Spends before now pool later old new (Ok None) = now.calls + calls_left later new ≤ before.calls + calls_left pool old
-Spends before now pool later old new (Ok (Some run)) = now.calls ≤ before.calls + calls_left pool old
-Spends before now pool later old new (Err fault) = now.calls ≤ before.calls + calls_left pool old + 1
+abbrev pub Spends : (before now : ℕ) (pool later : Pool) (old new : MergeInto) → Result (Option Run) PageFault → Type 0
+Spends before now pool later old new (Ok None) = now + calls_left later new ≤ before + calls_left pool old
+Spends before now pool later old new (Ok (Some run)) = now ≤ before + calls_left pool old
+Spends before now pool later old new (Err fault) = now ≤ before + calls_left pool old + 1
 
 -- the same by the pages themselves, however many rows there are
-abbrev pub SpendsByPages : (before now : Device) (pool later : Pool) (old new : MergeInto) → Result (Option Run) PageFault → Type 0
+abbrev pub SpendsByPages : (before now : ℕ) (pool later : Pool) (old new : MergeInto) → Result (Option Run) PageFault → Type 0
 SpendsByPages before now pool later old new (Ok None) = WentByPages before now pool later old new
 SpendsByPages before now pool later old new (Ok (Some run)) = DoneByPages before now pool old run
 SpendsByPages before now pool later old new (Err fault) = ⊤

@@ -1,12 +1,16 @@
-//! How many calls of the flash a writer makes, and how many pages lists take.
+//! How many calls of the flash a step of a merge makes, and how many pages lists take.
 
-ghost use Rattle.std.specs.Prelude.{◌≡◌, ◌<◌, ◌≤◌, ◌^◌};
-ghost use Rattle.flash_pages.specs.Writing.{page_calls};
-ghost use Rattle.flash_pages.specs.Writers.{next_page, put_calls, finish_calls};
+ghost use Rattle.std.specs.Prelude.{◌≡◌, ◌+◌, ◌-◌, ◌<◌, ◌≤◌, ◌^◌, true, ℕ, List};
+ghost use Rattle.edge_traits.specs.Devices.{Counts};
+ghost use Rattle.id_merge.specs.Cursors.{Moves, AreRight, AllGiven, BlamesLists, BlamesOutOfRows};
+ghost use Rattle.id_merge.specs.Merges.{CanMerge, GivesStep, LastAfterStep, StepTells, HandAfterStep, unread};
 ghost use Rattle.spill_pass.specs.FewPages.{FreshListIsShort, FreshRecordsAreShort, WritesFewPages};
+ghost use Rattle.spill_pass.specs.Merging.{step_calls};
 
-use flash_pages::filler::RunFiller;
-use ghost_base::runs::per_page;
+use edge_traits::flash::Flash;
+use flash_pages::fault::PageFault;
+use id_merge::{Merge, Step};
+use page_pool::PagePool;
 
 /// A law: a list that was begun has no more pages to be read than its identifiers fill, and two, and no more than it has records,
 /// and two; and a list that is written has no more pages than its identifiers take.
@@ -16,35 +20,46 @@ pub fn pages_are_few()
     ensures written { WritesFewPages }
 {}
 
-/// The calls that write a page: one, and one more that erases its block where it is the first of it and that is asked for.
-fn page_calls(page: u32, erase: bool) -> u32
-    ensures calls { result ≡ page_calls page erase }
-    ensures few { result ≤ 2 }
+/// The calls of the flash that a step of a merge made: one where there is more to do or the flash failed.
+fn step_calls(step: &Result<Step, PageFault>) -> u64
+    ensures calls { result ≡ step_calls step.now }
 {
-    if erase && page % 64 == 0 { 2 } else { 1 }
-}
-
-/// The calls that the next record makes: none unless it fills its page.
-pub(crate) fn put_calls(filler: &RunFiller) -> u32
-    requires page { next_page filler.now < 2 ^ 32 }
-    ensures calls { result ≡ put_calls filler.now }
-{
-    if filler.held + 1 == per_page(filler.width) {
-        page_calls(filler.first + filler.pages, filler.erase)
-    } else {
-        0
+    match step {
+        Ok(Step::More) => 1,
+        Ok(Step::Found(_)) | Ok(Step::End) => 0,
+        Err(PageFault::Flash) => 1,
+        Err(PageFault::Damaged { .. }) => 0,
     }
 }
 
-/// The calls that the last page makes: none unless records wait for it.
-pub(crate) fn finish_calls(filler: &RunFiller) -> u32
-    requires page { next_page filler.now < 2 ^ 32 }
-    ensures calls { result ≡ finish_calls filler.now }
-    ensures few { result ≤ 2 }
+/// Takes a step of a merge, and adds its call of the flash, if it makes one, to `spent`.
+pub fn step_and_count<F: Flash>(
+    merge: &mut Merge,
+    flash: &mut F,
+    pool: &mut PagePool,
+    spent: &mut u64,
+) -> Result<Step, PageFault>
+    requires ready { CanMerge F.told (F.state flash.old) pool.old merge.old }
+    requires counts { spent.old + 1 < 2 ^ 64 }
+    ensures gives { F.told ≡ true → (right : ℕ → List ℕ) → AreRight (F.state flash.old).page right merge.old.cursors.items → GivesStep right merge.old merge.new result }
+    ensures right { F.told ≡ true → (right : ℕ → List ℕ) → AreRight (F.state flash.old).page right merge.old.cursors.items → AreRight (F.state flash.new).page right merge.new.cursors.items }
+    ensures sound { F.told ≡ true → (right : ℕ → List ℕ) → AreRight (F.state flash.old).page right merge.old.cursors.items → BlamesOutOfRows (F.state flash.new).page merge.new.cursors.items result }
+    ensures blames { (since : ℕ) → since ≤ (F.state flash.old).calls → AllGiven since (F.state flash.old) pool.old merge.old.cursors.items → BlamesLists since (F.state flash.new) merge.new.cursors.items result }
+    ensures last { LastAfterStep merge.old merge.new result }
+    ensures tells { StepTells (F.state flash.old) (F.state flash.new) (unread pool.old merge.old) (unread pool.new merge.new) result }
+    ensures at_most { (F.state flash.new).calls ≤ (F.state flash.old).calls + 1 }
+    ensures deep_reads { (F.state flash.new).deep_reads ≤ (F.state flash.old).deep_reads + 1 }
+    ensures hand { HandAfterStep merge.old merge.new result }
+    ensures unions { merge.new.unions ≡ merge.old.unions }
+    ensures moves { Moves F.told (F.state flash.old) (F.state flash.new) pool.old pool.new merge.old.cursors.items merge.new.cursors.items }
+    ensures ready { CanMerge F.told (F.state flash.new) pool.new merge.new }
+    ensures counted { Counts (spent.new - spent.old) (F.state flash.old).calls (F.state flash.new).calls }
+    ensures few_reads { (F.state flash.new).deep_reads ≤ (F.state flash.old).deep_reads + (spent.new - spent.old) }
+    ensures added { spent.new ≡ spent.old + step_calls result }
+    ensures rises { spent.old ≤ spent.new }
+    ensures most { spent.new ≤ spent.old + 1 }
 {
-    if filler.held > 0 {
-        page_calls(filler.first + filler.pages, filler.erase)
-    } else {
-        0
-    }
+    let step = merge.step(flash, pool);
+    *spent += step_calls(&step);
+    step
 }

@@ -14,18 +14,18 @@ use Rattle.spill_pass.proofs.Over.{outside_none, over_none}
 use Rattle.spill_pass.proofs.Listing.{closed_lists}
 use Rattle.spill_pass.proofs.groups.Groups.close.Goals as goal
 
-pub put-requires-clause-can : goal.put-requires-clause-can
-put-requires-clause-can g c =
+pub put_and_count-requires-clause-can : goal.put_and_count-requires-clause-can
+put_and_count-requires-clause-can g c =
     let old = c.args.self.now in
     let is = c.requires.grouping in
     can_place old is (omega (arith, places_below old is, c.requires.place))
 
-pub returns-in_err-put-clause-goes : goal.returns-in_err-put-clause-goes
-returns-in_err-put-clause-goes g c =
+pub returns-in_err-put_and_count-clause-goes : goal.returns-in_err-put_and_count-clause-goes
+returns-in_err-put_and_count-clause-goes g c =
     let old = c.args.self.now in
     let is = c.requires.grouping in
-    let put = c.put.ensures in
-    put_goes old c.put.new.self is.leases
+    let put = c.put_and_count.ensures in
+    put_goes old c.put_and_count.new.self is.leases
     (changes_wider put.writes.others old.places.filler.first (places_end old) (omega arith)
     (place_reach old is (omega (arith, places_below old is, c.requires.place))))
     put.buffer put.lease put.same.first
@@ -34,23 +34,23 @@ pub end-requires : goal.end-requires
 end-requires g c =
     let old = c.args.self.now in
     let is = c.requires.grouping in
-    let P : Merge → Type 0 = λ m. AreOut c.put.new.pool (leases_of m.cursors.items) in
+    let P : Merge → Type 0 = λ m. AreOut c.put_and_count.new.pool (leases_of m.cursors.items) in
     record {
       out = subst P (sym c.replace-merge.ensures.value)
-          (outs_of_two c.put.new.pool old.places.lease old.into.writer.lease (leases_of old.into.merge.cursors.items) (outs_kept (groups_held old) (change_keeps_out c.put.ensures.buffer) is.leases));
+          (outs_of_two c.put_and_count.new.pool old.places.lease old.into.writer.lease (leases_of old.into.merge.cursors.items) (outs_kept (groups_held old) (change_keeps_out c.put_and_count.ensures.buffer) is.leases));
     }
 
 pub returns-clause-goes : goal.returns-clause-goes
 returns-clause-goes g c =
     let old = c.args.self.now in
     let is = c.requires.grouping in
-    let put = c.put.ensures in
-    let gives = c.end.ensures.given ∙ ap (λ (m : Merge). all_given c.put.new.pool (leases_of m.cursors.items)) c.replace-merge.ensures.value in
+    let put = c.put_and_count.ensures in
+    let gives = c.end.ensures.given ∙ ap (λ (m : Merge). all_given c.put_and_count.new.pool (leases_of m.cursors.items)) c.replace-merge.ensures.value in
     let after = c.replace-merge.new.dest in
     let none = ap (λ (m : Merge). m.cursors.items) c.replace-merge.ensures.after ∙ c.no_lists.ensures.cursors in
     let unions = ap (λ (m : Merge). m.unions.items) c.replace-merge.ensures.after ∙ c.no_lists.ensures.unions in
     let last = ap (λ (m : Merge). m.last) c.replace-merge.ensures.after ∙ c.no_lists.ensures.last in
-    closed_goes old c.put.new.self after old.into.writer.filler.count is
+    closed_goes old c.put_and_count.new.self after old.into.writer.filler.count is
     (changes_wider put.writes.others old.places.filler.first (places_end old) (omega arith)
     (place_reach old is (omega (arith, places_below old is, c.requires.place))))
     put.buffer gives none put.lease put.same.first
@@ -59,15 +59,15 @@ pub returns-clause-tells : goal.returns-clause-tells
 returns-clause-tells g c =
     let old = c.args.self.now in
     let is = c.requires.grouping in
-    let put = c.in_ok-put.ensures in
-    let gives = c.end.ensures.given ∙ ap (λ (m : Merge). all_given c.put.new.pool (leases_of m.cursors.items)) c.replace-merge.ensures.value in
+    let put = c.in_ok-put_and_count.ensures in
+    let gives = c.end.ensures.given ∙ ap (λ (m : Merge). all_given c.put_and_count.new.pool (leases_of m.cursors.items)) c.replace-merge.ensures.value in
     let after = c.replace-merge.new.dest in
     let none = ap (λ (m : Merge). m.cursors.items) c.replace-merge.ensures.after ∙ c.no_lists.ensures.cursors in
     let unions = ap (λ (m : Merge). m.unions.items) c.replace-merge.ensures.after ∙ c.no_lists.ensures.unions in
     let last = ap (λ (m : Merge). m.last) c.replace-merge.ensures.after ∙ c.no_lists.ensures.last in
     record {
       grouping =
-          closed_grouping old c.put.new.self after is
+          closed_grouping old c.put_and_count.new.self after is
           (changes_wider put.writes.others old.places.filler.first (places_end old) (omega arith)
           (place_reach old is (omega (arith, places_below old is, c.requires.place))))
           put.buffer gives none unions last put.lease put.same put.entered
@@ -83,15 +83,15 @@ pub returns-clause-spent : goal.returns-clause-spent
 returns-clause-spent g c =
     let old = c.args.self.now in
     let is = c.requires.grouping in
-    let put = c.in_ok-put.ensures in
-    let gives = c.end.ensures.given ∙ ap (λ (m : Merge). all_given c.put.new.pool (leases_of m.cursors.items)) c.replace-merge.ensures.value in
+    let put = c.in_ok-put_and_count.ensures in
+    let gives = c.end.ensures.given ∙ ap (λ (m : Merge). all_given c.put_and_count.new.pool (leases_of m.cursors.items)) c.replace-merge.ensures.value in
     let after = c.replace-merge.new.dest in
     let none = ap (λ (m : Merge). m.cursors.items) c.replace-merge.ensures.after ∙ c.no_lists.ensures.cursors in
     let unions = ap (λ (m : Merge). m.unions.items) c.replace-merge.ensures.after ∙ c.no_lists.ensures.unions in
     let last = ap (λ (m : Merge). m.last) c.replace-merge.ensures.after ∙ c.no_lists.ensures.last in
     omega (
       arith,
-      put.writes.at_most,
+      put.all,
       put.more.pages,
       few_put_calls old.places.filler,
       bit_most (fills old.places.filler),
@@ -104,13 +104,13 @@ pub returns-clause-closes : goal.returns-clause-closes
 returns-clause-closes g c = λ told right first lists was.
     let old = c.args.self.now in
     let is = c.requires.grouping in
-    let put = c.in_ok-put.ensures in
-    let gives = c.end.ensures.given ∙ ap (λ (m : Merge). all_given c.put.new.pool (leases_of m.cursors.items)) c.replace-merge.ensures.value in
+    let put = c.in_ok-put_and_count.ensures in
+    let gives = c.end.ensures.given ∙ ap (λ (m : Merge). all_given c.put_and_count.new.pool (leases_of m.cursors.items)) c.replace-merge.ensures.value in
     let after = c.replace-merge.new.dest in
     let none = ap (λ (m : Merge). m.cursors.items) c.replace-merge.ensures.after ∙ c.no_lists.ensures.cursors in
     let unions = ap (λ (m : Merge). m.unions.items) c.replace-merge.ensures.after ∙ c.no_lists.ensures.unions in
     let last = ap (λ (m : Merge). m.last) c.replace-merge.ensures.after ∙ c.no_lists.ensures.last in
-    closed_lists old c.put.new.self after c.place_cell-cell.result told is
+    closed_lists old c.put_and_count.new.self after c.place_cell-cell.result told is
     (changes_wider put.writes.others old.places.filler.first (places_end old) (omega arith)
     (place_reach old is (omega (arith, places_below old is, c.requires.place))))
     put.buffer gives none unions last c.place_cell-cell.ensures.cell put.appended was

@@ -3,36 +3,36 @@ use Rattle.spill_pass.proofs.Going.{finish_in_area}
 use Rattle.spill_pass.proofs.Finishing.{can_finish, finish_lists_goes, finish_places_goes, finish_places_in_area, finished_lists}
 use Rattle.spill_pass.proofs.groups.Groups.finish.Goals as goal
 
-pub finish-requires-2-clause-can : goal.finish-requires-2-clause-can
-finish-requires-2-clause-can g c = λ wait.
+pub finish_and_count-requires-2-clause-can : goal.finish_and_count-requires-2-clause-can
+finish_and_count-requires-2-clause-can g c = λ wait.
     let is = c.requires.grouping in
-    let one = c.finish.ensures in
-    can_finish c.args.self.now (g.F.Flash.state c.finish.new.flash) is (finish_in_area is.merging one.writes.others one.unwritten) wait
+    let one = c.finish_and_count.ensures in
+    can_finish c.args.self.now (g.F.Flash.state c.finish_and_count.new.flash) is (finish_in_area is.merging one.writes.others one.unwritten) wait
 
 pub returns-in_err-lists-clause-goes : goal.returns-in_err-lists-clause-goes
 returns-in_err-lists-clause-goes g c =
-    let f = c.finish.ensures in
-    finish_lists_goes c.args.self.now c.finish.new.self c.requires.grouping f.writes.others f.unwritten f.buffers f.same
+    let f = c.finish_and_count.ensures in
+    finish_lists_goes c.args.self.now c.finish_and_count.new.self c.requires.grouping f.writes.others f.unwritten f.buffers f.same
 
 pub returns-in_err-places-clause-goes : goal.returns-in_err-places-clause-goes
 returns-in_err-places-clause-goes g c =
     let old = c.args.self.now in
     let is = c.requires.grouping in
-    let one = c.finish.ensures in
-    let two = c.finish-2.ensures in
-    let goes = finish_lists_goes old c.finish.new.self is one.writes.others one.unwritten one.buffers one.same in
+    let one = c.finish_and_count.ensures in
+    let two = c.finish_and_count-2.ensures in
+    let goes = finish_lists_goes old c.finish_and_count.new.self is one.writes.others one.unwritten one.buffers one.same in
     goes_on goes
-    (finish_places_goes old (record { merge = old.into.merge; writer = c.finish.new.self; rows = old.into.rows }) c.finish-2.new.self is goes.still two.writes.others two.unwritten two.buffers two.same)
+    (finish_places_goes old (record { merge = old.into.merge; writer = c.finish_and_count.new.self; rows = old.into.rows }) c.finish_and_count-2.new.self is goes.still two.writes.others two.unwritten two.buffers two.same)
 
 pub returns-clause-goes : goal.returns-clause-goes
 returns-clause-goes g c =
     let old = c.args.self.now in
     let is = c.requires.grouping in
-    let one = c.finish.ensures in
-    let two = c.finish-2.ensures in
-    let goes = finish_lists_goes old c.finish.new.self is one.writes.others one.unwritten one.buffers one.same in
+    let one = c.finish_and_count.ensures in
+    let two = c.finish_and_count-2.ensures in
+    let goes = finish_lists_goes old c.finish_and_count.new.self is one.writes.others one.unwritten one.buffers one.same in
     goes_on goes
-    (finish_places_goes old (record { merge = old.into.merge; writer = c.finish.new.self; rows = old.into.rows }) c.finish-2.new.self is goes.still two.writes.others two.unwritten two.buffers two.same)
+    (finish_places_goes old (record { merge = old.into.merge; writer = c.finish_and_count.new.self; rows = old.into.rows }) c.finish_and_count-2.new.self is goes.still two.writes.others two.unwritten two.buffers two.same)
 
 pub returns-clause-stores : goal.returns-clause-stores
 returns-clause-stores g c = λ told right first lists was.

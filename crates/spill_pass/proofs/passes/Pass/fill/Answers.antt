@@ -51,7 +51,7 @@ returns-clause-outside g c = λ low high uses outside.
     c.finish.ensures.outside low high (λ page is. uses page (c.take.ensures.goes.uses page is)) (c.take.ensures.outside low high uses outside)
 
 pub returns-clause-counts : goal.returns-clause-counts
-returns-clause-counts g c = λ told right lists h. ends_counts _ _ _ _ _ c.finish.result (c.in_ok-calls.ensures.counts told right lists h) c.finish.ensures.ends
+returns-clause-counts g c = λ told right lists h. ends_counts _ _ _ _ _ _ c.finish.result (c.in_ok-calls.ensures.counts told right lists h) c.finish.ensures.ends
 
 pub returns-in-Some-clause-counts : goal.returns-in-Some-clause-counts
 returns-in-Some-clause-counts g c = λ told right lists h. c.in_ok-calls.ensures.counts told right lists h

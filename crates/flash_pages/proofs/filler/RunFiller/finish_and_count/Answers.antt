@@ -1,6 +1,6 @@
 use Rattle.std.proofs.Common.{refl, arith}
 use Rattle.flash_pages.proofs.WriterLemmas.{stored}
-use Rattle.flash_pages.proofs.filler.RunFiller.finish.Goals as goal
+use Rattle.flash_pages.proofs.filler.RunFiller.finish_and_count.Goals as goal
 
 pub returns-then-self-eq0-clause-stores : goal.returns-then-self-eq0-clause-stores
 returns-then-self-eq0-clause-stores g c = λ told records was.

@@ -1,6 +1,6 @@
 use Rattle.std.proofs.Common.{arith}
 use Rattle.flash_pages.proofs.WriterLemmas.{one_more, page_done}
-use Rattle.flash_pages.proofs.filler.RunFiller.put.Goals as goal
+use Rattle.flash_pages.proofs.filler.RunFiller.put_and_count.Goals as goal
 
 pub returns-then-self-per_page-clause-appended : goal.returns-then-self-per_page-clause-appended
 returns-then-self-per_page-clause-appended g c = λ records was.
