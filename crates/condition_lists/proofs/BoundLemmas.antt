@@ -1,6 +1,6 @@
 -- The order of values between bounds.
 use Rattle.std.proofs.Common.{◌≡◌, ◌∙◌, refl, ap, sym, ℕ, ◌<◌, pos, inl, inr, Bool, true, false, not, ◌&&◌, arith}
-use Rattle.std.specs.Prelude.{◌||◌, cond, int_lt, Some, None}
+use Rattle.std.specs.Prelude.{◌||◌, cond, int_lt, Option}
 use Rattle.std.specs.Cmp.{IsTotalOrder}
 use Rattle.std.specs.Ordering.{ordering_reverse}
 use Rattle.std.specs.declared.cmp.Ordering.{Ordering}
@@ -9,11 +9,13 @@ use Rattle.std.proofs.lemmas.Bool.{cases_lt}
 use Rattle.std.proofs.lemmas.Int.{ints}
 use Rattle.ghost_model.specs.core.Values.{Value, Number}
 use Rattle.ghost_model.specs.core.Database.{order_of, meets}
-use Rattle.ghost_model.specs.core.Query as query
-use Rattle.ghost_base.specs.Views.{value_of}
+use Rattle.ghost_base.specs.Views.{operator_of, value_of}
+use Rattle.ghost_base.specs.declared.kind.Kind.{Kind}
+use Rattle.ghost_base.specs.declared.operator.Operator.{Operator as Sign}
+use Rattle.ghost_base.specs.declared.operator.Operator.TheVariants as sign
 use Rattle.ghost_base.specs.declared.value.Value.{Value as Literal}
-use Rattle.condition_lists.specs.Bounds.{AreBoundsOf}
-use Rattle.climbing_index.specs.Searches.{before_by}
+use Rattle.climbing_index.specs.Searches.{before_by, fits_kind}
+use Rattle.condition_lists.specs.Bounds.{AreBoundsOf, AreOfKind, first_by, lies_between, lies_in_second, lies_within, second_by}
 
 below : (at : Ordering) → before_by false at ≡ true → at ≡ order.Less
 below order.Less e = refl
@@ -46,17 +48,67 @@ counts_less a b e =
           absurd (never_less (int_lt (pos b) (pos a)) (sym (ap (λ t. cond t order.Less (cond (int_lt (pos b) (pos a)) order.Greater order.Equal)) no) ∙ e)))
     ]
 
--- below and above a literal lie the values that are not it
-unequal : (at : Ordering) → (before_by false at || (not (before_by true at) && true)) ≡ meets query.Unequal at
-unequal order.Less = refl
-unequal order.Equal = refl
-unequal order.Greater = refl
+-- whether a value lies within the bounds of an operator, by its order to their literal
+abbrev lies_by : Sign → Ordering → Bool
+lies_by sign.Equal at = (not (before_by false at) && before_by true at) || false
+lies_by sign.Unequal at = (true && before_by false at) || (not (before_by true at) && true)
+lies_by sign.Less at = (true && before_by false at) || false
+lies_by sign.AtMost at = (true && before_by true at) || false
+lies_by sign.More at = (not (before_by true at) && true) || false
+lies_by sign.AtLeast at = (not (before_by false at) && true) || false
 
-pub of_unequal : IsTotalOrder order_of → (literal : Literal) → AreBoundsOf query.Unequal (value_of literal) (record {
-  first = record { low = None; high = Some (record { value = literal; included = false }) };
-  second = Some (record { low = Some (record { value = literal; included = false }); high = None });
-})
-of_unequal total literal = record {
-  admits = λ value. unequal (order_of value (value_of literal));
-  ascend = λ value other low high. below_above total (value_of literal) value other low high;
+-- below, above and at a literal lie the values with which an operator holds
+holds_by : (operator : Sign) (at : Ordering) → lies_by operator at ≡ meets (operator_of operator) at
+holds_by sign.Equal order.Less = refl
+holds_by sign.Equal order.Equal = refl
+holds_by sign.Equal order.Greater = refl
+holds_by sign.Unequal order.Less = refl
+holds_by sign.Unequal order.Equal = refl
+holds_by sign.Unequal order.Greater = refl
+holds_by sign.Less order.Less = refl
+holds_by sign.Less order.Equal = refl
+holds_by sign.Less order.Greater = refl
+holds_by sign.AtMost order.Less = refl
+holds_by sign.AtMost order.Equal = refl
+holds_by sign.AtMost order.Greater = refl
+holds_by sign.More order.Less = refl
+holds_by sign.More order.Equal = refl
+holds_by sign.More order.Greater = refl
+holds_by sign.AtLeast order.Less = refl
+holds_by sign.AtLeast order.Equal = refl
+holds_by sign.AtLeast order.Greater = refl
+
+within_by : (operator : Sign) (literal : Literal) (value : Value)
+    → lies_within (record { operator = operator; literal = literal }) value ≡ lies_by operator (order_of value (value_of literal))
+within_by sign.Equal literal value = refl
+within_by sign.Unequal literal value = refl
+within_by sign.Less literal value = refl
+within_by sign.AtMost literal value = refl
+within_by sign.More literal value = refl
+within_by sign.AtLeast literal value = refl
+
+ascend_by : IsTotalOrder order_of → (operator : Sign) (literal : Literal) (value other : Value)
+    → lies_between (first_by operator literal) value ≡ true → lies_in_second (second_by operator literal) other ≡ true → order_of value other ≡ order.Less
+ascend_by total sign.Equal literal value other low high = absurd (cc (high))
+ascend_by total sign.Unequal literal value other low high = below_above total (value_of literal) value other low high
+ascend_by total sign.Less literal value other low high = absurd (cc (high))
+ascend_by total sign.AtMost literal value other low high = absurd (cc (high))
+ascend_by total sign.More literal value other low high = absurd (cc (high))
+ascend_by total sign.AtLeast literal value other low high = absurd (cc (high))
+
+pub of_operator : IsTotalOrder order_of → (operator : Sign) (literal : Literal)
+    → AreBoundsOf (operator_of operator) (value_of literal) (record { operator = operator; literal = literal })
+of_operator total operator literal = record {
+  admits = λ value. within_by operator literal value ∙ holds_by operator (order_of value (value_of literal));
+  ascend = λ value other low high. ascend_by total operator literal value other low high;
 }
+
+-- they have the literal for their value
+pub of_kind : (kind : Option Kind) (operator : Sign) (literal : Literal) → fits_kind kind (value_of literal) ≡ true
+    → AreOfKind kind (record { operator = operator; literal = literal })
+of_kind kind sign.Equal literal fits = record { first = record { low = fits; high = fits }; second = tt }
+of_kind kind sign.Unequal literal fits = record { first = record { low = tt; high = fits }; second = record { low = fits; high = tt } }
+of_kind kind sign.Less literal fits = record { first = record { low = tt; high = fits }; second = tt }
+of_kind kind sign.AtMost literal fits = record { first = record { low = tt; high = fits }; second = tt }
+of_kind kind sign.More literal fits = record { first = record { low = fits; high = tt }; second = tt }
+of_kind kind sign.AtLeast literal fits = record { first = record { low = fits; high = tt }; second = tt }

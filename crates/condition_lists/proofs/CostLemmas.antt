@@ -37,7 +37,7 @@ use Rattle.candidate_rows.specs.Working.{IsRowOf}
 use Rattle.condition_lists.specs.declared.bounds.Between.{Between}
 use Rattle.condition_lists.specs.declared.bounds.Bounds.{Bounds}
 use Rattle.condition_lists.specs.declared.term.Term.TheVariants.{Entries, Identifiers, Reply}
-use Rattle.condition_lists.specs.Bounds.{AreOfKind, lies_within}
+use Rattle.condition_lists.specs.Bounds.{AreOfKind, lies_within, second_of}
 use Rattle.condition_lists.specs.Terms.{AreIdsOf, IsIndexAt, IsIdIndexAt, IsBehind, is_in, is_in_one, meets}
 use Rattle.condition_lists.specs.Laws.{IsOver, BoundsAreOfValues, AreGroupsOf, IsSecondGroup, AreReplied, ListsAreOfTerms, lists_in, replied_ids}
 use Rattle.ghost_model.specs.forms.QueryWork.{values_of, count_values}
@@ -242,7 +242,7 @@ module _ (cat : Catalog) (database : Database) (over : IsOver cat database) (cel
     has_cell entry x = bytes_eq (cell_led_to cat.schema (hidden_of cat.schema database) table column top x) (get_or values entry [])
 
     low_entry : (entry : ℕ) → Among entry (entries_in first second) → entry < length values
-    low_entry entry = ends_within first second (length values) entry groups.first_is.within (second_within bounds.second groups.second_is)
+    low_entry entry = ends_within first second (length values) entry groups.first_is.within (second_within (second_of bounds) groups.second_is)
       where
         second_within : (pair : Option Between) → IsSecondGroup index.directory.kind pair values second → 0 < second.count → second.first + second.count ≤ length values
         second_within None none more = absurd (omega (arith, none, more))

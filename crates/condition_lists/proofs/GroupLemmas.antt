@@ -10,7 +10,7 @@ use Rattle.climbing_index.specs.Ids.{IsBetweenIds, id_before, is_id_between}
 use Rattle.climbing_index.specs.Searches.{IsIn}
 use Rattle.condition_lists.specs.declared.bounds.Between.{Between}
 use Rattle.condition_lists.specs.declared.bounds.Bounds.{Bounds}
-use Rattle.condition_lists.specs.Bounds.{AreBoundsOf, value_before, lies_between, lies_in_second}
+use Rattle.condition_lists.specs.Bounds.{AreBoundsOf, first_of, value_before, lies_between, lies_in_second, second_of}
 use Rattle.condition_lists.specs.Terms.{AreIdsOf, is_in}
 use Rattle.condition_lists.proofs.BoundLemmas.{counts_less}
 
@@ -58,25 +58,25 @@ nothing true = refl
 nothing false = refl
 
 pub ids_of_one : (rows : ℕ) (operator : Operator) (literal : Value) (bounds : Bounds) (first second : Group) → AreBoundsOf operator literal bounds
-    → IsBetweenIds rows bounds.first.low bounds.first.high first → bounds.second ≡ None → second.first ≡ 0 → second.count ≡ 0 → AreIdsOf rows operator literal first second
+    → IsBetweenIds rows (first_of bounds).low (first_of bounds).high first → second_of bounds ≡ None → second.first ≡ 0 → second.count ≡ 0 → AreIdsOf rows operator literal first second
 ids_of_one rows operator literal bounds first second are is none begin count = record {
   first_within = is.within;
   second_within = omega (arith, begin, count);
   admits = λ entry low.
-      ap (λ b. is_in first entry || b) (none_in second count entry) ∙ ap (λ a. a || false) (ids_found rows bounds.first first is entry low)
-      ∙ ap (λ o. lies_between bounds.first (Number (pos (entry + 1))) || lies_in_second o (Number (pos (entry + 1)))) (sym none)
+      ap (λ b. is_in first entry || b) (none_in second count entry) ∙ ap (λ a. a || false) (ids_found rows (first_of bounds) first is entry low)
+      ∙ ap (λ o. lies_between (first_of bounds) (Number (pos (entry + 1))) || lies_in_second o (Number (pos (entry + 1)))) (sym none)
       ∙ are.admits (Number (pos (entry + 1)));
   behind = λ some other. absurd (omega (arith, other, count));
 }
 
 pub ids_of_two : (rows : ℕ) (operator : Operator) (literal : Value) (bounds : Bounds) (pair : Between) (first second : Group) → AreBoundsOf operator literal bounds
-    → IsBetweenIds rows bounds.first.low bounds.first.high first → bounds.second ≡ Some pair → IsBetweenIds rows pair.low pair.high second → AreIdsOf rows operator literal first second
+    → IsBetweenIds rows (first_of bounds).low (first_of bounds).high first → second_of bounds ≡ Some pair → IsBetweenIds rows pair.low pair.high second → AreIdsOf rows operator literal first second
 ids_of_two rows operator literal bounds pair first second are is some_is other = record {
   first_within = is.within;
   second_within = other.within;
   admits = λ entry low.
-      ap₂ (λ a b. a || b) (ids_found rows bounds.first first is entry low) (ids_found rows pair second other entry low)
-      ∙ ap (λ o. lies_between bounds.first (Number (pos (entry + 1))) || lies_in_second o (Number (pos (entry + 1)))) (sym some_is)
+      ap₂ (λ a b. a || b) (ids_found rows (first_of bounds) first is entry low) (ids_found rows pair second other entry low)
+      ∙ ap (λ o. lies_between (first_of bounds) (Number (pos (entry + 1))) || lies_in_second o (Number (pos (entry + 1)))) (sym some_is)
       ∙ are.admits (Number (pos (entry + 1)));
   behind = λ some more.
       let last : is_in first (first.first + first.count - 1) ≡ true = to_group first (first.first + first.count - 1) (omega (arith, some), omega (arith, some)) in
@@ -85,7 +85,7 @@ ids_of_two rows operator literal bounds pair first second are is some_is other =
       let high = within_of second rows other.within second.first begin in
       let less = counts_less (first.first + first.count - 1 + 1) (second.first + 1)
       (are.ascend (Number (pos (first.first + first.count - 1 + 1))) (Number (pos (second.first + 1)))
-      (sym (ids_found rows bounds.first first is (first.first + first.count - 1) low) ∙ last)
+      (sym (ids_found rows (first_of bounds) first is (first.first + first.count - 1) low) ∙ last)
       (ap (λ o. lies_in_second o (Number (pos (second.first + 1)))) some_is ∙ sym (ids_found rows pair second other second.first high) ∙ begin)) in
       omega (arith, some, less);
 }

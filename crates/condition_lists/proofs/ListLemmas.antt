@@ -48,7 +48,7 @@ use Rattle.candidate_rows.specs.Working.{IsRowOf}
 use Rattle.condition_lists.specs.declared.bounds.Between.{Between}
 use Rattle.condition_lists.specs.declared.bounds.Bounds.{Bounds}
 use Rattle.condition_lists.specs.declared.term.Term.TheVariants.{Ranges, Entries, Identifiers, TopReply, Reply}
-use Rattle.condition_lists.specs.Bounds.{AreBoundsOf, AreOfKind, IsPairOfKind, IsSecondOfKind, lies_between, lies_in_second, lies_within}
+use Rattle.condition_lists.specs.Bounds.{AreBoundsOf, AreOfKind, IsPairOfKind, IsSecondOfKind, first_of, lies_between, lies_in_second, lies_within, second_of}
 use Rattle.condition_lists.specs.Terms.{IsIndexAt, IsIdIndexAt, IsBehind, is_in, is_in_one}
 use Rattle.ghost_model.specs.forms.QueryWork.{values_of}
 use Rattle.condition_lists.specs.Laws.{IsOver, BoundsAreOfValues, AreGroupsOf, IsSecondGroup, IsListed, IsListedOf, IsEntryOf, IsMet, AreReplied, replied_ids}
@@ -349,11 +349,11 @@ module _ (cat : Catalog) (database : Database) (over : IsOver cat database) (cel
           ∙ ap (is_between o pair.low pair.high) cell
           ∙ of_pair pair are value fits
 
-      in_first : is_in first entry ≡ lies_between bounds.first value
-      in_first = in_by bounds.first first of_kind.first groups.first_is
+      in_first : is_in first entry ≡ lies_between (first_of bounds) value
+      in_first = in_by (first_of bounds) first of_kind.first groups.first_is
 
-      in_second : is_in second entry ≡ lies_in_second bounds.second value
-      in_second = by bounds.second of_kind.second groups.second_is
+      in_second : is_in second entry ≡ lies_in_second (second_of bounds) value
+      in_second = by (second_of bounds) of_kind.second groups.second_is
         where
           by : (pair : Option Between) → IsSecondOfKind o pair → IsSecondGroup o pair values second → is_in second entry ≡ lies_in_second pair value
           by None are none = none_in second none entry

@@ -2,6 +2,7 @@ use Rattle.std.proofs.Common.{◌+◌, ◌<◌, ◌≤◌, ℕ, List, length, Op
 use Rattle.ghost_base.specs.declared.kind.Kind.{Kind}
 use Rattle.climbing_index.specs.declared.search.Group.{Group}
 use Rattle.condition_lists.specs.declared.bounds.Between.{Between}
+use Rattle.condition_lists.specs.Bounds.{second_of}
 use Rattle.condition_lists.specs.Laws.{IsSecondGroup}
 use Rattle.condition_lists.proofs.ListLemmas.{ascend}
 use Rattle.condition_lists.proofs.laws.groups_ascend.Goals as goal
@@ -16,4 +17,4 @@ pub returns : goal.returns
 returns c = λ cat database over top table column index level at operator literal bounds are of_kind values values_are first second groups some more.
     ascend cat database over c.hidden_cells_of_databases.ensures table column at.hidden c.bounds_are_of_values.ensures c.cell_order_is_value_order.ensures
     index.directory.kind at.index_is.kind_is operator literal bounds are of_kind values values_are first second groups
-    (second_within index.directory.kind bounds.second values second groups.second_is more) some more
+    (second_within index.directory.kind (second_of bounds) values second groups.second_is more) some more
