@@ -1,6 +1,6 @@
 -- A text while it is told, a line or a few calls on the flash at a time. What it needs, whatever the pages hold, stands apart
 -- from what it stands for: which of its rows were given, and which are left.
-use Rattle.std.specs.Prelude.{◌≡◌, ℕ, ◌≤◌, ◌<◌, ⊤, Bool, true, false, not, List, [], ◌∷◌, ◌++◌, ◌+◌, length, map, codes, count_by, Option, None, Some, Ok, Err}
+use Rattle.std.specs.Prelude.{◌≡◌, ℕ, ◌≤◌, ⊤, Bool, true, false, not, List, [], ◌∷◌, ◌++◌, ◌+◌, length, map, codes, count_by, Option, None, Some, Ok, Err}
 use Rattle.std.specs.List.{concat}
 use Rattle.ghost_model.specs.core.Schema.{Schema}
 use Rattle.ghost_model.specs.core.Values.{Row, Database}

@@ -66,7 +66,8 @@ impl<'a> Teller<'a> {
         self.begin_text(cat, pump, replies);
     }
 
-    /// Begins the text that comes next.
+    /// Begins the text that comes next. It is no part of a slice's own code, which needs no room for a job that begins.
+    #[inline(never)]
     fn begin_text(&mut self, cat: &Catalog, pump: &Pump, replies: &Replies)
         requires left { is_some self.old.ahead ≡ true }
         requires none { is_some self.old.running ≡ false }

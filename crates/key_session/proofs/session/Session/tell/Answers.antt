@@ -99,7 +99,7 @@ returns-clause-fewer g c =
     omega (arith, begun, on)
 
 pub returns-clause-spends : goal.returns-clause-spends
-returns-clause-spends g c = λ texts journal since next live database served unfailed less.
+returns-clause-spends g c = λ texts journal since next live database served unfailed.
     let side = session_side c.args.self.now.teller.printer.failed (g.O.Sink.faults c.args.out.now) (g.O.Sink.written c.args.out.now) (g.F.Flash.state c.args.flash.now) in
     let amid = taken_amid by_pre g.F.Flash.told texts journal since side c.args.pool.now c.args.self.now c.requires.taken live in
     let channel = taken_channel c.args.self.now.cat.now c.args.self.now.at.now texts journal c.args.pool.now c.args.self.now.frame c.args.self.now.pump c.args.self.now.buffers c.requires.taken live.channel in
@@ -115,4 +115,4 @@ returns-clause-spends g c = λ texts journal since next live database served unf
     (subst (λ (failed : Bool). IsBegun by_pre g.F.Flash.told c.args.self.now.cat.now texts journal since
     (session_side failed (g.O.Sink.faults c.args.out.now) (g.O.Sink.written c.args.out.now) (g.F.Flash.state c.args.flash.now)) c.args.pool.now c.args.self.now.pump c.take_up.new.self c.args.self.now.replies)
     (sym c.take_up.ensures.printer) begun)
-    database (subst (λ (n : ℕ). IsServedText g.F.Flash.told since.flash.page c.args.self.now.cat.now texts journal n database) (sym c.take_up.ensures.count) served) unfailed less)
+    database (subst (λ (n : ℕ). IsServedText g.F.Flash.told since.flash.page c.args.self.now.cat.now texts journal n database) (sym c.take_up.ensures.count) served) unfailed)
