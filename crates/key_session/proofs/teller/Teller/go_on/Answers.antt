@@ -1,5 +1,6 @@
-use Rattle.std.proofs.Common.{◌+◌, ◌≤◌, sym, subst, Option, Some, None}
-use Rattle.std.specs.Prelude.{◌%◌, take, sum_by}
+use Rattle.std.proofs.Common.{◌≡◌, ◌+◌, ◌-◌, ◌∙◌, ◌≤◌, ap, false, true, sym, subst, Option, Some, None}
+use Rattle.std.specs.Prelude.{◌%◌, is_some, take, sum_by}
+use Rattle.edge_traits.specs.Devices.{Counts}
 use Rattle.key_exec.specs.Plans.{by_pre}
 use Rattle.key_exec.specs.Within.{text_work}
 use Rattle.key_exec.specs.declared.telling.Telling.{Telling}
@@ -124,3 +125,13 @@ returns-in-None-clause-counts g c = record { calls = c.step.ensures.never_falls;
 
 pub returns-in-Some-step-clause-counts : goal.returns-in-Some-step-clause-counts
 returns-in-Some-step-clause-counts g c = record { calls = c.step.ensures.never_falls; faults = faults_stay (g.F.Flash.state c.args.flash.now).faults (g.F.Flash.state c.step.new.flash).faults (Some c.in-Some-step.told) c.in-Some-step.ensures.faults }
+
+pub returns-in-None-clause-counted : goal.returns-in-None-clause-counted
+returns-in-None-clause-counted g c = λ going.
+    subst (λ (running : Option Telling). Counts (lines.spent_of c.step.new.self - spent_by running) (g.F.Flash.state c.args.flash.now).calls (g.F.Flash.state c.step.new.flash).calls) (sym c.in-Some.is) c.step.ensures.spent
+
+pub returns-in-Some-step-clause-counted : goal.returns-in-Some-step-clause-counted
+returns-in-Some-step-clause-counted g c = λ going. absurd (none_goes (sym (ap (λ (later : Option Telling). is_some later) c.end.ensures.ended.running) ∙ going))
+  where
+    none_goes : false ≡ true → ⊥
+    none_goes e = cc
