@@ -95,7 +95,7 @@ tells_nothing : (catalog : Catalog) (asks : List NumberedAsk) (journal : Journal
     → Tells catalog page event_is.Part (heard_by catalog asks journal) (heard_by catalog asks (journal ++ entry ∷ []))
 tells_nothing catalog asks journal entry page none =
     let same : heard_by catalog asks (journal ++ entry ∷ []) ≡ heard_by catalog asks journal = ap (λ (bytes : List ℕ). heard catalog asks bytes) (same_taken journal entry none) in
-    record { rows = ap (λ (h : Heard). h.rows) same; ended = ap (λ (h : Heard). h.ended) same ∙ sym (append-nil (heard_by catalog asks journal).ended); came = tt }
+    record { rows = ap (λ (h : Heard). h.rows) same; ended = ap (λ (h : Heard). h.ended) same ∙ sym (append-nil (heard_by catalog asks journal).ended); came = tt; unbroken = tt }
 
 -- a move that takes nothing was made
 pub quiet : (goes : Journal → Type 0) (catalog : Catalog) (at : List ℕ) (asks : List NumberedAsk) (journal : Journal) (entry : Entry) (old new : Pump) (was page : List ℕ)

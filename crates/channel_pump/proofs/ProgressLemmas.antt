@@ -19,7 +19,7 @@ use Rattle.channel_pump.specs.declared.state.Phase.TheVariants.{Greeting, Reply,
 use Rattle.channel_pump.specs.Here.{verdict_here, Stands, header_at, payload_at, rows_at, reply_header, reply_payload, reply_rows}
 use Rattle.channel_pump.specs.State.{taken_entry}
 use Rattle.channel_pump.specs.Turning.{event_of, rows_of_frame}
-use Rattle.channel_pump.specs.Progress.{rows_on, ended_on, MayCome, RowsOf, Tells, RowsFit, FitAt, RowsHere}
+use Rattle.channel_pump.specs.Progress.{rows_on, ended_on, MayCome, RowsOf, IsUnbroken, Tells, RowsFit, FitAt, RowsHere}
 use Rattle.channel_pump.proofs.RowLemmas.{rows_count}
 use Rattle.channel_pump.proofs.TurningLemmas.{payload_length, frame_of_kind}
 use Rattle.channel_pump.proofs.PlaceLemmas.{header_is, payload_is, rows_at_are}
@@ -146,11 +146,11 @@ module _ (catalog : Catalog) (asks : List NumberedAsk) (journal : Journal) (p : 
 
   pub part_tells : (missing : ℕ) → At catalog asks journal p page n → verdict_here p part ≡ next.Lacking missing
       → Tells catalog page event.Part (standing_after catalog asks journal).heard (standing_after catalog asks (journal ++ taken_entry p page n ∷ [])).heard
-  part_tells missing h e = tells_as event.Part (next.Lacking missing) h e (record { rows = refl; ended = sym (append-nil _); came = tt })
+  part_tells missing h e = tells_as event.Part (next.Lacking missing) h e (record { rows = refl; ended = sym (append-nil _); came = tt; unbroken = tt })
 
   pub invalid_tells : (kind place : ℕ) → At catalog asks journal p page n → verdict_here p part ≡ next.Invalid
       → Tells catalog page (event.Invalid kind place) (standing_after catalog asks journal).heard (standing_after catalog asks (journal ++ taken_entry p page n ∷ [])).heard
-  invalid_tells kind place h e = tells_as (event.Invalid kind place) next.Invalid h e (record { rows = refl; ended = sym (append-nil _); came = tt })
+  invalid_tells kind place h e = tells_as (event.Invalid kind place) next.Invalid h e (record { rows = refl; ended = sym (append-nil _); came = tt; unbroken = tt })
 
   rows_are : (bytes : List ℕ) (count : ℕ) → FrameKind (frames.kind_in part) (frames.size_in part) → frames.payload_in part ≡ frames.payload_in page
       → next.rows_after bytes (frames.frame_in part) ≡ rows_on (event_of count (frames.frame_in part)) page bytes
@@ -170,6 +170,14 @@ module _ (catalog : Catalog) (asks : List NumberedAsk) (journal : Journal) (p : 
   came awaits count (replies (done k z)) h = subst (λ (f : channel.Frame). RowsOf catalog awaits page (event_of count f)) (sym (frame_of_kind part 19 k)) tt
   came awaits count (replies (sorry k z)) h = subst (λ (f : channel.Frame). RowsOf catalog awaits page (event_of count f)) (sym (frame_of_kind part 20 k)) tt
 
+  unbroken : (result : Event) (after : Heard) → after.broken ≡ false → IsUnbroken result after
+  unbroken event.Part after e = tt
+  unbroken event.Welcome after e = e
+  unbroken (event.Rows _) after e = e
+  unbroken event.Done after e = e
+  unbroken (event.Sorry _) after e = e
+  unbroken (event.Invalid _ _) after e = tt
+
   pub frame_tells : (tally : Tally) → At catalog asks journal p page n → Stands p part tally → verdict_here p part ≡ next.Complete → frames.payload_in part ≡ frames.payload_in page
       → Tells catalog page (event_of tally.rows (frames.frame_in part)) (standing_after catalog asks journal).heard (standing_after catalog asks (journal ++ taken_entry p page n ∷ [])).heard
   frame_tells tally h stands e same =
@@ -184,4 +192,5 @@ module _ (catalog : Catalog) (asks : List NumberedAsk) (journal : Journal) (p : 
             (sym (header_is catalog p p.phase (standing_after catalog asks journal).heard.awaits part h.after.awaits) ∙ stands.header)
             (sym (payload_is catalog p p.phase (standing_after catalog asks journal).heard.awaits (frames.frame_in part) h.after.awaits) ∙ stands.payload)
             (stands.rows.rows ∙ ap length (rows_at_are catalog p p.phase (standing_after catalog asks journal).heard.awaits (frames.frame_in part) h.after.awaits))));
+        unbroken = unbroken (event_of tally.rows (frames.frame_in part)) (heard_as catalog asks (standing_after catalog asks journal).heard part next.Complete) refl;
       })

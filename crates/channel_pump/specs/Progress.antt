@@ -60,11 +60,21 @@ RowsOf catalog awaits page event.Done = Unit {0}
 RowsOf catalog awaits page (event.Sorry _) = Unit {0}
 RowsOf catalog awaits page (event.Invalid _ _) = Unit {0}
 
+-- after an event of a whole frame the frame at hand is not invalid
+abbrev pub IsUnbroken : Event → Heard → Type 0
+IsUnbroken event.Part after = Unit {0}
+IsUnbroken event.Welcome after = after.broken ≡ false
+IsUnbroken (event.Rows _) after = after.broken ≡ false
+IsUnbroken event.Done after = after.broken ≡ false
+IsUnbroken (event.Sorry _) after = after.broken ≡ false
+IsUnbroken (event.Invalid _ _) after = Unit {0}
+
 -- what an event tells of what was heard before and after it
 pub record Tells (catalog : Catalog) (page : List ℕ) (result : Event) (before after : Heard) : Type 0 where
   pub rows : after.rows ≡ rows_on result page before.rows
   pub ended : after.ended ≡ before.ended ++ ended_on result before.awaits before.rows
   pub came : RowsOf catalog before.awaits page result
+  pub unbroken : IsUnbroken result after
 
 -- why a session ends, if it does
 abbrev pub EndsBy : Standing → Cause → Type 0

@@ -92,8 +92,8 @@ module _ (by : Plan) (told : Bool) (cat : Catalog) (side : ℕ) (before now : De
             answer = were.answer;
             stands = stand cat has.asked side told before now pool later database replies spares has.ready were.stands;
           };
-      paid = λ is database replies knows honest low.
-          let were = has.paid is database replies knows honest (omega (arith, low, spares.device.never_falls)) in
+      paid = λ is database replies knows honest.
+          let were = has.paid is database replies knows honest in
           record {
             still = were.still;
             costs = cost cat has.asked side told before now pool later database replies were.still spares has.ready were.costs;

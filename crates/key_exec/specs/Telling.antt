@@ -1,8 +1,7 @@
 -- A text while it is told, a line or a few calls on the flash at a time. What it needs, whatever the pages hold, stands apart
 -- from what it stands for: which of its rows were given, and which are left.
-use Rattle.std.specs.Prelude.{◌≡◌, ℕ, ◌≤◌, ◌<◌, ⊤, Bool, true, false, not, List, [], ◌∷◌, ◌++◌, ◌+◌, length, map, codes, count_by, Option, None, Some, Ok, Err}
+use Rattle.std.specs.Prelude.{◌≡◌, ℕ, ◌≤◌, ⊤, Bool, true, false, not, List, [], ◌∷◌, ◌++◌, ◌+◌, length, map, codes, count_by, Option, None, Some, Ok, Err}
 use Rattle.std.specs.List.{concat}
-use Rattle.ghost_model.specs.core.Causes.{last_count}
 use Rattle.ghost_model.specs.core.Schema.{Schema}
 use Rattle.ghost_model.specs.core.Values.{Row, Database}
 use Rattle.ghost_model.specs.core.Channel.{Catalog}
@@ -14,7 +13,7 @@ use Rattle.ghost_model.specs.core.Printed.{row_line, answer_lines, word_line, re
 use Rattle.ghost_model.specs.forms.QueryWork.{work}
 use Rattle.ghost_model.specs.refusals.QueryMeaning.{Refusal}
 use Rattle.ghost_model.specs.laws.SchemaTrees.{IsTree}
-use Rattle.edge_traits.specs.Devices.{Device, Counts}
+use Rattle.edge_traits.specs.Devices.{Device}
 use Rattle.page_pool.specs.Pools.{Pool, AreOut, others_out}
 use Rattle.spj_parse.specs.Resolved.{IsMeant}
 use Rattle.spj_parse.specs.Views.{refusal_of}
@@ -25,7 +24,7 @@ use Rattle.candidate_rows.specs.Rows.{HoldsReplies}
 use Rattle.condition_lists.specs.CostLaws.{AreHonest}
 use Rattle.key_exec.specs.declared.job.Job.{Job}
 use Rattle.key_exec.specs.Jobs as jobs
-use Rattle.key_exec.specs.Jobs.{ForScan, is_over, rows_left}
+use Rattle.key_exec.specs.Jobs.{is_over, rows_left}
 use Rattle.key_exec.specs.Costs.{JobCosts}
 use Rattle.leakless_plan.specs.declared.plan.Plan.{Plan}
 use Rattle.leakless_plan.specs.declared.plan.Plan.TheVariants as plan
@@ -74,18 +73,6 @@ spent_of telling = spent_in telling.stage
 -- a text whose rows a job gives
 abbrev pub answering : (number : ℕ) → Job → Telling
 answering number job = record { number = number; stage = Answering job }
-
--- so many calls were made in a step; by the indexes that is said where the flash did not fail
-abbrev pub ToldCounts : Plan → (more before now : ℕ) → Option Told → Type 0
-ToldCounts by more before now None = Counts more before now
-ToldCounts by more before now (Some told.Refused) = Counts more before now
-ToldCounts by more before now (Some told.Answered) = Counts more before now
-ToldCounts by more before now (Some told.Host) = Counts more before now
-ToldCounts by more before now (Some told.Link) = Counts more before now
-ToldCounts by more before now (Some told.Protocol) = Counts more before now
-ToldCounts by more before now (Some told.Marked) = Counts more before now
-ToldCounts by more before now (Some told.Flash) = ForScan by (Counts more before now)
-ToldCounts by more before now (Some (told.Damaged damage)) = Counts more before now
 
 -- ---- what it needs
 
@@ -163,9 +150,9 @@ pub record HasGiven (by : Plan) (pages_told : Bool) (cat : Catalog) (side : ℕ)
   pub counted : job.given ≡ length given
   pub left : (database : Database) (replies : List Reply) → KnowsText by pages_told start.page cat text half replies database
       → AreLeft cat asked read.meant replies pages_told device.page pool given job database
-  -- by the indexes, where the host is honest, and as long as the flash's calls are counted exactly
+  -- by the indexes, where the host is honest
   pub paid : by ≡ by_pre → (database : Database) (replies : List Reply) → KnowsText by pages_told start.page cat text half replies database
-      → AreHonest cat database read.meant replies → device.calls < last_count → IsPaid cat asked read.meant replies pages_told device.page pool job database
+      → AreHonest cat database read.meant replies → IsPaid cat asked read.meant replies pages_told device.page pool job database
 
 abbrev pub IsAtStage : Plan → (pages_told : Bool) (cat : Catalog) (side : ℕ) (text : List ℕ) → ReplyState → (is_marked : Bool) → Half → (start device : Device) (before now : Handed) → Pool → Stage → Type 0
 IsAtStage by pages_told cat side text state is_marked half start device before now pool (Refused refusal) =

@@ -106,10 +106,10 @@ ran_of told schema database texts words end catalog before middle after same ran
       lines = lines_since (catalog_for schema database) texts mine.journal (is_sink end) before middle after sink written mine.lines;
       gives = λ t. gives_since schema database texts (is_sink end) before middle after faults sink written (mine.gives t);
       printed_all = λ t whole. mine.printed_all t whole ∙ ap (λ (held : Option (List ℕ)). grown held (printed schema texts database)) written;
-      few_calls = λ t is_pre unfailed less.
+      few_calls = λ t is_pre unfailed.
           let built = subst (λ (c : Catalog). Counts (load_calls c (hidden_of schema database)) before.device.calls middle.device.calls) same counts in
           few_since before.device.calls (load_calls (catalog_for schema database) (hidden_of schema database)) middle.device.calls after.device.calls (session_calls schema database texts) built
-          (mine.few_calls t is_pre (λ rose. unfailed (subst (λ (count : ℕ). Rose count after.device.faults) faults rose)) less);
+          (mine.few_calls t is_pre (λ rose. unfailed (subst (λ (count : ℕ). Rose count after.device.faults) faults rose)));
       cut = λ t is. mine.cut t is;
       more_calls = λ is.
           let built = subst (λ (c : Catalog). Counts (load_calls c (hidden_of schema database)) before.device.calls middle.device.calls) same counts in

@@ -1,9 +1,9 @@
 -- What a session ran over, from what the key, the link and the journal's file tell.
-use Rattle.std.proofs.Common.{◌≡◌, ◌+◌, ◌≤◌, ◌<◌, ℕ, Bool, true, false, List, [], ◌∷◌, length, Option, None, refl, sym, ap, ◌∙◌, subst}
+use Rattle.std.proofs.Common.{◌≡◌, ◌+◌, ◌≤◌, ℕ, Bool, true, false, List, [], ◌∷◌, length, Option, None, refl, sym, ap, ◌∙◌, subst}
 use Rattle.std.specs.Prelude.{◌%◌, take}
 use Rattle.std.specs.List.{list_any}
 use Rattle.ghost_model.specs.core.Asks.{asked_of}
-use Rattle.ghost_model.specs.core.Causes.{Rose, last_count}
+use Rattle.ghost_model.specs.core.Causes.{Rose}
 use Rattle.ghost_model.specs.core.Channel.{Catalog, Journal}
 use Rattle.ghost_model.specs.core.NextMove.{Standing, standing_after, IsFinished}
 use Rattle.ghost_model.specs.core.Schema.{Schema}
@@ -101,7 +101,7 @@ pub ran_over : (by : Plan) (pace : List ℕ) (told : Bool) (catalog : Catalog) (
     → is_sink end ≡ wrote_none tally.status → (end ≡ ends.Ok → tally.status ≡ status.Ok) → (end ≡ ends.Flash → blames_flash tally.status ≡ true)
     → (blames_flash tally.status ≡ true → Rose before.device.calls after.device.calls) → (is_damage tally.status ≡ true → Rose before.device.calls after.device.calls)
     → ((damage : Damage) → end ≡ ends.Damaged damage → tally.status ≡ status.Damaged damage)
-    → (told ≡ true → by ≡ by_pre → (Rose before.device.faults after.device.faults → ⊥) → after.device.calls < last_count
+    → (told ≡ true → by ≡ by_pre → (Rose before.device.faults after.device.faults → ⊥)
     → after.device.calls ≤ before.device.calls + session_calls catalog.schema database texts)
     → RanOver by pace told catalog database texts name end before after
 ran_over by pace told catalog database texts name end tally before after journal served given stays_damaged tree is_local finished paced kept all_kept are_told lines blamed pages sink whole flash called read damaged few =

@@ -1,7 +1,7 @@
 -- What the session itself does, apart from what was made for it.
-use Rattle.std.specs.Prelude.{◌≡◌, ℕ, ◌+◌, ◌≤◌, ◌<◌, Bool, true, false, List, [], Option, None, Some, ⊤}
+use Rattle.std.specs.Prelude.{◌≡◌, ℕ, ◌+◌, ◌≤◌, Bool, true, false, List, [], Option, None, Some, ⊤}
 use Rattle.std.specs.List.{list_any}
-use Rattle.ghost_model.specs.core.Causes.{Rose, last_count}
+use Rattle.ghost_model.specs.core.Causes.{Rose}
 use Rattle.ghost_model.specs.core.Channel.{Catalog, Journal}
 use Rattle.ghost_model.specs.core.Moves.{lines}
 use Rattle.ghost_model.specs.core.NextMove.{IsFinished}
@@ -70,7 +70,7 @@ pub record RanOver (by : Plan) (pace : List ℕ) (told : Bool) (catalog : Catalo
   pub gives : told ≡ true → Gives catalog.schema database texts (session_side_in false before) (session_side_in (is_sink end) after)
   pub printed_all : told ≡ true → end ≡ ends.Ok → after.written ≡ grown before.written (printed catalog.schema texts database)
   -- by the plan `pre`, where the flash does not fail, it is called no more often than the texts take
-  pub few_calls : told ≡ true → by ≡ by_pre → (Rose before.device.faults after.device.faults → ⊥) → after.device.calls < last_count
+  pub few_calls : told ≡ true → by ≡ by_pre → (Rose before.device.faults after.device.faults → ⊥)
       → after.device.calls ≤ before.device.calls + session_calls catalog.schema database texts
   pub cut : (t : told ≡ true) → end ≡ ends.Flash → list_any is_cut (gives t).given ≡ true
   pub called : end ≡ ends.Flash → Rose before.device.calls after.device.calls

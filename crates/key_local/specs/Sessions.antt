@@ -1,8 +1,8 @@
 -- What a session with a host in the key's own process does: it goes by the one journal of its database and its texts, keeps
 -- that journal where a file is named for it, and gives each text's lines.
-use Rattle.std.specs.Prelude.{◌≡◌, ℕ, ◌+◌, ◌≤◌, ◌<◌, Bool, true, false, List, [], length, Option, None, Some, ⊤}
+use Rattle.std.specs.Prelude.{◌≡◌, ℕ, ◌+◌, ◌≤◌, Bool, true, false, List, [], length, Option, None, Some, ⊤}
 use Rattle.std.specs.List.{list_any}
-use Rattle.ghost_model.specs.core.Causes.{Rose, last_count}
+use Rattle.ghost_model.specs.core.Causes.{Rose}
 use Rattle.ghost_model.specs.core.Channel.{Catalog, Journal}
 use Rattle.ghost_model.specs.core.Database.{row_counts}
 use Rattle.ghost_model.specs.forms.Flash.{Holds}
@@ -112,7 +112,7 @@ pub record Ran (told : Bool) (one : Subject) (end : LocalEnd) (before after : Lo
   pub gives : told ≡ true → Gives one.schema one.database one.texts (session_side_in false before) (session_side_in (is_sink end) after)
   pub printed_all : told ≡ true → end ≡ ends.Ok → after.written ≡ grown before.written (printed one.schema one.texts one.database)
   -- by the plan `pre`, where the flash does not fail, it is called no more often than the making and the texts take
-  pub few_calls : told ≡ true → one.words.plan ≡ by_pre → (Rose before.device.faults after.device.faults → ⊥) → after.device.calls < last_count
+  pub few_calls : told ≡ true → one.words.plan ≡ by_pre → (Rose before.device.faults after.device.faults → ⊥)
       → after.device.calls ≤ before.device.calls + (load_calls (catalog_in one) (hidden_of one.schema one.database) + session_calls one.schema one.database one.texts)
   -- the flash is blamed only where it failed a text
   pub cut : (t : told ≡ true) → end ≡ ends.Flash → list_any is_cut (gives t).given ≡ true

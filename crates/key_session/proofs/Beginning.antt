@@ -176,7 +176,7 @@ telling_spared plan pages_told catalog texts journal top since sink before now p
       marked = marked_same catalog texts count since.flash.calls before.calls now.calls store store (λ text. refl) calls telling.marked;
       prints = telling.prints;
       damaged = telling.damaged;
-      read = λ damage e. read_later since.flash.calls since.flash.calls before now (omega arith) keeps.gave plan pages_told catalog texts damage (telling.read damage e);
+      read = λ damage e. read_later since.flash.calls since.flash.calls before now (omega arith) keeps.gave plan pages_told catalog texts telling.reasons.reasons damage (telling.read damage e);
       reasons = record {
         reasons = telling.reasons.reasons;
         as_many = telling.reasons.as_many;

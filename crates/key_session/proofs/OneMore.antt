@@ -34,7 +34,7 @@ use Rattle.key_exec.specs.Telling.{HasTold, AreLinesOf, AreRepliesOf, AreThere}
 use Rattle.key_exec.specs.declared.text.Told.{Told}
 use Rattle.key_exec.specs.declared.text.Told.TheVariants as told
 use Rattle.key_session.specs.Counting.{one_if, reason_of, IsCounted}
-use Rattle.key_session.specs.Damages.{IsSoOfText}
+use Rattle.key_session.specs.Damages.{IsSoOfText, WasRead}
 use Rattle.key_session.specs.Reasons.{HaveSoFar, HasReason, HaveLines, HasLines, HasAnswerLines, HaveAnswerLines}
 use Rattle.page_pool.specs.Pools.{Pool}
 use Rattle.key_exec.specs.declared.telling.Telling.{Telling}
@@ -255,8 +255,9 @@ module _ (join : PiecesJoin) (decided : TextsAreDecided) (laws : PageLaws) (late
         (marked_next catalog texts old.count since.flash.calls before.flash.calls now.flash.calls store calls telling.marked);
     prints = some_more join since.sink first.sink now.sink telling.prints (record { piece = concat ends.lines; handed = ends.handed_on });
     damaged = one_damage plan pages_told since.flash.page catalog texts old.count old.counts.damage new.counts.damage result ended.first blames_now telling.damaged;
-    read = first_read plan pages_told catalog texts since.flash.calls now.flash old.count old.counts.damage new.counts.damage result ended.first read_now
-        (λ damage e. read_later since.flash.calls since.flash.calls before.flash now.flash (omega arith) kept_pages.gave plan pages_told catalog texts damage (telling.read damage e));
+    read = λ damage e. subst (λ (rs : List Reason). WasRead plan pages_told since.flash.calls now.flash catalog texts rs damage) (sym both_now.2)
+        (first_read plan pages_told catalog texts since.flash.calls now.flash telling.reasons.reasons old.count old.counts.damage new.counts.damage result telling.reasons.as_many telling.reasons.counted.kept.counted.found ended.first read_now
+        (λ damage e. read_later since.flash.calls since.flash.calls before.flash now.flash (omega arith) kept_pages.gave plan pages_told catalog texts telling.reasons.reasons damage (telling.read damage e)) damage e);
     reasons = record {
       reasons = both_now.0.reasons;
       as_many = both_now.0.as_many ∙ sym next_count;

@@ -1,7 +1,9 @@
 -- What a read gave it gave, after other calls as well.
-use Rattle.std.proofs.Common.{◌≡◌, ◌≤◌, ℕ, ◌+◌, Bool, true, List, inl, inr, sym, ◌∙◌, subst, arith, Option, Some, None}
-use Rattle.std.specs.Prelude.{◌%◌}
+use Rattle.std.proofs.Common.{◌≡◌, ◌≤◌, ℕ, zero, suc, ◌+◌, Bool, true, false, List, [], ◌∷◌, ◌++◌, length, inl, inr, refl, sym, ap, ◌∙◌, subst, arith, Option, Some, None}
+use Rattle.std.specs.Prelude.{◌%◌, take, slice_get, is_some}
+use Rattle.std.specs.List.{list_any}
 use Rattle.ghost_model.specs.core.Channel.{Catalog}
+use Rattle.ghost_model.specs.core.Lines.{Reason}
 use Rattle.ghost_model.specs.core.Query.{Query}
 use Rattle.visible_spool.specs.declared.half.Half.{Half}
 use Rattle.edge_traits.specs.Devices.{Device, GaveSince}
@@ -14,8 +16,8 @@ use Rattle.key_exec.specs.Texts.{ToldReads, WasDamagedFor}
 use Rattle.key_exec.specs.declared.damage.Damage.{Damage}
 use Rattle.key_exec.specs.declared.text.Told.{Told}
 use Rattle.key_exec.specs.declared.text.Told.TheVariants as told
-use Rattle.key_session.specs.Counting.{damage_in, first_damage}
-use Rattle.key_session.specs.Damages.{IsSoOfText, WasRead}
+use Rattle.key_session.specs.Counting.{damage_in, first_damage, is_damage, reason_of}
+use Rattle.key_session.specs.Damages.{IsFirstDamaged, IsSoOfText, WasRead}
 
 -- what reads gave
 abbrev pub KeepsGiven : (before now : Device) → Type 0
@@ -79,43 +81,88 @@ module _ (early since : ℕ) (before now : Device) (earlier : early ≤ since) (
     is = damage_on plan pages_told catalog was.query was.top side half number slot found was.is;
   }
 
-  pub read_later : (plan : Plan) (pages_told : Bool) (catalog : Catalog) (texts : List (List ℕ)) (damage : Damage)
-      → WasRead plan pages_told since before catalog texts damage → WasRead plan pages_told early now catalog texts damage
-  read_later plan pages_told catalog texts damage was = (
+  pub read_later : (plan : Plan) (pages_told : Bool) (catalog : Catalog) (texts : List (List ℕ)) (reasons : List Reason) (damage : Damage)
+      → WasRead plan pages_told since before catalog texts reasons damage → WasRead plan pages_told early now catalog texts reasons damage
+  read_later plan pages_told catalog texts reasons damage was = (
     was.0,
-    record {
-      text = was.1.text;
-      stands = was.1.stands;
-      half = was.1.half;
-      is = damage_for plan pages_told catalog was.1.text ((was.0 + 1) % 2) was.1.half damage.page damage.slot damage.found was.1.is;
-    },
+    (
+      was.1.0,
+      record {
+        text = was.1.1.text;
+        stands = was.1.1.stands;
+        half = was.1.1.half;
+        is = damage_for plan pages_told catalog was.1.1.text ((was.0 + 1) % 2) was.1.1.half damage.page damage.slot damage.found was.1.1.is;
+      },
+    ),
   )
+
+-- the first text that damage ended stays the first behind more texts
+got_kept : (earlier more : List Reason) (place : ℕ) (reason : Reason) → slice_get earlier place ≡ Some reason → slice_get (earlier ++ more) place ≡ Some reason
+got_kept [] more place reason e = cc
+got_kept (first ∷ earlier) more zero reason e = e
+got_kept (first ∷ earlier) more (suc place) reason e = got_kept earlier more place reason e
+
+take_kept : (earlier more : List Reason) (place : ℕ) (reason : Reason) → slice_get earlier place ≡ Some reason → take place (earlier ++ more) ≡ take place earlier
+take_kept [] more place reason e = cc
+take_kept (first ∷ earlier) more zero reason e = refl
+take_kept (first ∷ earlier) more (suc place) reason e = ap (λ (front : List Reason). first ∷ front) (take_kept earlier more place reason e)
+
+first_stays : (earlier more : List Reason) (place : ℕ) → IsFirstDamaged earlier place → IsFirstDamaged (earlier ++ more) place
+first_stays earlier more place first = record {
+  none_before = ap (list_any is_damage) (take_kept earlier more place first.reason first.stands) ∙ first.none_before;
+  reason = first.reason;
+  stands = got_kept earlier more place first.reason first.stands;
+  damaged = first.damaged;
+}
+
+got_last : (earlier : List Reason) (reason : Reason) → slice_get (earlier ++ reason ∷ []) (length earlier) ≡ Some reason
+got_last [] reason = refl
+got_last (first ∷ earlier) reason = got_last earlier reason
+
+take_before : (earlier more : List Reason) → take (length earlier) (earlier ++ more) ≡ earlier
+take_before [] more = refl
+take_before (first ∷ earlier) more = ap (λ (front : List Reason). first ∷ front) (take_before earlier more)
+
+-- and where damage ended none of them, the next one is the first that it ends
+first_now : (earlier : List Reason) (reason : Reason) (place : ℕ) → length earlier ≡ place → list_any is_damage earlier ≡ false → is_damage reason ≡ true → IsFirstDamaged (earlier ++ reason ∷ []) place
+first_now earlier reason place long none damaged =
+    subst (IsFirstDamaged (earlier ++ reason ∷ [])) long
+    (record {
+      none_before = ap (list_any is_damage) (take_before earlier (reason ∷ [])) ∙ none;
+      reason = reason;
+      stands = got_last earlier reason;
+      damaged = damaged;
+    })
 
 -- the damage that was met first, after one more text
 module _ (plan : Plan) (pages_told : Bool) (catalog : Catalog) (texts : List (List ℕ)) (since : ℕ) (device : Device) where
   abbrev ReadAt : (place : ℕ) → Told → Type 0
   ReadAt place result = IsSoOfText texts place (λ text side half. ToldReads plan pages_told since device catalog text side half result)
 
-  slot_read : (place : ℕ) (result : Told) (damage : Damage) → ReadAt place result → damage_in result ≡ Some damage → WasRead plan pages_told since device catalog texts damage
-  slot_read place told.Refused damage read e = cc
-  slot_read place told.Answered damage read e = cc
-  slot_read place told.Host damage read e = cc
-  slot_read place told.Link damage read e = cc
-  slot_read place told.Protocol damage read e = cc
-  slot_read place told.Marked damage read e = cc
-  slot_read place told.Flash damage read e = cc
-  slot_read place (told.Damaged met) damage read e =
-      subst (λ (d : Damage). WasRead plan pages_told since device catalog texts d) (some_same met damage e)
-      (place, record { text = read.text; stands = read.stands; half = read.half; is = read.is })
+  slot_read : (earlier : List Reason) (place : ℕ) (result : Told) (damage : Damage) → length earlier ≡ place → list_any is_damage earlier ≡ false → ReadAt place result → damage_in result ≡ Some damage
+      → WasRead plan pages_told since device catalog texts (earlier ++ reason_of result ∷ []) damage
+  slot_read earlier place told.Refused damage long none read e = cc
+  slot_read earlier place told.Answered damage long none read e = cc
+  slot_read earlier place told.Host damage long none read e = cc
+  slot_read earlier place told.Link damage long none read e = cc
+  slot_read earlier place told.Protocol damage long none read e = cc
+  slot_read earlier place told.Marked damage long none read e = cc
+  slot_read earlier place told.Flash damage long none read e = cc
+  slot_read earlier place (told.Damaged met) damage long none read e =
+      subst (λ (d : Damage). WasRead plan pages_told since device catalog texts (earlier ++ reason_of (told.Damaged met) ∷ []) d) (some_same met damage e)
+      (place, (first_now earlier (reason_of (told.Damaged met)) place long none refl, record { text = read.text; stands = read.stands; half = read.half; is = read.is }))
     where
       some_same : (x y : Damage) → Some x ≡ Some y → x ≡ y
       some_same x y f = cc
 
-  pub first_read : (place : ℕ) (before after : Option Damage) (result : Told) → after ≡ first_damage before (damage_in result) → ReadAt place result
-      → ((damage : Damage) → before ≡ Some damage → WasRead plan pages_told since device catalog texts damage)
-      → (damage : Damage) → after ≡ Some damage → WasRead plan pages_told since device catalog texts damage
-  first_read place (Some first) after result is read were damage e = were damage (sym is ∙ e)
-  first_read place None after result is read were damage e = slot_read place result damage read (sym is ∙ e)
+  pub first_read : (earlier : List Reason) (place : ℕ) (before after : Option Damage) (result : Told) → length earlier ≡ place → is_some before ≡ list_any is_damage earlier
+      → after ≡ first_damage before (damage_in result) → ReadAt place result
+      → ((damage : Damage) → before ≡ Some damage → WasRead plan pages_told since device catalog texts earlier damage)
+      → (damage : Damage) → after ≡ Some damage → WasRead plan pages_told since device catalog texts (earlier ++ reason_of result ∷ []) damage
+  first_read earlier place (Some first) after result long found is read were damage e =
+      let was = were damage (sym is ∙ e) in
+      (was.0, (first_stays earlier (reason_of result ∷ []) was.0 was.1.0, was.1.1))
+  first_read earlier place None after result long found is read were damage e = slot_read earlier place result damage long (sym found) read (sym is ∙ e)
 
 -- a text was told after the session had begun
 pub told_earlier : (plan : Plan) (pages_told : Bool) (catalog : Catalog) (early since : ℕ) (device : Device) (text : List ℕ) (side : ℕ) (half : Half) (result : Told) → early ≤ since

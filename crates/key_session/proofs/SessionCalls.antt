@@ -83,15 +83,12 @@ accepted_of : (read : Result Query Refusal) → is_err read ≡ false → (query
 accepted_of (Ok query) e = (query, refl)
 accepted_of (Err refusal) e = absurd (true_is_not_false e)
 
--- the flash did not fail before either, and its count did not come to its last value
+-- the flash did not fail before either
 unfailed_before : (since before now : ℕ) → min before last_count ≤ now → (Rose since now → ⊥) → Rose since before → ⊥
 unfailed_before since before now stays unfailed rose = unfailed (omega (arith, stays, rose))
 
 unfailed_between : (since before now : ℕ) → min since last_count ≤ before → (Rose since now → ⊥) → Rose before now → ⊥
 unfailed_between since before now stayed unfailed rose = unfailed (omega (arith, stayed, rose))
-
-less_before : (before now : ℕ) → min before last_count ≤ now → now < last_count → before < last_count
-less_before before now stays less = omega (arith, stays, less)
 
 min_later : (since before now : ℕ) → min since last_count ≤ before → min before last_count ≤ now → min since last_count ≤ now
 min_later since before now one other = omega (arith, one, other)
@@ -136,7 +133,7 @@ module _ (laws : CallLaws) (told : Bool) (cat : Catalog) (database : Database) (
       stage.side.flash.calls ≤ since.flash.calls + (spent_for cat.schema database texts stage.session.teller + 2 * pages_heard cat.schema (heard_in cat texts stage.journal))
 
   module _ (before last : Stage) (more : Journal) (journal_is : last.journal ≡ before.journal ++ more) (same : last.session.cat.now ≡ cat) (unrefused : was_refused (heard_in cat texts last.journal).ended ≡ false)
-      (unfailed : Rose since.flash.faults last.side.flash.faults → ⊥) (less : last.side.flash.calls < last_count) (low : min since.flash.faults last_count ≤ before.side.flash.faults) where
+      (unfailed : Rose since.flash.faults last.side.flash.faults → ⊥) (low : min since.flash.faults last_count ≤ before.side.flash.faults) where
     -- a move
     module _ (moved : WasMoved (λ went. went ≡ more) by_pre told texts before.journal since before.side last.side last.pool before.session last.session) where
       its_journal : last.journal ≡ before.journal ++ moved.made ∷ []
@@ -203,7 +200,7 @@ module _ (laws : CallLaws) (told : Bool) (cat : Catalog) (database : Database) (
       spends =
           subst (λ (c : Catalog). SpendsCalls told since.flash.page c texts before.journal before.side.flash last.side.flash before.session.teller last.session.teller) (sym sliced.cat ∙ same) (sliced.spends refl)
           database (served_at before.journal rest (whole ∙ ap (λ (journal : Journal). journal ++ rest) still_journal) before.session.teller.count)
-          (unfailed_between since.flash.faults before.side.flash.faults last.side.flash.faults low unfailed) less
+          (unfailed_between since.flash.faults before.side.flash.faults last.side.flash.faults low unfailed)
 
       slice_holds : Holds before → Holds last
       slice_holds had =
@@ -223,22 +220,21 @@ module _ (laws : CallLaws) (told : Bool) (cat : Catalog) (database : Database) (
     step_holds rest whole due.Ended none had = absurd none
 
   pub stages_hold : (earlier : List Stage) (last : Stage) (rest : Journal) → final ≡ last.journal ++ rest → last.session.cat.now ≡ cat → was_refused (heard_in cat texts last.journal).ended ≡ false
-      → (Rose since.flash.faults last.side.flash.faults → ⊥) → last.side.flash.calls < last_count → AreStages by_pre told texts numbers since last earlier → Holds last
-  stages_hold [] last rest whole same unrefused unfailed less first =
+      → (Rose since.flash.faults last.side.flash.faults → ⊥) → AreStages by_pre told texts numbers since last earlier → Holds last
+  stages_hold [] last rest whole same unrefused unfailed first =
       let calls = ap (λ (side : SessionSide). side.flash.calls) first.side_is in
       omega (arith, calls)
-  stages_hold (before ∷ earlier) last rest whole same unrefused unfailed less stages =
+  stages_hold (before ∷ earlier) last rest whole same unrefused unfailed stages =
       let next : IsNextStage by_pre told texts since before last = stages.0 in
       let low = faults_low told texts numbers since earlier before stages.1 in
       let d : Due = due_by_rule before.session.cat.now texts before.journal before.session in
       let counts = counts_of (due_by_rule before.session.cat.now texts before.journal before.session) (λ went. went ≡ next.more) told texts before.journal since before last next.went in
-      step_holds before last next.more next.journal_is same unrefused unfailed less low rest whole (due_by_rule before.session.cat.now texts before.journal before.session) next.went
+      step_holds before last next.more next.journal_is same unrefused unfailed low rest whole (due_by_rule before.session.cat.now texts before.journal before.session) next.went
       (stages_hold earlier before (next.more ++ rest)
       (whole ∙ (ap (λ (journal : Journal). journal ++ rest) next.journal_is ∙ append_assoc before.journal next.more rest))
       (sym (cat_of (due_by_rule before.session.cat.now texts before.journal before.session) (λ went. went ≡ next.more) told texts before.journal since before last next.went) ∙ same)
-      (unrefused_by before last next.more next.journal_is same unrefused unfailed less low (due_by_rule before.session.cat.now texts before.journal before.session) next.went)
+      (unrefused_by before last next.more next.journal_is same unrefused unfailed low (due_by_rule before.session.cat.now texts before.journal before.session) next.went)
       (unfailed_before since.flash.faults before.side.flash.faults last.side.flash.faults counts.faults unfailed)
-      (less_before before.side.flash.calls last.side.flash.calls counts.calls less)
       stages.1)
 
   -- ---- at the end
@@ -275,13 +271,13 @@ module _ (laws : CallLaws) (told : Bool) (cat : Catalog) (database : Database) (
 
   -- all texts were told, and none is told now
   pub whole_calls : (earlier : List Stage) (last : Stage) → last.journal ≡ final → last.session.cat.now ≡ cat → last.session.teller.count ≡ length texts → last.session.teller.running ≡ None
-      → (Rose since.flash.faults last.side.flash.faults → ⊥) → last.side.flash.calls < last_count → AreStages by_pre told texts numbers since last earlier
+      → (Rose since.flash.faults last.side.flash.faults → ⊥) → AreStages by_pre told texts numbers since last earlier
       → last.side.flash.calls ≤ since.flash.calls + session_calls cat.schema database texts
-  whole_calls earlier last journal_is same count none unfailed less stages =
+  whole_calls earlier last journal_is same count none unfailed stages =
       let unrefused : was_refused (heard_in cat texts last.journal).ended ≡ false =
       ap (λ (journal : Journal). was_refused (heard_in cat texts journal).ended) journal_is ∙ (laws.smooth cat database at texts final honest).none_refused in
       let holds : last.side.flash.calls ≤ since.flash.calls + (spent_for cat.schema database texts last.session.teller + 2 * pages_heard cat.schema (heard_in cat texts last.journal)) =
-      stages_hold earlier last [] (sym journal_is ∙ sym (append-nil last.journal)) same unrefused unfailed less stages in
+      stages_hold earlier last [] (sym journal_is ∙ sym (append-nil last.journal)) same unrefused unfailed stages in
       let works : sum_by (text_work cat.schema database) (take last.session.teller.count texts) ≡ sum_by (text_work cat.schema database) texts =
       ap (λ (n : ℕ). sum_by (text_work cat.schema database) (take n texts)) count ∙ ap (sum_by (text_work cat.schema database)) (take_all texts) in
       let spent : spent_by last.session.teller.running ≡ 0 = ap spent_by none in
@@ -295,8 +291,8 @@ module _ (laws : CallLaws) (told : Bool) (cat : Catalog) (database : Database) (
       take_all (first ∷ some) = ap (λ (xs : List (List ℕ)). first ∷ xs) (take_all some)
 
 pub few_calls : CallLaws → RunsTakeFewCalls
-few_calls laws plan told cat at texts numbers since last setting is_proper finished run = λ database is_pre sound less.
+few_calls laws plan told cat at texts numbers since last setting is_proper finished run = λ database is_pre sound.
     let pages : KnowsBy by_pre told since.flash.page cat database = subst (λ (by : Plan). KnowsBy by told since.flash.page cat database) is_pre sound.pages in
     whole_calls laws told cat database at texts numbers since last.journal pages
     (record { setting = setting; stored = stored by_pre told since.flash.page cat database setting.proper pages; proper = is_proper; honest = sound.host }) finished
-    run.earlier last refl run.catalog_is run.all_told run.none_told_now sound.flash less (subst (λ (by : Plan). AreStages by told texts numbers since last run.earlier) is_pre run.stages)
+    run.earlier last refl run.catalog_is run.all_told run.none_told_now sound.flash (subst (λ (by : Plan). AreStages by told texts numbers since last run.earlier) is_pre run.stages)

@@ -21,12 +21,12 @@ use Rattle.session_laws.specs.TextCases.{TextsAreDecided}
 use Rattle.visible_spool.specs.declared.half.Half.{Half}
 use Rattle.key_lines.specs.Handing.{Handed}
 use Rattle.key_exec.specs.Plans.{by_pre}
-use Rattle.edge_traits.specs.Devices.{Device}
+use Rattle.edge_traits.specs.Devices.{Device, Counts}
 use Rattle.page_pool.specs.Pools.{Pool}
 use Rattle.key_exec.specs.Laws.{DamageIsNeverMet, KnowledgeIsEnough, PagesStayKnown}
 use Rattle.key_exec.specs.Reading.{KnowsBy}
 use Rattle.key_exec.specs.Texts.{ToldTells, StepTells}
-use Rattle.key_exec.specs.Telling.{HasTold, ToldCounts}
+use Rattle.key_exec.specs.Telling.{HasTold}
 use Rattle.key_exec.specs.Within.{IsServed, SpentWithin, text_work}
 use Rattle.key_exec.specs.declared.telling.Telling.{Telling}
 use Rattle.key_exec.specs.declared.text.Told.{Told}
@@ -85,7 +85,7 @@ module _ (laws : SpendLaws) (pages_told : Bool) (catalog : Catalog) (tree : IsTr
       laws.never by_pre pages_told first.flash.page catalog blamed.query blamed.top side half database damage.page damage.slot damage.found tree pages_now blamed.is
 
 -- a step of the text is within its work, where the flash does not fail and no slot is damaged
-pub ended_within : (old_spent new_spent work before now before_faults now_faults : ℕ) (result : Told) → ToldCounts by_pre (new_spent - old_spent) before now (Some result) → old_spent ≤ new_spent
+pub ended_within : (old_spent new_spent work before now before_faults now_faults : ℕ) (result : Told) → Counts (new_spent - old_spent) before now → old_spent ≤ new_spent
     → SpentWithin new_spent work (Some result) → ToldTells before_faults now_faults result → (Rose before_faults now_faults → ⊥) → ((damage : _) → result ≡ told.Damaged damage → ⊥)
     → now + old_spent ≤ before + work
 ended_within old_spent new_spent work before now before_faults now_faults told.Refused counts rises within tells unfailed undamaged = let most = counts.most in omega (arith, most, rises, within)

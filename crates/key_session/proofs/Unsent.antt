@@ -6,14 +6,14 @@ use Rattle.std.proofs.lemmas.List.{length-append}
 use Rattle.std.proofs.lemmas.List.Sums.{sum_by-cons}
 use Rattle.std.proofs.lemmas.Bool.Decides.{nat_tests}
 use Rattle.ghost_model.specs.core.Schema.{Schema}
-use Rattle.ghost_model.specs.core.Channel.{Catalog, Frame, HelloFrame, AskFrame, MoreFrame, ByeFrame, WelcomeFrame, RowsFrame, DoneFrame, SorryFrame, Move, Dial, Listen, Accept, Send, Take, Close, Entry, Journal}
+use Rattle.ghost_model.specs.core.Channel.{Catalog, Frame, HelloFrame, AskFrame, MoreFrame, ByeFrame, WelcomeFrame, RowsFrame, DoneFrame, SorryFrame, Move, Dial, Listen, Accept, Send, Take, Close, Answer, Made, Port, Piece, End, Failed, Entry, Journal}
 use Rattle.ghost_model.specs.forms.Frames.{frame_in, frame_bytes}
 use Rattle.ghost_model.specs.core.Asks.{NumberedAsk, asked_of, ask_payload}
 use Rattle.ghost_model.specs.core.Moves.{sent, sent_by, piece_of}
-use Rattle.ghost_model.specs.core.NextMove.{Awaits, AwaitsCatalog, AwaitsReply, AwaitsNothing, Ending, Answered, Refused, EndedAsk, Heard, Standing, Verdict, Lacking, Complete, Invalid, GoesOn, after_frame, ask_next, still, of_later_texts, verdict, heard_as, hear, hear_all, heard, standing_after, take_or_close, send_or, move_from, next_with}
+use Rattle.ghost_model.specs.core.NextMove.{Awaits, AwaitsCatalog, AwaitsReply, AwaitsNothing, Ending, Answered, Refused, EndedAsk, Heard, Standing, Verdict, Lacking, Complete, Invalid, GoesOn, after_frame, ask_next, still, of_later_texts, verdict, heard_as, hear, hear_all, heard, standing_after, take_or_close, send_or, move_from, next_with, is_close, is_stop}
 use Rattle.ghost_model.proofs.ChannelLemmas.Tests.{both_hold, hold_both}
-use Rattle.channel_pump.specs.Progress.{Tells, ended_on}
-use Rattle.channel_pump.specs.Sessions.{asked_in}
+use Rattle.channel_pump.specs.Progress.{Tells, IsUnbroken, ended_on}
+use Rattle.channel_pump.specs.Sessions.{asked_in, leads_on}
 use Rattle.channel_pump.specs.State.{IsAfter, IsLeft, IsStage, IsCause, is_link, is_protocol, is_opened, has_stopped, has_broken}
 use Rattle.channel_pump.specs.declared.state.Pump.{Pump}
 use Rattle.channel_pump.specs.declared.state.Stage.{Stage}
@@ -22,7 +22,7 @@ use Rattle.channel_pump.specs.declared.state.Cause.{Cause}
 use Rattle.channel_pump.specs.declared.state.Cause.TheVariants as cause_is
 use Rattle.channel_pump.specs.declared.state.Event.{Event}
 use Rattle.channel_pump.specs.declared.state.Event.TheVariants as event_is
-use Rattle.channel_pump.proofs.JournalLemmas.{left_more}
+use Rattle.channel_pump.proofs.JournalLemmas.{left_more, hear_none}
 use Rattle.session_laws.specs.TextEnds.{heard_in}
 use Rattle.key_session.specs.Going.{IsNear}
 use Rattle.key_session.specs.Unsent.{serial_at, IsUnsent, FarIsUnsent}
@@ -213,8 +213,9 @@ module _ (catalog : Catalog) (at : List ℕ) (asks : List NumberedAsk) where
       subst (λ (j : Journal). length (sent (j ++ entry ∷ [])) ≤ length (due_after j)) (append_assoc before (first ∷ []) journal)
       (all_sent (before ++ first ∷ []) journal entry goes.1 (omega (arith, one, more)))
 
--- ---- a frame that is due behind those that were sent is sent by the next move, unless that is the close
+-- ---- a frame that is due behind those that were sent is sent by the next move
 
+-- after a failure, the end of the stream or an invalid frame it is the close
 closes : (opened closed over : Bool) (at : List ℕ) (rest : Option Move) (move : Move) → opened ≡ true → over ≡ true
     → (if not opened then Some (Dial at) else if closed then None else if over then Some Close else rest) ≡ Some move → move ≡ Close
 closes false closed over at rest move o s e = cc
@@ -222,61 +223,109 @@ closes true true over at rest move o s e = cc
 closes true false false at rest move o s e = cc
 closes true false true at rest move o s e = cc
 
-closes_or : (opened closed over : Bool) (at : List ℕ) (last move : Move) → opened ≡ true
-    → (if not opened then Some (Dial at) else if closed then None else if over then Some Close else Some last) ≡ Some move → (move ≡ Close) ⊎ (move ≡ last)
-closes_or false closed over at last move o e = cc
-closes_or true true over at last move o e = cc
-closes_or true false true at last move o e = inl cc
-closes_or true false false at last move o e = inr cc
+goes_last : (opened closed stopped broken : Bool) (at : List ℕ) (last move : Move) → opened ≡ true → stopped ≡ false → broken ≡ false
+    → (if not opened then Some (Dial at) else if closed then None else if stopped || broken then Some Close else Some last) ≡ Some move → move ≡ last
+goes_last false closed stopped broken at last move o s b e = cc
+goes_last true true stopped broken at last move o s b e = cc
+goes_last true false true broken at last move o s b e = cc
+goes_last true false false true at last move o s b e = cc
+goes_last true false false false at last move o s b e = cc
 
-either_over : (a b : Bool) → b ≡ true → (a || b) ≡ true
-either_over true b e = refl
-either_over false b e = e
+none_closed : (opened closed : Bool) (at : List ℕ) (rest : Option Move) (move : Move) → opened ≡ true → closed ≡ true
+    → (if not opened then Some (Dial at) else if closed then None else rest) ≡ Some move → ⊥
+none_closed false closed at rest move o c e = cc
+none_closed true false at rest move o c e = cc
+none_closed true true at rest move o c e = cc
 
 first_over : (a b : Bool) → a ≡ true → (a || b) ≡ true
 first_over true b e = refl
 first_over false b e = cc
 
+second_over : (a b : Bool) → b ≡ true → (a || b) ≡ true
+second_over true b e = refl
+second_over false b e = e
+
+neither_over : (a b : Bool) → (a ≡ true → ⊥) → (b ≡ true → ⊥) → (a || b) ≡ false
+neither_over true b na nb = absurd (na refl)
+neither_over false true na nb = absurd (nb refl)
+neither_over false false na nb = refl
+
+both_ways : true ≡ false → ⊥
+both_ways e = cc
+
 some_got : (found : Option Frame) (frame : Frame) → found ≡ Some frame → is_some found ≡ true
 some_got (Some _) frame e = refl
 some_got None frame e = cc
 
-module _ (catalog : Catalog) (at : List ℕ) (asks : List NumberedAsk) (pump : Pump) (l : Standing) (opened : l.opened ≡ true) (stands : IsLeft catalog asks pump l) (place : ℕ) (frame : Frame)
-    (there : slice_get l.heard.due place ≡ Some frame) (unsent : l.sent ≤ place) where
+module _ (catalog : Catalog) (at : List ℕ) (asks : List NumberedAsk) (pump : Pump) (l : Standing) (opened : l.opened ≡ true) (stopped : l.stopped ≡ false) (broken : l.heard.broken ≡ false)
+    (stands : IsLeft catalog asks pump l) (place : ℕ) (frame : Frame) (there : slice_get l.heard.due place ≡ Some frame) (unsent : l.sent ≤ place) where
   is_within : place < length l.heard.due
   is_within = got_within l.heard.due place (some_got (slice_get l.heard.due place) frame there)
 
   all_were_sent : length l.heard.due ≡ l.sent → ⊥
   all_were_sent e = let less = is_within in omega (arith, e, less, unsent)
 
-  here_next : length l.heard.due ≡ l.sent + 1 → (move : Move) → move_from catalog at l ≡ Some move → (move ≡ Close) ⊎ (move ≡ Send (frame_bytes frame))
+  here_next : length l.heard.due ≡ l.sent + 1 → (move : Move) → move_from catalog at l ≡ Some move → move ≡ Send (frame_bytes frame)
   here_next last move e =
       let less = is_within in
       let same : place ≡ l.sent = omega (arith, last, less, unsent) in
       let found : slice_get l.heard.due l.sent ≡ Some frame = ap (slice_get l.heard.due) (sym same) ∙ there in
       let other = take_or_close catalog l.heard l.heard.awaits in
-      closes_or l.opened l.closed (l.stopped || l.heard.broken) at (Send (frame_bytes frame)) move opened
+      goes_last l.opened l.closed l.stopped l.heard.broken at (Send (frame_bytes frame)) move opened stopped broken
       (subst (λ (o : Option Frame). (if not l.opened then Some (Dial at) else if l.closed then None else if l.stopped || l.heard.broken then Some Close else Some (send_or other o)) ≡ Some move) found e)
 
-  caused : (cause : Cause) → IsCause pump l cause → l.stopped ≡ is_link cause → l.heard.broken ≡ is_protocol cause → (move : Move) → move_from catalog at l ≡ Some move → move ≡ Close
-  caused cause_is.Finished is stopped broken move e = absurd (all_were_sent is.sent)
-  caused cause_is.Link is stopped broken move e = closes l.opened l.closed (l.stopped || l.heard.broken) at _ move opened (first_over l.stopped l.heard.broken stopped) e
-  caused (cause_is.Protocol _ _) is stopped broken move e = closes l.opened l.closed (l.stopped || l.heard.broken) at _ move opened (either_over l.stopped l.heard.broken broken) e
+  no_cause : (cause : Cause) → IsCause pump l cause → l.stopped ≡ is_link cause → l.heard.broken ≡ is_protocol cause → ⊥
+  no_cause cause_is.Finished is by_link by_frame = all_were_sent is.sent
+  no_cause cause_is.Link is by_link by_frame = both_ways (sym by_link ∙ stopped)
+  no_cause (cause_is.Protocol _ _) is by_link by_frame = both_ways (sym by_frame ∙ broken)
 
-  not_opened : l.opened ≡ false → ⊥
-  not_opened e = true_is_not_false (sym opened ∙ e)
-    where
-      true_is_not_false : true ≡ false → ⊥
-      true_is_not_false e = cc
-
-  sends_next : (stage : Stage) → pump.stage ≡ stage → (move : Move) → move_from catalog at l ≡ Some move → (move ≡ Close) ⊎ (move ≡ Send (frame_bytes frame))
-  sends_next stage_is.Dialling is move e = absurd (not_opened (stands.opened ∙ ap is_opened is))
+  sends_next : (stage : Stage) → pump.stage ≡ stage → (move : Move) → move_from catalog at l ≡ Some move → move ≡ Send (frame_bytes frame)
+  sends_next stage_is.Dialling is move e = absurd (both_ways (sym opened ∙ (stands.opened ∙ ap is_opened is)))
   sends_next (stage_is.Sending outgoing) is move e = here_next (subst (λ (s : Stage). IsStage catalog pump l s) is stands.stage).last move e
   sends_next stage_is.Taking is move e = absurd (all_were_sent (subst (λ (s : Stage). IsStage catalog pump l s) is stands.stage).sent)
   sends_next (stage_is.Closing cause) is move e =
-      inl (caused cause (subst (λ (s : Stage). IsStage catalog pump l s) is stands.stage) (stands.stopped ∙ ap has_stopped is) (stands.broken ∙ ap has_broken is) move e)
+      absurd (no_cause cause (subst (λ (s : Stage). IsStage catalog pump l s) is stands.stage) (stands.stopped ∙ ap has_stopped is) (stands.broken ∙ ap has_broken is))
   sends_next (stage_is.Closed cause) is move e =
-      inl (caused cause (subst (λ (s : Stage). IsStage catalog pump l s) is stands.stage) (stands.stopped ∙ ap has_stopped is) (stands.broken ∙ ap has_broken is) move e)
+      absurd (no_cause cause (subst (λ (s : Stage). IsStage catalog pump l s) is stands.stage) (stands.stopped ∙ ap has_stopped is) (stands.broken ∙ ap has_broken is))
+
+-- ---- the session was not stopped where another ask came to hand
+
+piece_of_stop : (answer : Answer) → is_stop answer ≡ true → piece_of answer ≡ []
+piece_of_stop Made e = refl
+piece_of_stop (Port _) e = refl
+piece_of_stop (Piece _) e = cc
+piece_of_stop End e = refl
+piece_of_stop Failed e = refl
+
+is_close_of : (move : Move) → move ≡ Close → is_close move ≡ true
+is_close_of move e = ap is_close e
+
+module _ (catalog : Catalog) (at : List ℕ) (asks : List NumberedAsk) where
+  made_by : (before journal : Journal) (made : Entry) → GoesOn catalog at asks before (journal ++ made ∷ []) → next_with catalog at asks (before ++ journal) ≡ Some made.move
+  made_by before [] made goes = subst (λ (j : Journal). next_with catalog at asks j ≡ Some made.move) (sym (append-nil before)) goes.0
+  made_by before (first ∷ journal) made goes =
+      subst (λ (j : Journal). next_with catalog at asks j ≡ Some made.move) (append_assoc before (first ∷ []) journal) (made_by (before ++ first ∷ []) journal made goes.1)
+
+  -- after a stop the next move is the close
+  closes_stopped : (journal : Journal) (move : Move) → (standing_after catalog asks journal).stopped ≡ true → next_with catalog at asks journal ≡ Some move → move ≡ Close
+  closes_stopped [] move e next = absurd (both_ways (sym e))
+  closes_stopped (first ∷ journal) move e next =
+      let l : Standing = standing_after catalog asks (first ∷ journal) in
+      closes true l.closed (l.stopped || l.heard.broken) at _ move refl (first_over l.stopped l.heard.broken e) next
+
+  not_stopped : (journal : Journal) (made : Entry) (move : Move) → GoesOn catalog at asks [] (journal ++ made ∷ []) → (is_stop made.answer ≡ true → ⊥)
+      → next_with catalog at asks (journal ++ made ∷ []) ≡ Some move → (standing_after catalog asks (journal ++ made ∷ [])).stopped ≡ false
+  not_stopped journal made move goes answered next =
+      let l : Standing = standing_after catalog asks journal in
+      let more = left_more catalog asks journal made in
+      ap (λ (l : Standing). l.stopped) more
+      ∙ neither_over l.stopped (is_stop made.answer)
+      (λ (stopped : l.stopped ≡ true).
+          let close : made.move ≡ Close = closes_stopped journal made.move stopped (made_by [] journal made goes) in
+          let new : Standing = standing_after catalog asks (journal ++ made ∷ []) in
+          none_closed new.opened new.closed at _ move (ap (λ (l : Standing). l.opened) more)
+          (ap (λ (l : Standing). l.closed) more ∙ second_over l.closed (is_close made.move) (is_close_of made.move close)) next)
+      answered
 
 -- ---- no ask of the text was ended
 
@@ -361,14 +410,26 @@ module _ (catalog : Catalog) (at : List ℕ) (texts : List (List ℕ)) (journal 
       none_some : (one : NumberedAsk) → None ≡ Some one → ⊥
       none_some one e = cc
 
+  -- an event that leads to another ask leaves no invalid frame
+  unbroken : (event : Event) → IsUnbroken event after → (leads_on event ≡ false → ⊥) → after.broken ≡ false
+  unbroken event_is.Part is leads = absurd (leads refl)
+  unbroken event_is.Welcome is leads = is
+  unbroken (event_is.Rows _) is leads = is
+  unbroken event_is.Done is leads = is
+  unbroken (event_is.Sorry _) is leads = is
+  unbroken (event_is.Invalid _ _) is leads = absurd (leads refl)
+
   pub far_unsent : (pump : Pump) → IsAfter catalog asks (journal ++ made ∷ []) pump → GoesOn catalog at asks [] (journal ++ made ∷ []) → IsNear catalog texts journal (count + 2) → Tells catalog page event before after
-      → FarIsUnsent catalog at texts (journal ++ made ∷ []) count
-  far_unsent pump stands goes near tells = λ asked awaited far. go asked awaited far ((subst (λ (h : Heard). Grown catalog asks before.awaits (length before.due) h.awaits h.due) (sym heard_more) (grown catalog asks before (piece_of made.answer))).asked asked awaited)
+      → (leads_on event ≡ false → asked_in after.awaits ≡ asked_in before.awaits) → FarIsUnsent catalog at texts (journal ++ made ∷ []) count
+  far_unsent pump stands goes near tells same_ask = λ asked awaited far. go asked awaited far ((subst (λ (h : Heard). Grown catalog asks before.awaits (length before.due) h.awaits h.due) (sym heard_more) (grown catalog asks before (piece_of made.answer))).asked asked awaited)
     where
+      not_near : (asked : NumberedAsk) → count + 3 ≤ asked.text → asked_in before.awaits ≡ Some asked → ⊥
+      not_near asked far was = let close = near asked was in omega (arith, close, far)
+
       go : (asked : NumberedAsk) → asked_in after.awaits ≡ Some asked → count + 3 ≤ asked.text
           → (asked_in before.awaits ≡ Some asked) ⊎ IsDue catalog asks before.awaits (length before.due) after.due asked (serial_at after.awaits)
           → IsUnsent catalog at texts (journal ++ made ∷ []) asked
-      go asked awaited far (inl was) = let close = near asked was in absurd (omega (arith, close, far))
+      go asked awaited far (inl was) = absurd (not_near asked far was)
       go asked awaited far (inr is) =
           let sent_few = all_sent catalog at asks [] journal made goes (omega arith) in
           let behind = is.behind in
@@ -377,7 +438,12 @@ module _ (catalog : Catalog) (at : List ℕ) (texts : List (List ℕ)) (journal 
             place = is.place;
             due = is.there;
             unsent = omega (arith, sent_few, behind);
-            next = λ move e. sends_next catalog at asks pump (standing_after catalog asks (journal ++ made ∷ [])) (ap (λ (l : Standing). l.opened) (left_more catalog asks journal made)) stands is.place _ is.there (omega (arith, sent_few, behind)) pump.stage refl move e;
+            next = λ move e. sends_next catalog at asks pump (standing_after catalog asks (journal ++ made ∷ [])) (ap (λ (l : Standing). l.opened) (left_more catalog asks journal made))
+                (not_stopped catalog at asks journal made move goes
+                (λ (stop : is_stop made.answer ≡ true). not_near asked far (sym (ap (λ (h : Heard). asked_in h.awaits)
+                (heard_more ∙ (ap (hear_all catalog asks before) (piece_of_stop made.answer stop) ∙ hear_none catalog asks before))) ∙ awaited)) e)
+                (unbroken event tells.unbroken (λ (stays : leads_on event ≡ false). not_near asked far (sym (same_ask stays) ∙ awaited)))
+                stands is.place _ is.there (omega (arith, sent_few, behind)) pump.stage refl move e;
           }
 
 -- before the first move no ask is at hand

@@ -1,7 +1,7 @@
 -- A session that answers all its texts: the host is honest and holds the public part of a database, the flash holds its
 -- hidden part, and neither the flash nor the sink failed. And how often such a session calls the flash, whatever the sink did.
-use Rattle.std.specs.Prelude.{◌≡◌, ℕ, ◌+◌, ◌≤◌, ◌<◌, Bool, false, List}
-use Rattle.ghost_model.specs.core.Causes.{Rose, last_count}
+use Rattle.std.specs.Prelude.{◌≡◌, ℕ, ◌+◌, ◌≤◌, Bool, false, List}
+use Rattle.ghost_model.specs.core.Causes.{Rose}
 use Rattle.ghost_model.specs.core.Values.{Database}
 use Rattle.ghost_model.specs.core.Channel.{Catalog, Journal}
 use Rattle.ghost_model.specs.core.Honest.{IsHonest}
@@ -39,8 +39,8 @@ pub record IsWellServed (by : Plan) (told : Bool) (cat : Catalog) (database : Da
   pub pages : KnowsBy by told since.flash.page cat database
   pub flash : Rose since.flash.faults now.flash.faults → ⊥
 
--- by the plan `pre` the flash was called no more often than its texts take, as long as its count of calls did not come to its last value
+-- by the plan `pre` the flash was called no more often than its texts take
 abbrev pub CallsAreFew : (by : Plan) (told : Bool) → Catalog → (texts : List (List ℕ)) → Journal → (since now : SessionSide) → Type 0
 CallsAreFew by told cat texts journal since now =
-    (database : Database) → by ≡ by_pre → IsWellServed by told cat database journal since now → now.flash.calls < last_count
+    (database : Database) → by ≡ by_pre → IsWellServed by told cat database journal since now
     → now.flash.calls ≤ since.flash.calls + session_calls cat.schema database texts

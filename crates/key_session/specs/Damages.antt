@@ -1,6 +1,7 @@
 -- The damage that texts met: each text that it ended names a slot that is damaged, one that is read for this text, and the first of
 -- them in the order of the texts is the one that is told.
-use Rattle.std.specs.Prelude.{◌≡◌, ℕ, ◌+◌, ◌%◌, Bool, List, map, slice_get, Option, Some, is_some}
+use Rattle.std.specs.Prelude.{◌≡◌, ℕ, ◌+◌, ◌%◌, Bool, true, false, List, map, take, slice_get, Option, Some, is_some}
+use Rattle.std.specs.List.{list_any}
 use Rattle.ghost_model.specs.core.Channel.{Catalog}
 use Rattle.ghost_model.specs.core.Lines.{Reason}
 use Rattle.visible_spool.specs.declared.half.Half.{Half}
@@ -28,11 +29,19 @@ IsSlotOf by pages_told page catalog texts place damage =
 abbrev pub IsSlot : (by : Plan) (pages_told : Bool) (page : ℕ → List ℕ) → Catalog → (texts : List (List ℕ)) → Damage → Type 0
 IsSlot by pages_told page catalog texts damage = (place : ℕ) × IsSlotOf by pages_told page catalog texts place damage
 
--- and the session read it there for one of them, from so many calls on
-abbrev pub WasRead : (by : Plan) (pages_told : Bool) (since : ℕ) → Device → Catalog → (texts : List (List ℕ)) → Damage → Type 0
-WasRead by pages_told since device catalog texts damage =
+-- of the texts with these reasons that at a place is the first that damage ended
+pub record IsFirstDamaged (reasons : List Reason) (place : ℕ) : Type 0 where
+  pub none_before : list_any is_damage (take place reasons) ≡ false
+  pub reason : Reason
+  pub stands : slice_get reasons place ≡ Some reason
+  pub damaged : is_damage reason ≡ true
+
+-- the session read it there for the first of them that damage ended, from so many calls on
+abbrev pub WasRead : (by : Plan) (pages_told : Bool) (since : ℕ) → Device → Catalog → (texts : List (List ℕ)) → (reasons : List Reason) → Damage → Type 0
+WasRead by pages_told since device catalog texts reasons damage =
     (place : ℕ)
-    × IsSoOfText texts place (λ text side half. WasDamagedFor by pages_told since device catalog text side half damage.page damage.slot damage.found)
+    × (IsFirstDamaged reasons place
+    × IsSoOfText texts place (λ text side half. WasDamagedFor by pages_told since device catalog text side half damage.page damage.slot damage.found))
 
 -- some texts have these reasons, and this is the damage that the first of them met that damage ended
 pub record MeetsFirst (by : Plan) (pages_told : Bool) (page : ℕ → List ℕ) (catalog : Catalog) (texts : List (List ℕ)) (reasons : List Reason) (first : Option Damage) : Type 0 where

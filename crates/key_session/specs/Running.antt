@@ -96,7 +96,7 @@ pub record HasRun (goes : Journal → Type 0) (link_before link_now : ℕ) (by :
   pub answers : (database : Database) → KnowsButBy by pages_told since.flash.page catalog database
       → HaveAnswerLines catalog (hidden_of catalog.schema database) texts journal reasons.reasons since.sink now.sink
   pub damaged : (damage : Damage) → tally.status ≡ status.Damaged damage → IsSlot by pages_told since.flash.page catalog texts damage
-  pub damage_read : (damage : Damage) → tally.status ≡ status.Damaged damage → WasRead by pages_told since.flash.calls now.flash catalog texts damage
+  pub damage_read : (damage : Damage) → tally.status ≡ status.Damaged damage → WasRead by pages_told since.flash.calls now.flash catalog texts reasons.reasons damage
   -- and where they are those of a database, no text met damage
   pub undamaged : (database : Database) → KnowsBy by pages_told since.flash.page catalog database → list_any is_damage reasons.reasons ≡ false
   -- an honest host, pages that hold and no fault: all is printed, and the status is Ok

@@ -1,5 +1,5 @@
 -- What is spent for the texts of a session: the calls of the flash that their jobs make, by the plan `pre`.
-use Rattle.std.specs.Prelude.{◌≡◌, ℕ, suc, ◌+◌, ◌≤◌, ◌<◌, min, Bool, true, List, take, sum_by, slice_get, Option, Some, None, Ok}
+use Rattle.std.specs.Prelude.{◌≡◌, ℕ, suc, ◌+◌, ◌≤◌, min, Bool, true, List, take, sum_by, slice_get, Option, Some, None, Ok}
 use Rattle.ghost_model.specs.core.Causes.{Rose, last_count}
 use Rattle.ghost_model.specs.core.Schema.{Schema}
 use Rattle.ghost_model.specs.core.Values.{Database}
@@ -44,5 +44,5 @@ pub record IsServedText (pages_told : Bool) (page : ℕ → List ℕ) (catalog :
 abbrev pub SpendsCalls : (pages_told : Bool) (page : ℕ → List ℕ) → Catalog → (texts : List (List ℕ)) → Journal → (before now : Device) → (old new : Teller) → Type 0
 SpendsCalls pages_told page catalog texts journal before now old new =
     (database : Database) → IsServedText pages_told page catalog texts journal old.count database
-    → (Rose before.faults now.faults → ⊥) → now.calls < last_count
+    → (Rose before.faults now.faults → ⊥)
     → now.calls + spent_for catalog.schema database texts old ≤ before.calls + spent_for catalog.schema database texts new

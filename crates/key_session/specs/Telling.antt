@@ -85,8 +85,8 @@ pub record IsTelling (by : Plan) (pages_told : Bool) (catalog : Catalog) (texts 
   pub marked : AreMarked catalog texts count since.flash.calls device.calls replies
   pub prints : PrintsSome since.sink sink
   pub damaged : (damage : Damage) → counts.damage ≡ Some damage → IsSlot by pages_told since.flash.page catalog texts damage
-  pub read : (damage : Damage) → counts.damage ≡ Some damage → WasRead by pages_told since.flash.calls device catalog texts damage
   pub reasons : HaveSoFar catalog texts journal count (AreKeptSoFar by pages_told since.flash.page catalog texts counts (marks_behind replies count) since.flash.faults device.faults)
+  pub read : (damage : Damage) → counts.damage ≡ Some damage → WasRead by pages_told since.flash.calls device catalog texts reasons.reasons damage
   pub lines : HaveLines catalog texts journal reasons.reasons since.sink sink
   pub answers : (database : Database) → KnowsButBy by pages_told since.flash.page catalog database
       → HaveAnswerLines catalog (hidden_of catalog.schema database) texts journal reasons.reasons since.sink sink

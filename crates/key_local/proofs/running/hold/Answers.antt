@@ -54,5 +54,5 @@ returns-clause-ran g c = λ database stored hosted known.
     })
     (record { reasons = ran.reasons.reasons; as_many = ran.reasons.as_many; lines = ran.lines })
     ran.damaged c.run_session-tally.ensures.pages c.end_of.ensures.sink c.end_of.ensures.whole c.end_of.ensures.flash c.run_session-tally.ensures.flash_called c.run_session-tally.ensures.damage_called c.end_of.ensures.damaged
-    (λ t is_pre unfailed less. ran.few_calls database is_pre
-    (record { host = is_honest c.this_host_is_honest.ensures cat database texts ran.journal goes.is_local (c.local_sessions_are_served.ensures cat database [] texts ran.journal goes.is_local); pages = known t; flash = unfailed }) less)
+    (λ t is_pre unfailed. ran.few_calls database is_pre
+    (record { host = is_honest c.this_host_is_honest.ensures cat database texts ran.journal goes.is_local (c.local_sessions_are_served.ensures cat database [] texts ran.journal goes.is_local); pages = known t; flash = unfailed }))

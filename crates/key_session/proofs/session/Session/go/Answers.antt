@@ -36,7 +36,7 @@ returns-clause-live g c = λ plan texts journal since sink near live.
             c.make_move-refusal.new.pump c.args.self.now.teller c.make_move-refusal.new.replies) (sym c.requires.taken) moved.amid;
         refusal_is = moved.refusal_is;
         owed = owed_behind c.args.self.now.cat.now _ c.make_move-refusal.result.1 _ _ _ _ _ moved.tells moved.same_ask c.moved.ensures.paced.owed;
-        far = far_unsent c.args.self.now.cat.now c.args.self.now.at.now texts journal moved.made _ c.make_move-refusal.result.1 c.args.self.now.teller.count c.make_move-refusal.new.pump moved.channel.after moved.channel.proper near moved.tells;
+        far = far_unsent c.args.self.now.cat.now c.args.self.now.at.now texts journal moved.made _ c.make_move-refusal.result.1 c.args.self.now.teller.count c.make_move-refusal.new.pump moved.channel.after moved.channel.proper near moved.tells moved.same_ask;
       };
     }
 

@@ -91,7 +91,7 @@ returns-in-Slice-clause-made g c = λ catalog asks journal after.
     subst (λ (due : Due). MadeStep due (session_side c.args.self.now.teller.printer.failed (g.O.Sink.faults c.args.out.now) (g.O.Sink.written c.args.out.now) (g.F.Flash.state c.args.flash.now))
     (session_side c.tell.new.self.teller.printer.failed (g.O.Sink.faults c.tell.new.out) (g.O.Sink.written c.tell.new.out) (g.F.Flash.state c.tell.new.flash)) c.args.self.now c.tell.new.self)
     (sym c.in-Slice.is ∙ c.due.ensures.rule catalog asks journal after)
-    (record { pump = c.tell.ensures.pump; turn = c.tell.ensures.turn; few = c.tell.ensures.few; kept = c.tell.ensures.kept; fewer = omega (arith, less); sliced = c.tell.ensures.sliced })
+    (record { pump = c.tell.ensures.pump; turn = c.tell.ensures.turn; few = c.tell.ensures.few; counted = c.tell.ensures.counted; kept = c.tell.ensures.kept; fewer = omega (arith, less); sliced = c.tell.ensures.sliced })
 
 pub returns-in-Slice-clause-fewer : goal.returns-in-Slice-clause-fewer
 returns-in-Slice-clause-fewer g c =

@@ -1,4 +1,4 @@
-use Rattle.std.proofs.Common.{◌+◌, ◌∙◌, ℕ, List, sym, subst, arith, Bool}
+use Rattle.std.proofs.Common.{◌+◌, ◌-◌, ◌∙◌, ℕ, List, sym, subst, arith, Bool}
 use Rattle.ghost_model.specs.core.Asks.{asked_of}
 use Rattle.channel_pump.specs.Sessions.{IsLive}
 use Rattle.key_lines.specs.Handing.{handed}
@@ -11,7 +11,8 @@ use Rattle.key_session.specs.declared.buffers.Buffers.{Buffers}
 use Rattle.key_session.proofs.Leasing.{taken_amid, taken_channel}
 use Rattle.leakless_plan.specs.declared.plan.Plan.{Plan}
 use Rattle.key_exec.specs.Plans.{by_pre}
-use Rattle.key_session.specs.Spending.{IsServedText}
+use Rattle.edge_traits.specs.Devices.{Counts}
+use Rattle.key_session.specs.Spending.{IsServedText, spent_by}
 use Rattle.key_session.proofs.Beginning.{keeps_spool}
 use Rattle.key_session.proofs.Spent.{same_spent}
 use Rattle.key_session.proofs.Unsent.{later_far}
@@ -99,7 +100,7 @@ returns-clause-fewer g c =
     omega (arith, begun, on)
 
 pub returns-clause-spends : goal.returns-clause-spends
-returns-clause-spends g c = λ texts journal since next live database served unfailed less.
+returns-clause-spends g c = λ texts journal since next live database served unfailed.
     let side = session_side c.args.self.now.teller.printer.failed (g.O.Sink.faults c.args.out.now) (g.O.Sink.written c.args.out.now) (g.F.Flash.state c.args.flash.now) in
     let amid = taken_amid by_pre g.F.Flash.told texts journal since side c.args.pool.now c.args.self.now c.requires.taken live in
     let channel = taken_channel c.args.self.now.cat.now c.args.self.now.at.now texts journal c.args.pool.now c.args.self.now.frame c.args.self.now.pump c.args.self.now.buffers c.requires.taken live.channel in
@@ -115,4 +116,8 @@ returns-clause-spends g c = λ texts journal since next live database served unf
     (subst (λ (failed : Bool). IsBegun by_pre g.F.Flash.told c.args.self.now.cat.now texts journal since
     (session_side failed (g.O.Sink.faults c.args.out.now) (g.O.Sink.written c.args.out.now) (g.F.Flash.state c.args.flash.now)) c.args.pool.now c.args.self.now.pump c.take_up.new.self c.args.self.now.replies)
     (sym c.take_up.ensures.printer) begun)
-    database (subst (λ (n : ℕ). IsServedText g.F.Flash.told since.flash.page c.args.self.now.cat.now texts journal n database) (sym c.take_up.ensures.count) served) unfailed less)
+    database (subst (λ (n : ℕ). IsServedText g.F.Flash.told since.flash.page c.args.self.now.cat.now texts journal n database) (sym c.take_up.ensures.count) served) unfailed)
+
+pub returns-clause-counted : goal.returns-clause-counted
+returns-clause-counted g c = λ going.
+    subst (λ (spent : ℕ). Counts (spent_by c.go_on.new.self.running - spent) (g.F.Flash.state c.args.flash.now).calls (g.F.Flash.state c.go_on.new.flash).calls) c.take_up.ensures.unspent (c.go_on.ensures.counted going)

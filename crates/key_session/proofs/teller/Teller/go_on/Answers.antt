@@ -1,5 +1,6 @@
-use Rattle.std.proofs.Common.{◌+◌, ◌≤◌, sym, subst, Option, Some, None}
-use Rattle.std.specs.Prelude.{◌%◌, take, sum_by}
+use Rattle.std.proofs.Common.{◌≡◌, ◌+◌, ◌-◌, ◌∙◌, ◌≤◌, ap, false, true, sym, subst, Option, Some, None}
+use Rattle.std.specs.Prelude.{◌%◌, is_some, take, sum_by}
+use Rattle.edge_traits.specs.Devices.{Counts}
 use Rattle.key_exec.specs.Plans.{by_pre}
 use Rattle.key_exec.specs.Within.{text_work}
 use Rattle.key_exec.specs.declared.telling.Telling.{Telling}
@@ -87,15 +88,14 @@ returns-in-Some-step-clause-kept g c = λ plan cat lease can.
     (text_run plan g.F.Flash.told cat (g.F.Flash.state c.args.flash.now) c.args.pool.now (c.args.self.now.count + 1) lease c.args.self.now.running c.in-Some.telling c.in-Some.is can).0
 
 pub returns-in-None-clause-spends : goal.returns-in-None-clause-spends
-returns-in-None-clause-spends g c = λ cat texts journal since pump replies tree can begun database served unfailed less.
-    let run = text_run by_pre g.F.Flash.told cat (g.F.Flash.state c.args.flash.now) c.args.pool.now (c.args.self.now.count + 1) (lease_of replies) c.args.self.now.running c.in-Some.telling c.in-Some.is can in
-    let most = (c.in-None.ensures.spent by_pre cat ((c.args.self.now.count + 1) % 2) run.0).most in
+returns-in-None-clause-spends g c = λ cat texts journal since pump replies tree can begun database served unfailed.
+    let most = c.step.ensures.spent.most in
     subst (λ (running : Option Telling). (g.F.Flash.state c.step.new.flash).calls + (sum_by (text_work cat.schema database) (take c.args.self.now.count texts) + spent_by running)
     ≤ (g.F.Flash.state c.args.flash.now).calls + (sum_by (text_work cat.schema database) (take c.args.self.now.count texts) + lines.spent_of c.step.new.self)) (sym c.in-Some.is)
     (goes_on_spent (text_work cat.schema database) texts c.args.self.now.count (lines.spent_of c.in-Some.telling) (lines.spent_of c.step.new.self) (g.F.Flash.state c.args.flash.now).calls (g.F.Flash.state c.step.new.flash).calls most c.step.ensures.rises)
 
 pub returns-in-Some-step-clause-spends : goal.returns-in-Some-step-clause-spends
-returns-in-Some-step-clause-spends g c = λ cat texts journal since pump replies tree can begun database served_is unfailed less.
+returns-in-Some-step-clause-spends g c = λ cat texts journal since pump replies tree can begun database served_is unfailed.
     let run = text_run by_pre g.F.Flash.told cat (g.F.Flash.state c.args.flash.now) c.args.pool.now (c.args.self.now.count + 1) (lease_of replies) c.args.self.now.running c.in-Some.telling c.in-Some.is can in
     let keeps = keeps_spool by_pre cat (g.F.Flash.state c.args.flash.now) (g.F.Flash.state c.step.new.flash) (c.step.ensures.kept by_pre cat ((c.args.self.now.count + 1) % 2) run.0) in
     let before = session_side c.args.self.now.printer.failed (g.O.Sink.faults c.args.out.now) (g.O.Sink.written c.args.out.now) (g.F.Flash.state c.args.flash.now) in
@@ -105,11 +105,11 @@ returns-in-Some-step-clause-spends g c = λ cat texts journal since pump replies
     c.in-Some.telling c.step.new.self c.in-Some.is begun keeps c.step.ensures.number c.step.ensures.others c.step.ensures.kept_others run.1 in
     let laws : SpendLaws = record { never = c.damage_is_never_met.ensures.never; enough = c.knowledge_is_enough.ensures.enough; stays = c.knowledge_stays.ensures.pages; decided = c.texts_are_decided.ensures } in
     let is_served = served laws g.F.Flash.told cat tree texts journal since begun.first before c.args.self.now.count (is_lost replies (c.args.self.now.count + 1)) begun.state begun.half c.args.pool.now c.in-Some.telling taken database served_is in
-    let within = c.in-Some-step.ensures.within cat ((c.args.self.now.count + 1) % 2) taken.written begun.state (is_lost replies (c.args.self.now.count + 1)) begun.half begun.first.flash begun.first.sink taken.under_way database _ is_served less in
+    let within = c.in-Some-step.ensures.within cat ((c.args.self.now.count + 1) % 2) taken.written begun.state (is_lost replies (c.args.self.now.count + 1)) begun.half begun.first.flash begun.first.sink taken.under_way database _ is_served in
     let goes = c.in-Some-step.ensures.goes by_pre cat ((c.args.self.now.count + 1) % 2) taken.written begun.state (is_lost replies (c.args.self.now.count + 1)) begun.half begun.first.flash begun.first.sink taken.under_way in
     let calls = ended_within (lines.spent_of c.in-Some.telling) (lines.spent_of c.step.new.self) (text_work cat.schema database taken.written) (g.F.Flash.state c.args.flash.now).calls (g.F.Flash.state c.step.new.flash).calls
     (g.F.Flash.state c.args.flash.now).faults (g.F.Flash.state c.step.new.flash).faults c.in-Some-step.told
-    (c.in-Some-step.ensures.spent by_pre cat ((c.args.self.now.count + 1) % 2) run.0) c.step.ensures.rises within c.in-Some-step.ensures.faults unfailed
+    c.step.ensures.spent c.step.ensures.rises within c.in-Some-step.ensures.faults unfailed
     (λ damage e. undamaged laws g.F.Flash.told cat tree texts journal since begun.first before c.args.self.now.count (is_lost replies (c.args.self.now.count + 1)) begun.state begun.half c.args.pool.now c.in-Some.telling taken database served_is
     ((c.args.self.now.count + 1) % 2) c.step.new.self.number (g.F.Flash.state c.step.new.flash) now.sink damage
     (subst (λ (result : Told). HasTold by_pre g.F.Flash.told cat ((c.args.self.now.count + 1) % 2) c.step.new.self.number taken.written begun.state (is_lost replies (c.args.self.now.count + 1)) begun.half begun.first.flash (g.F.Flash.state c.step.new.flash) begun.first.sink now.sink result) e goes)) in
@@ -125,3 +125,13 @@ returns-in-None-clause-counts g c = record { calls = c.step.ensures.never_falls;
 
 pub returns-in-Some-step-clause-counts : goal.returns-in-Some-step-clause-counts
 returns-in-Some-step-clause-counts g c = record { calls = c.step.ensures.never_falls; faults = faults_stay (g.F.Flash.state c.args.flash.now).faults (g.F.Flash.state c.step.new.flash).faults (Some c.in-Some-step.told) c.in-Some-step.ensures.faults }
+
+pub returns-in-None-clause-counted : goal.returns-in-None-clause-counted
+returns-in-None-clause-counted g c = λ going.
+    subst (λ (running : Option Telling). Counts (lines.spent_of c.step.new.self - spent_by running) (g.F.Flash.state c.args.flash.now).calls (g.F.Flash.state c.step.new.flash).calls) (sym c.in-Some.is) c.step.ensures.spent
+
+pub returns-in-Some-step-clause-counted : goal.returns-in-Some-step-clause-counted
+returns-in-Some-step-clause-counted g c = λ going. absurd (none_goes (sym (ap (λ (later : Option Telling). is_some later) c.end.ensures.ended.running) ∙ going))
+  where
+    none_goes : false ≡ true → ⊥
+    none_goes e = cc
