@@ -15,7 +15,7 @@ use std::alloc::{AllocError, Global};
 const ROOM: Room = Room {
     files: 16,
     name_bytes: 64,
-    file_bytes: 400_000,
+    file_bytes: 800_000,
 };
 
 const LINK_ROOM: LinkRoom = LinkRoom {

@@ -8,12 +8,13 @@ use crate::texts::{bytes_of, number_of, put, put_lines, put_raw};
 use crate::words::{Directive, directive_of, first_of};
 use std::alloc::{AllocError, Global};
 
-/// The objects, the file whose lines come, and what is to be printed.
+/// The objects, the file whose lines come, the words behind those of each query, and what is to be printed.
 #[derive(Drop)]
 pub struct Cases {
     alloc: Global,
     bench: Bench,
     file: String,
+    also: String,
     page: Vec<u8>,
 }
 
@@ -24,6 +25,7 @@ impl Cases {
             alloc,
             bench: Bench::new(alloc)?,
             file: String::new(alloc),
+            also: String::new(alloc),
             page: Vec::new(alloc),
         })
     }
@@ -72,6 +74,10 @@ impl Cases {
                 Ok(true)
             }
             Directive::Case => self.begin(rest),
+            Directive::Also => {
+                self.also = format!(in self.alloc; " {rest}")?;
+                Ok(true)
+            }
             Directive::Again => {
                 self.bench.again()?;
                 Ok(true)
@@ -90,6 +96,7 @@ impl Cases {
     /// Begins anew.
     fn begin(&mut self, name: &str) -> Result<bool, AllocError> {
         self.bench = Bench::new(self.alloc)?;
+        self.also = String::new(self.alloc);
         put(&mut self.page, "== ")?;
         self.put_line(name)?;
         Ok(true)
@@ -159,11 +166,16 @@ impl Cases {
 
     /// Makes a call, and tells what came of it.
     fn call(&mut self, directive: Directive, line: &str) -> Result<bool, AllocError> {
-        let Some(came) = self.bench.call(line)? else {
+        let also = match line.strip_prefix("key query ") {
+            Some(_) => self.also.as_str(),
+            None => "",
+        };
+        let line = format!(in self.alloc; "{line}{also}")?;
+        let Some(came) = self.bench.call(&line)? else {
             return Ok(false);
         };
         put(&mut self.page, "$ ")?;
-        self.put_line(line)?;
+        self.put_line(&line)?;
         match directive {
             Directive::Do => put_raw(&mut self.page, self.bench.out.bytes())?,
             Directive::DoBrief => put_brief(self.alloc, &mut self.page, self.bench.out.bytes())?,

@@ -19,6 +19,7 @@
 //! | `say TEXT` | the other end of the link says these bytes more |
 //! | `cut N N ..` | its bytes come in pieces of these sizes |
 //! | `port N` | the port that a listening gets |
+//! | `also WORDS` | puts these words behind those of each further `key query` of the case |
 //! | `again` | begins anew, but leaves files and flash |
 //! | `do WORDS` | makes the call of `key` or `host`; prints the words, what was printed, the exit code, and what is told of it |
 //! | `do-quiet WORDS` | the same, but leaves out what was printed |

@@ -16,6 +16,7 @@ pub enum Directive {
     Say,
     Cut,
     Port,
+    Also,
     Again,
     Do,
     DoQuiet,
@@ -28,7 +29,7 @@ pub enum Directive {
     MovesCount,
 }
 
-const DIRECTIVES: [(&str, Directive); 23] = [
+const DIRECTIVES: [(&str, Directive); 24] = [
     ("#", Directive::Heading),
     ("case", Directive::Case),
     ("file", Directive::File),
@@ -42,6 +43,7 @@ const DIRECTIVES: [(&str, Directive); 23] = [
     ("say", Directive::Say),
     ("cut", Directive::Cut),
     ("port", Directive::Port),
+    ("also", Directive::Also),
     ("again", Directive::Again),
     ("do", Directive::Do),
     ("do-quiet", Directive::DoQuiet),
