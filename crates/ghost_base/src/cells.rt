@@ -13,6 +13,9 @@ use crate::limits::MAX_CHARS;
 use crate::text::put_padded;
 use crate::{Kind, Text64, Value};
 
+/// The padding of a cell that has no text.
+const ZEROS: [u8; MAX_CHARS] = [0; MAX_CHARS];
+
 /// The number of bytes of a cell.
 pub fn cell_width(kind: Kind) -> usize
     ensures { result ≡ cells.cell_width (kind_of kind) }
@@ -133,9 +136,11 @@ pub fn is_printable_text(text: &[u8]) -> bool
     text.iter().all(|&byte| 0x20 <= byte && byte <= 0x7E)
 }
 
-/// Whether every byte is zero.
+/// Whether every byte is zero, of at most as many as a cell has. Many are compared at a time.
+#[tactic(auto, using(crate::proofs::TextCells::like_zeros))]
 fn is_zero(padding: &[u8]) -> bool
+    requires short { length padding.now ≤ MAX_CHARS }
     ensures { result ≡ list_all (λ byte. byte == 0) padding.now }
 {
-    padding.iter().all(|&byte| byte == 0)
+    padding == &ZEROS[..padding.len()]
 }

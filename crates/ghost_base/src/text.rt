@@ -1,6 +1,6 @@
 //! Texts of at most 64 bytes, which lie in the value itself.
 
-ghost use Rattle.std.specs.Prelude.{◌≡◌, ℕ, ◌≤◌, ◌==◌, List, [], length, nat_eq, ⊤};
+ghost use Rattle.std.specs.Prelude.{◌≡◌, ℕ, ◌≤◌, ◌==◌, List, [], length, replicate, nat_eq, ⊤};
 ghost use Rattle.std.specs.Cmp.Lexicographic.{pointwise, lists_per, lists_equiv, lists_ties, texts_po};
 ghost use Rattle.std.specs.Cmp.{nat_eq_equiv, partial_equiv_from_equiv, unsigned_ties};
 ghost use Rattle.std.specs.Ordering.{as_partial_cmp, nat_cmp};
@@ -42,7 +42,7 @@ impl Text64 {
         ensures { result ≡ bytes.now }
     {
         let mut places = [0; 64];
-        put_padded(bytes, &mut places);
+        put_before_zeros(bytes, &mut places);
         Text64 {
             bytes: places,
             len: bytes.len(),
@@ -71,6 +71,15 @@ impl Text64 {
     {
         self.len == 0
     }
+}
+
+/// Writes a text over the first of as many zero bytes as a text has places.
+fn put_before_zeros(text: &[u8], places: &mut [u8; 64])
+    requires short { length text.now ≤ 64 }
+    requires zeros { places.old ≡ replicate 64 0 }
+    ensures places { places.new ≡ padded 64 text.now }
+{
+    places[..text.len()].copy_from_slice(text);
 }
 
 /// Writes a text and zero bytes after it.
