@@ -42,8 +42,7 @@ pub data Frame : Type 0 where
 
 -- a move on the channel, by either end
 pub data Move : Type 0 where
-  Dial : (at : List ℕ) → Move
-  Listen : (at : List ℕ) → Move
+  Dial Listen : (at : List ℕ) → Move
   Accept : Move
   Send : (bytes : List ℕ) → Move
   Take : (most : ℕ) → Move
@@ -54,8 +53,7 @@ pub data Answer : Type 0 where
   Made : Answer
   Port : ℕ → Answer
   Piece : List ℕ → Answer
-  End : Answer
-  Failed : Answer
+  End Failed : Answer
 
 pub record Entry : Type 0 where
   pub move : Move

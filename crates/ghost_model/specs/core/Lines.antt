@@ -44,8 +44,7 @@ broken_word ends journal =
 
 -- the key's own faults that end a text
 pub data Fault : Type 0 where
-  OnFlash : Fault
-  OnDamage : Fault
+  OnFlash OnDamage : Fault
 
 abbrev pub fault_word : Fault → List ℕ
 fault_word OnFlash = codes "flash"
@@ -58,9 +57,7 @@ rows_from_replies catalog kept asks journal text query =
 
 -- why a text has these lines
 pub data Reason : Type 0 where
-  WasRefused : Reason
-  WasBroken : Reason
-  WasAnswered : Reason
+  WasRefused WasBroken WasAnswered : Reason
   MetFault : Fault → Reason
 
 -- a text with its number, and the session in which it stood: its asks, and the journal by which it went

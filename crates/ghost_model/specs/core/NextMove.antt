@@ -83,8 +83,7 @@ payload_fits catalog AwaitsNothing frame = false
 -- it is invalid
 pub data Verdict : Type 0 where
   Lacking : (missing : ℕ) → Verdict
-  Complete : Verdict
-  Invalid : Verdict
+  Complete Invalid : Verdict
 
 abbrev pub verdict : Catalog → Awaits → List ℕ → Verdict
 verdict catalog awaits part =

@@ -11,12 +11,7 @@ pub record Field : Type 0 where
   pub column : ℕ
 
 pub data Operator : Type 0 where
-  Equal : Operator
-  Unequal : Operator
-  Less : Operator
-  AtMost : Operator
-  More : Operator
-  AtLeast : Operator
+  Equal Unequal Less AtMost More AtLeast : Operator
 
 -- a condition between a column and a literal, or between two columns
 pub data Condition : Type 0 where

@@ -19,8 +19,7 @@ use Rattle.ghost_model.specs.forms.Layout.{is_hidden, width_at, count_of, levels
 pub data File : Type 0 where
   Cells : (table column : ℕ) → File
   Subtrees : (table : ℕ) → File
-  IndexHeader : (table column : ℕ) → File
-  IndexDirectory : (table column : ℕ) → File
+  IndexHeader IndexDirectory : (table column : ℕ) → File
   IndexLevel : (table column level : ℕ) → File
   IdDirectory : (table : ℕ) → File
   IdLevel : (table level : ℕ) → File
@@ -132,9 +131,6 @@ ascends (Some before) bytes = is_lt (slice_cmp nat_cmp before bytes)
 -- whether they may stand there after those before them: in a directory those of the slot before, in a level file those
 -- before in the same list, if there are any
 abbrev pub may_follow : Catalog → File → (before : Option (List ℕ)) → List ℕ → Bool
-may_follow cat (Cells table column) before bytes = true
-may_follow cat (Subtrees table) before bytes = true
-may_follow cat (IndexHeader table column) before bytes = true
 may_follow cat (IndexDirectory table column) before bytes =
     ascends (option_map (cell_part cat.schema table column) before) (cell_part cat.schema table column bytes)
     && places_keep_order (levels_of cat.schema table) (option_map (places_part cat.schema table column) before)
@@ -142,6 +138,7 @@ may_follow cat (IndexDirectory table column) before bytes =
 may_follow cat (IndexLevel table column level) before bytes = ascends before bytes
 may_follow cat (IdDirectory table) before bytes = places_keep_order (above_of cat.schema table) before bytes
 may_follow cat (IdLevel table level) before bytes = ascends before bytes
+may_follow cat _ before bytes = true
 
 -- the record in a slot of a file
 abbrev pub in_slot : (ℕ → List ℕ) → Catalog → File → (place : ℕ) → List ℕ
@@ -173,14 +170,10 @@ pub record AreInOneList (page : ℕ → List ℕ) (cat : Catalog) (directory : F
 
 -- whether the order of a file binds a slot to the one before it: in a level file within a list alone
 abbrev pub IsBound : (ℕ → List ℕ) → Catalog → File → (place : ℕ) → Type 0
-IsBound page cat (Cells table column) place = ⊤
-IsBound page cat (Subtrees table) place = ⊤
-IsBound page cat (IndexHeader table column) place = ⊤
-IsBound page cat (IndexDirectory table column) place = ⊤
 IsBound page cat (IndexLevel table column level) place =
     AreInOneList page cat (IndexDirectory table column) (width_at cat.schema table column + 8 * level) place
-IsBound page cat (IdDirectory table) place = ⊤
 IsBound page cat (IdLevel table level) place = AreInOneList page cat (IdDirectory table) (8 * level) place
+IsBound page cat _ place = ⊤
 
 -- the slot of a record breaks the order of its file
 pub record IsOutOfOrder (page : ℕ → List ℕ) (cat : Catalog) (file : File) (place : ℕ) : Type 0 where

@@ -33,8 +33,7 @@ pub data ConditionPart : Type 0 where
 
 -- in a text: lists hold the columns, tables or conditions that stand whole before the one at hand
 pub data QueryPlace : Type 0 where
-  Start : QueryPlace
-  HasStar : QueryPlace
+  Start HasStar : QueryPlace
   InSelect : List ColumnText → ColumnPart → QueryPlace
   WantsTable : Selection → List (List ℕ) → QueryPlace
   HasTable : Selection → List (List ℕ) → List ℕ → QueryPlace

@@ -10,21 +10,16 @@ use Rattle.ghost_model.specs.refusals.SchemaGrammar.{Reference, To, ColumnDeclar
 
 -- within a column. A column that may stand as it is is `Whole`, also where more may follow
 pub data InColumn : Type 0 where
-  Named : (name : List ℕ) → InColumn
-  AfterChar : (name : List ℕ) → InColumn
-  AfterOpen : (name : List ℕ) → InColumn
+  Named AfterChar AfterOpen : (name : List ℕ) → InColumn
   AfterLength : (name digits : List ℕ) → InColumn
   AfterPrimary : (name : List ℕ) → InColumn
   AfterReferences : (name : List ℕ) (primary : Bool) → InColumn
-  OpensId : (name : List ℕ) (primary : Bool) (table : List ℕ) → InColumn
-  AfterId : (name : List ℕ) (primary : Bool) (table : List ℕ) → InColumn
+  OpensId AfterId : (name : List ℕ) (primary : Bool) (table : List ℕ) → InColumn
   Whole : ColumnDeclaration → InColumn
 
 -- within a text: the tables before, then within one table its name and the columns that have a comma after them
 pub data SchemaPlace : Type 0 where
-  Between : SchemaText → SchemaPlace
-  AfterCreate : SchemaText → SchemaPlace
-  AfterTable : SchemaText → SchemaPlace
+  Between AfterCreate AfterTable : SchemaText → SchemaPlace
   AfterName : SchemaText → (name : List ℕ) → SchemaPlace
   WantsColumn : SchemaText → (name : List ℕ) (columns : List ColumnDeclaration) → SchemaPlace
   Within : SchemaText → (name : List ℕ) (columns : List ColumnDeclaration) (last : InColumn) → SchemaPlace

@@ -23,14 +23,7 @@ abbrev pub place : (table rec column : ℕ) → Place
 place table rec column = record { table = table; rec = rec; column = column }
 
 pub data LoadFault : Type 0 where
-  FileLimit : Place → LoadFault
-  Header : Place → LoadFault
-  RowLimit : Place → LoadFault
-  FieldCount : Place → LoadFault
-  BadId : Place → LoadFault
-  BadInt : Place → LoadFault
-  BadChars : Place → LoadFault
-  BadReference : Place → LoadFault
+  FileLimit Header RowLimit FieldCount BadId BadInt BadChars BadReference : Place → LoadFault
 
 -- the bytes of a file, at most
 abbrev pub most_bytes : ℕ

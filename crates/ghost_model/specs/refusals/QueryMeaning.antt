@@ -15,13 +15,7 @@ use Rattle.ghost_model.specs.refusals.QueryGrammar.{ColumnText, Bare, Qualified,
 -- why a text is refused, in the order in which the rules are tested; a syntax fault has its offset in the text
 pub data Refusal : Type 0 where
   Syntax : ℕ → Refusal
-  Limit : Refusal
-  UnknownTable : Refusal
-  UnknownColumn : Refusal
-  Ambiguous : Refusal
-  KindMismatch : Refusal
-  BadLiteral : Refusal
-  NotLinked : Refusal
+  Limit UnknownTable UnknownColumn Ambiguous KindMismatch BadLiteral NotLinked : Refusal
 
 -- names
 

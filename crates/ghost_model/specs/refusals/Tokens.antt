@@ -11,44 +11,18 @@ use Rattle.std.specs.Char.{to_ascii_lowercase}
 
 -- the reserved words that the grammars use; INT is another spelling of INTEGER
 pub data Keyword : Type 0 where
-  AndWord : Keyword
-  BetweenWord : Keyword
-  CharWord : Keyword
-  CreateWord : Keyword
-  FromWord : Keyword
-  HiddenWord : Keyword
-  IntegerWord : Keyword
-  PrimaryKeyWord : Keyword
-  PrimaryWord : Keyword
-  ReferencesWord : Keyword
-  SelectWord : Keyword
-  TableWord : Keyword
-  WhereWord : Keyword
+  AndWord BetweenWord CharWord CreateWord FromWord HiddenWord IntegerWord : Keyword
+  PrimaryKeyWord PrimaryWord ReferencesWord SelectWord TableWord WhereWord : Keyword
 
 -- what the grammars are about: a token without its place. A name stands in lower case, a number by its digits, a
 -- text literal by its value, in which `''` is one `'`
 pub data Symbol : Type 0 where
   Word : Keyword → Symbol
   Reserved : Symbol
-  Name : List ℕ → Symbol
-  Digits : List ℕ → Symbol
-  Quoted : List ℕ → Symbol
-  Open : Symbol
-  Closing : Symbol
-  Comma : Symbol
-  Point : Symbol
-  Semicolon : Symbol
-  Star : Symbol
-  PlusSign : Symbol
-  MinusSign : Symbol
-  EqualSign : Symbol
-  UnequalSign : Symbol
-  LessSign : Symbol
-  AtMostSign : Symbol
-  MoreSign : Symbol
-  AtLeastSign : Symbol
-  NoToken : Symbol
-  EndOfText : Symbol
+  Name Digits Quoted : List ℕ → Symbol
+  Open Closing Comma Point Semicolon Star PlusSign MinusSign : Symbol
+  EqualSign UnequalSign LessSign AtMostSign MoreSign AtLeastSign : Symbol
+  NoToken EndOfText : Symbol
 
 -- a token and the offset of its first byte in the text
 pub record Token : Type 0 where
