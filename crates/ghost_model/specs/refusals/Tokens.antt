@@ -61,30 +61,19 @@ is_printable byte = is_between 32 126 byte
 abbrev pub in_lower_case : List ℕ → List ℕ
 in_lower_case bytes = map to_ascii_lowercase bytes
 
--- the word of each keyword, in lower case
-abbrev pub keyword_text : Keyword → List ℕ
-keyword_text AndWord = codes "and"
-keyword_text BetweenWord = codes "between"
-keyword_text CharWord = codes "char"
-keyword_text CreateWord = codes "create"
-keyword_text FromWord = codes "from"
-keyword_text HiddenWord = codes "hidden"
-keyword_text IntegerWord = codes "integer"
-keyword_text PrimaryKeyWord = codes "key"
-keyword_text PrimaryWord = codes "primary"
-keyword_text ReferencesWord = codes "references"
-keyword_text SelectWord = codes "select"
-keyword_text TableWord = codes "table"
-keyword_text WhereWord = codes "where"
-
-abbrev pub keywords : List Keyword
+-- the keywords and the word of each, in lower case
+abbrev pub keywords : List (Keyword × List ℕ)
 keywords =
-    AndWord ∷ BetweenWord ∷ CharWord ∷ CreateWord ∷ FromWord ∷ HiddenWord ∷ IntegerWord ∷ PrimaryKeyWord ∷ PrimaryWord ∷ ReferencesWord ∷ SelectWord ∷ TableWord ∷ WhereWord ∷ []
+    (AndWord, codes "and") ∷ (BetweenWord, codes "between") ∷ (CharWord, codes "char") ∷ (CreateWord, codes "create")
+    ∷ (FromWord, codes "from") ∷ (HiddenWord, codes "hidden") ∷ (IntegerWord, codes "integer") ∷ (PrimaryKeyWord, codes "key")
+    ∷ (PrimaryWord, codes "primary") ∷ (ReferencesWord, codes "references") ∷ (SelectWord, codes "select")
+    ∷ (TableWord, codes "table") ∷ (WhereWord, codes "where") ∷ []
 
 -- the keyword that a word in lower case is; INT is INTEGER too
 abbrev pub keyword_of : List ℕ → Option Keyword
 keyword_of word =
-    if bytes_eq word (codes "int") then Some IntegerWord else find (λ keyword. bytes_eq word (keyword_text keyword)) keywords
+    if bytes_eq word (codes "int") then Some IntegerWord
+    else option_map (λ keyword. keyword.0) (find (λ keyword. bytes_eq word keyword.1) keywords)
 
 -- the reserved words that the grammars do not use yet
 abbrev pub other_reserved : List (List ℕ)
@@ -92,13 +81,10 @@ other_reserved =
     codes "by" ∷ codes "count" ∷ codes "group" ∷ codes "in" ∷ codes "is" ∷ codes "max" ∷ codes "min" ∷ codes "not"
     ∷ codes "null" ∷ codes "or" ∷ codes "sum" ∷ []
 
--- a word that is no keyword: a name, or one of the other reserved words
-abbrev pub name_or_reserved : List ℕ → Symbol
-name_or_reserved word = if list_any (bytes_eq word) other_reserved then Reserved else Name word
-
 -- what a word in lower case is: a keyword, another reserved word, or a name
 abbrev pub symbol_of_word : List ℕ → Symbol
-symbol_of_word word = option_map_or Word (keyword_of word) (name_or_reserved word)
+symbol_of_word word =
+    option_map_or Word (keyword_of word) (if list_any (bytes_eq word) other_reserved then Reserved else Name word)
 
 -- a symbol and how many bytes it takes
 pub record Read : Type 0 where
