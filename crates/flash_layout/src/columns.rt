@@ -68,7 +68,7 @@ pub(crate) fn columns_of(cat: &Catalog, table: usize) -> usize
 
 /// The pages of the file of a column, none where it is not hidden.
 fn column_pages(cat: &Catalog, table: usize, column: usize) -> u32
-    ensures value { result ≡ layout.column_pages cat.now table column }
+    ensures value { result ≡ sums.column_pages cat.now table column }
     ensures most { result ≤ 1000000 }
 {
     if is_hidden(cat, table, column) {

@@ -4,6 +4,7 @@ use Rattle.std.specs.List.{list_all}
 use Rattle.ghost_model.specs.core.Schema.{Schema}
 use Rattle.ghost_model.specs.laws.Spelled.{is_name, begins_as_name, is_reserved}
 use Rattle.ghost_model.specs.refusals.Tokens.{is_name_byte, in_lower_case}
+use Rattle.ghost_model.specs.laws.LoadLaws as load_laws
 use Rattle.ghost_model.specs.refusals.LoadFaults as load
 use Rattle.ghost_model.proofs.MeaningLemmas.OneRow.{both_true}
 use Rattle.ghost_model.specs.core.Values.{Database}
@@ -36,7 +37,7 @@ broken_by next (Some rule) faults h =
     ap (unless_broken next) h.2.first ∙ ap Broken (sym h.1)
 
 -- a result that judges faults tells the first of them
-pub told_first : (told : Option load.LoadFault) (faults : List load.LoadFault) → load.TellsFirst told faults
+pub told_first : (told : Option load.LoadFault) (faults : List load.LoadFault) → load_laws.TellsFirst told faults
     → TellsRule (rule_or told) faults
 told_first None faults h = tt
 told_first (Some fault) faults h = (fault, refl, h)

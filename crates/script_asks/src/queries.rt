@@ -63,7 +63,7 @@ fn byte_of(place: usize) -> u8
 
 /// The columns of a table that are visible and selected, ascending.
 fn wanted_columns(schema: &Schema, select: &[Field], table: usize) -> ArrayVec<u8, MAX_COLUMNS>
-    ensures columns { result.items ≡ filter (asks.is_wanted schema.now (map field_of select.now) table) (asks.places (schemas.columns_of schema.now table)) }
+    ensures columns { result.items ≡ filter (asks.is_wanted schema.now (map field_of select.now) table) (schemas.places_of (schemas.columns_of schema.now table)) }
 {
     let mut found = ArrayVec::new();
     for at in 0..column_count(schema, table) {

@@ -60,7 +60,7 @@ by_roots tables = faults.wrong_roots (faults.roots_of (meaning.schema_of tables)
 
 pub tree_decides : (tables : SchemaText) → fault_of_texts tables ≡ None → first_broken (faults.rules_of_schemas tables) ≡ fault_of_tree (meaning.schema_of tables)
 tree_decides tables e =
-    then_rest (broken_if (faults.is_over tables) faults.Limit) (option_map faults.duplicate_at (find (faults.is_duplicate tables) (faults.fields tables)))
+    then_rest (broken_if (faults.is_over tables) faults.OverLimit) (option_map faults.duplicate_at (find (faults.is_duplicate tables) (faults.fields tables)))
     (option_map faults.NoId (find (faults.lacks_id tables) (places_of tables)))
     (option_map faults.unknown_at (find (faults.is_unknown tables) (faults.fields tables))) (rest_by tables (places_of tables) (option_or (by_roots tables) None)) e
     ∙ (ap (rest_by tables (places_of tables)) (last_rule (by_roots tables))

@@ -18,6 +18,8 @@ use Rattle.ghost_model.specs.laws.Spelled.{is_spelled, IsBeforeEnd}
 use Rattle.ghost_model.specs.core.Database.{is_of_kind, fits_integer}
 use Rattle.ghost_model.specs.refusals.QueryGrammar.{ConditionText, Compares, LiesBetween, Joins, ColumnText, LiteralText, Unsigned, Signed, Written, QueryText, spelling, spell_condition, spell_literal, spell_where, spell_column, spell_table, spell_selection}
 use Rattle.ghost_model.specs.refusals.Grammar.{separated}
+use Rattle.ghost_model.specs.laws.ShortWords as short
+use Rattle.ghost_model.specs.core.Schema as schemas
 use Rattle.ghost_model.specs.refusals.QueryMeaning as meaning
 use Rattle.ghost_model.specs.core.Asks as asks
 use Rattle.ghost_model.specs.laws.ChannelLaws as laws
@@ -85,9 +87,9 @@ abbrev always : {X : Type 0} → X → Bool
 always _ = true
 
 module _ (schema : Schema) where
-  visible_columns : (select : List Field) (table : ℕ) → list_all (is_visible schema table) (filter (asks.is_wanted schema select table) (asks.places (columns_of schema table))) ≡ true
+  visible_columns : (select : List Field) (table : ℕ) → list_all (is_visible schema table) (filter (asks.is_wanted schema select table) (schemas.places_of (columns_of schema table))) ≡ true
   visible_columns select table =
-      all_filter (is_visible schema table) (asks.is_wanted schema select table) (asks.places (columns_of schema table))
+      all_filter (is_visible schema table) (asks.is_wanted schema select table) (schemas.places_of (columns_of schema table))
       (λ column e. (both_hold (is_visible schema table column) (list_any (asks.is_field table column) select) e).one)
 
   tested : (table : ℕ) (field : Field) (test : Test) (r : Test → Bool) (b : Bool) → (b ≡ true → r test ≡ true) → list_all r (if b then test ∷ [] else []) ≡ true
@@ -108,9 +110,9 @@ module _ (schema : Schema) where
 
   pub asks_are_visible : (query : Query) → list_all (laws.names_visible schema) (asks.asks_of schema query) ≡ true
   asks_are_visible query =
-      all_kept (laws.names_visible schema) asks.is_needed (map (asks.ask_for schema query) (filter (asks.is_from query) (asks.places schema)))
-      (list_all-map (laws.names_visible schema) (asks.ask_for schema query) (filter (asks.is_from query) (asks.places schema))
-      ∙ all_each (λ table. laws.names_visible schema (asks.ask_for schema query table)) (filter (asks.is_from query) (asks.places schema))
+      all_kept (laws.names_visible schema) asks.is_needed (map (asks.ask_for schema query) (filter (short.is_from query) (schemas.places_of schema)))
+      (list_all-map (laws.names_visible schema) (asks.ask_for schema query) (filter (short.is_from query) (schemas.places_of schema))
+      ∙ all_each (λ table. laws.names_visible schema (asks.ask_for schema query table)) (filter (short.is_from query) (schemas.places_of schema))
       (λ table. hold_both _ _ (visible_columns query.select table) (visible_tests table query.conditions)))
 
 -- places are below the length, and ascend
@@ -362,12 +364,12 @@ module _ (schema : Schema) (text : List ℕ) (tree : QueryText) (spells : symbol
   proper_asks : list_all (asks.is_proper_ask schema) (asks.asks_of schema (meaning.resolved schema tree)) ≡ true
   proper_asks =
       let query : Query = meaning.resolved schema tree in
-      let places : List ℕ = asks.places schema in
-      let below : list_all (λ place. nat_lt place (length schema)) (asks.places schema) ≡ true = places_below 0 schema (length schema) (omega arith) in
-      all_kept (asks.is_proper_ask schema) asks.is_needed (map (asks.ask_for schema query) (filter (asks.is_from query) (asks.places schema)))
-      (list_all-map (asks.is_proper_ask schema) (asks.ask_for schema query) (filter (asks.is_from query) (asks.places schema))
-      ∙ all_weaker (λ place. nat_lt place (length schema)) (λ table. asks.is_proper_ask schema (asks.ask_for schema query table)) (filter (asks.is_from query) (asks.places schema))
-      proper_ask (all_kept (λ place. nat_lt place (length schema)) (asks.is_from query) (asks.places schema) below))
+      let places : List ℕ = schemas.places_of schema in
+      let below : list_all (λ place. nat_lt place (length schema)) (schemas.places_of schema) ≡ true = places_below 0 schema (length schema) (omega arith) in
+      all_kept (asks.is_proper_ask schema) asks.is_needed (map (asks.ask_for schema query) (filter (short.is_from query) (schemas.places_of schema)))
+      (list_all-map (asks.is_proper_ask schema) (asks.ask_for schema query) (filter (short.is_from query) (schemas.places_of schema))
+      ∙ all_weaker (λ place. nat_lt place (length schema)) (λ table. asks.is_proper_ask schema (asks.ask_for schema query table)) (filter (short.is_from query) (schemas.places_of schema))
+      proper_ask (all_kept (λ place. nat_lt place (length schema)) (short.is_from query) (schemas.places_of schema) below))
 
 pub asks_are_proper : (schema : Schema) (text : List ℕ) (query : Query) → reading schema text ≡ Ok query → list_all (asks.is_proper_ask schema) (asks.asks_of schema query) ≡ true
 asks_are_proper schema text query read =

@@ -19,8 +19,8 @@ use Rattle.ghost_model.specs.laws.SplitByFlags.{hidden_flags, hidden_values}
 use Rattle.ghost_model.proofs.MeaningLemmas.PartsByFlags.{hidden_rows_at}
 use Rattle.ghost_model.specs.core.Replies.{hidden_places}
 use Rattle.ghost_model.specs.forms.Layout.{below, is_hidden, count_of}
-use Rattle.ghost_model.specs.forms.Flash.{hidden_rows, GoesWith, hidden_cell, hidden_cells}
-use Rattle.ghost_model.specs.laws.FlashLaws.{hidden_before, CellsFit}
+use Rattle.ghost_model.specs.forms.Flash.{hidden_rows, hidden_cell, hidden_cells}
+use Rattle.ghost_model.specs.laws.FlashLaws.{GoesWith, hidden_before, CellsFit}
 use Rattle.ghost_model.proofs.LayoutLemmas.Columns.{hidden_or_none, width_or_none}
 use Rattle.ghost_model.proofs.ChannelLemmas.Asks.{cell_is_read, cell_length}
 use Rattle.ghost_model.proofs.MeaningLemmas.Leading.{get_within}

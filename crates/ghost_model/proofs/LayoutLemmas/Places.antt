@@ -226,7 +226,7 @@ module _ (cat : Catalog) where
       omega (arith, place, header)
 
   level_is : (table column level : ℕ) → is_hidden cat.schema table column ≡ true → level < length (levels_of cat.schema table)
-      → run_of cat (ClimbingIndex table column) (2 + level) ≡ sums.index_level cat table column level
+      → run_of cat (ClimbingIndex table column) (2 + level) ≡ sums.summed_index_level cat table column level
   level_is table column level h low =
       let directory : ℕ × ℕ = (count_of cat table, directory_width cat.schema table column) in
       let levels = level_files cat (levels_of cat.schema table) in
@@ -240,7 +240,7 @@ module _ (cat : Catalog) where
       ∙ runs_same (omega (arith, place, header, next, before)) (ap (λ file. file.0) at) (ap (λ file. file.1) at)
 
   id_level_is : (table level : ℕ) → table < length cat.schema → level < length (above_of cat.schema table)
-      → run_of cat (IdIndex table) (1 + level) ≡ sums.id_level cat table level
+      → run_of cat (IdIndex table) (1 + level) ≡ sums.summed_id_level cat table level
   id_level_is table level there low =
       let directory : ℕ × ℕ = (count_of cat table, id_directory_width cat.schema table) in
       let levels = level_files cat (above_of cat.schema table) in

@@ -132,14 +132,14 @@ module _ (cat : Catalog) (limited : IsLimited cat) where
   pages : (table width : ℕ) → 0 < width → width ≤ 2048 → pages_of (Layout.count_of cat table) width ≤ 1000000
   pages table width some fit = let few = pages_few (Layout.count_of cat table) width some fit in let count = rows table in omega (arith, few, count)
 
-  column_few : (table column : ℕ) → Layout.column_pages cat table column ≤ 1000000
+  column_few : (table column : ℕ) → LayoutSums.column_pages cat table column ≤ 1000000
   column_few table column =
       when (Layout.is_hidden cat.schema table column) _ 1000000
       (λ h. let wide = narrow.most table column in pages table (Layout.width_at cat.schema table column) (narrow.least table column h) (omega (arith, wide)))
 
   columns_before : (table column : ℕ) → column ≤ 24 → LayoutSums.column_pages_before cat table column ≤ 24000000
   columns_before table upto low =
-      let all = sum_few (Layout.column_pages cat table) 1000000 (column_few table) (Layout.below upto) in
+      let all = sum_few (LayoutSums.column_pages cat table) 1000000 (column_few table) (Layout.below upto) in
       let size = length-range_with_len 0 upto in
       omega (arith, all, size, low)
 

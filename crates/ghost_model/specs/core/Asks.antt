@@ -6,10 +6,10 @@
 use Rattle.std.specs.Prelude.{ℕ, zero, suc, ◌+◌, ◌/◌, Bool, true, not, ◌&&◌, ◌==◌, nat_lt, nat_le, List, [], ◌∷◌, ◌++◌, length, take, drop, map, filter, flat_map, sum, if◌then◌else◌, Option, Some, None, Result, Ok, Err}
 use Rattle.std.specs.List.{list_any, list_all}
 use Rattle.std.specs.Int.{to_be_bytes, from_be_bytes, w32}
-use Rattle.ghost_model.specs.core.Schema.{Schema, Column, Kind, Chars, columns_of, column_at, places_where, is_empty, is_visible}
+use Rattle.ghost_model.specs.core.Schema.{Schema, Column, Kind, Chars, columns_of, column_at, places_of, is_empty, is_visible}
 use Rattle.ghost_model.specs.core.Database.{is_of_kind}
 use Rattle.ghost_model.specs.forms.Cells.{cell_width, encode_cell}
-use Rattle.ghost_model.specs.core.Query.{Query, Field, Condition, Compare, Join, Operator, Equal, Unequal, Less, AtMost, More, AtLeast}
+use Rattle.ghost_model.specs.core.Query.{Query, is_among, Field, Condition, Compare, Join, Operator, Equal, Unequal, Less, AtMost, More, AtLeast}
 use Rattle.ghost_model.specs.readings.QueryReading.{reading}
 use Rattle.ghost_model.specs.core.Channel.{Test, Ask}
 
@@ -30,25 +30,18 @@ is_field table column field = field.table == table && field.column == column
 abbrev pub is_wanted : Schema → List Field → (table column : ℕ) → Bool
 is_wanted schema select table column = is_visible schema table column && list_any (is_field table column) select
 
--- all places of a list, ascending
-abbrev pub places : {X : Type 0} → List X → List ℕ
-places xs = places_where (λ _. true) xs
-
 abbrev pub ask_for : Schema → Query → (table : ℕ) → Ask
 ask_for schema query table = record {
   table = table;
-  columns = filter (is_wanted schema query.select table) (places (columns_of schema table));
+  columns = filter (is_wanted schema query.select table) (places_of (columns_of schema table));
   tests = tests_of schema table query.conditions;
 }
 
 abbrev pub is_needed : Ask → Bool
 is_needed ask = not (is_empty ask.columns && is_empty ask.tests)
 
-abbrev pub is_from : Query → (table : ℕ) → Bool
-is_from query table = list_any (λ other. other == table) query.from
-
 abbrev pub asks_of : Schema → Query → List Ask
-asks_of schema query = filter is_needed (map (ask_for schema query) (filter (is_from query) (places schema)))
+asks_of schema query = filter is_needed (map (ask_for schema query) (filter (is_among query.from) (places_of schema)))
 
 abbrev pub operator_code : Operator → ℕ
 operator_code Equal = 1

@@ -13,8 +13,8 @@ pub record Catalog : Type 0 where
   pub version : ℕ
 
 -- the number of rows of a table
-abbrev pub row_count_in : Catalog → (table : ℕ) → ℕ
-row_count_in catalog table = slice_index catalog.counts table
+abbrev pub count_of : Catalog → (table : ℕ) → ℕ
+count_of cat table = slice_index cat.counts table
 
 -- a condition of an ask: a visible column of its table, an operator and a literal
 pub record Test : Type 0 where

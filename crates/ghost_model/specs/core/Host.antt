@@ -128,10 +128,6 @@ said_with_refusals held refused [] stand = []
 said_with_refusals held refused (frame ∷ later) stand =
     said_with (said_with_refusals held (drop 1 refused) later) (answer_as (get_or refused 0 false) held stand frame)
 
--- what a host whose file can be read says
-abbrev pub said_to : Holding → List Frame → Stand → List Frame
-said_to held frames stand = said_with_refusals held [] frames stand
-
 -- a frame that was found, and what comes after it; nothing where none was
 abbrev pub frame_and : (Frame → List Frame) → Got → List Frame
 frame_and later (Found frame) = frame ∷ later frame
@@ -149,7 +145,7 @@ frames_of bytes = frames_within (length bytes) bytes
 
 -- the frames that the host sends for the bytes of a key
 abbrev pub host_says : Holding → (key : List ℕ) → List Frame
-host_says held key = said_to held (frames_of key) Greeting
+host_says held key = said_with_refusals held [] (frames_of key) Greeting
 
 abbrev pub host_sends : Holding → (key : List ℕ) → List ℕ
 host_sends held key = flat_map frame_bytes (host_says held key)
@@ -175,13 +171,10 @@ bad_with_refusals held rest refused (frame ∷ later) at stand =
     (refused_or frame at (bad_with_refusals held rest (drop 1 refused) later (at + length (frame_bytes frame)))
     (answer_as (get_or refused 0 false) held stand frame))
 
-abbrev pub bad_from : Holding → (rest : List ℕ) → List Frame → (at : ℕ) → Stand → Option InvalidFrame
-bad_from held rest frames at stand = bad_with_refusals held rest [] frames at stand
-
 -- the first frame that is no frame of the key in its place, if there is one: its first byte, and the bytes before it
 abbrev pub bad_request : Holding → (key : List ℕ) → Option InvalidFrame
 bad_request held key =
-    bad_from held (drop (length (flat_map frame_bytes (frames_of key))) key) (frames_of key) 0 Greeting
+    bad_with_refusals held (drop (length (flat_map frame_bytes (frames_of key))) key) [] (frames_of key) 0 Greeting
 
 -- the ask in a frame of a key, one or none
 abbrev pub asks_in_frame : Schema → Frame → List Ask

@@ -17,11 +17,6 @@ use Rattle.ghost_model.specs.core.Split.{Hidden}
 use Rattle.ghost_model.specs.core.Replies.{replies, answer_from}
 use Rattle.ghost_model.specs.core.Printed.{row_line, answer_lines, word_line, refusal_line}
 
--- the asks of a text that were ended, whatever ended them
-abbrev pub ended_of : Catalog → (asks : List NumberedAsk) → Journal → (text : ℕ) → List EndedAsk
-ended_of catalog asks journal text =
-    filter (λ end. end.asked.text == text) (heard catalog asks (taken journal)).ended
-
 abbrev pub is_refused_by : Ending → Bool
 is_refused_by (Answered _) = false
 is_refused_by (Refused _) = true
@@ -50,11 +45,6 @@ abbrev pub fault_word : Fault → List ℕ
 fault_word OnFlash = codes "flash"
 fault_word OnDamage = codes "damaged"
 
--- the rows that answer an accepted text from its replies
-abbrev pub rows_from_replies : Catalog → Hidden → (asks : List NumberedAsk) → Journal → (text : ℕ) → Query → List Row
-rows_from_replies catalog kept asks journal text query =
-    answer_from catalog.schema kept query (replies catalog asks journal text)
-
 -- why a text has these lines
 pub data Reason : Type 0 where
   WasRefused WasBroken WasAnswered : Reason
@@ -69,11 +59,14 @@ pub record SessionText : Type 0 where
   pub number : ℕ
   pub written : List ℕ
 
+-- the asks of a text that were ended, whatever ended them
 abbrev pub ends_for : SessionText → List EndedAsk
-ends_for text = ended_of text.catalog text.asks text.journal text.number
+ends_for text = filter (λ end. end.asked.text == text.number) (heard text.catalog text.asks (taken text.journal)).ended
 
+-- the rows that answer an accepted text from its replies
 abbrev pub rows_for : SessionText → Query → List Row
-rows_for text query = rows_from_replies text.catalog text.kept text.asks text.journal text.number query
+rows_for text query =
+    answer_from text.catalog.schema text.kept query (replies text.catalog text.asks text.journal text.number)
 
 pub record RefusedLines (text : SessionText) (lines : List (List ℕ)) : Type 0 where
   pub refusal : Refusal

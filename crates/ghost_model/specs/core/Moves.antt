@@ -17,17 +17,8 @@ abbrev pub sent_by : Move → List (List ℕ)
 sent_by (Send bytes) = bytes ∷ []
 sent_by _ = []
 
-abbrev pub move_of : Entry → Move
-move_of entry = entry.move
-
-abbrev pub answer_of : Entry → Answer
-answer_of entry = entry.answer
-
-abbrev pub moves : Journal → List Move
-moves journal = map move_of journal
-
 abbrev pub answers : Journal → List Answer
-answers journal = map answer_of journal
+answers journal = map (λ entry. entry.answer) journal
 
 -- the pieces joined
 abbrev pub taken : Journal → List ℕ

@@ -10,7 +10,7 @@ use Rattle.std.specs.List.{list_any}
 use Rattle.ghost_model.specs.core.Schema.{Schema, Kind, is_empty}
 use Rattle.ghost_model.specs.forms.Cells.{cell_width}
 use Rattle.ghost_model.specs.readings.CellReading.{decode_cell}
-use Rattle.ghost_model.specs.core.Channel.{Catalog, row_count_in, Ask, Frame, HelloFrame, AskFrame, MoreFrame, ByeFrame, WelcomeFrame, RowsFrame, DoneFrame, SorryFrame, Move, Dial, Send, Take, Close, Answer, End, Failed, Journal}
+use Rattle.ghost_model.specs.core.Channel.{Catalog, count_of, Ask, Frame, HelloFrame, AskFrame, MoreFrame, ByeFrame, WelcomeFrame, RowsFrame, DoneFrame, SorryFrame, Move, Dial, Send, Take, Close, Answer, End, Failed, Journal}
 use Rattle.ghost_model.specs.forms.Catalog.{catalog_bytes}
 use Rattle.ghost_model.specs.forms.Frames.{frame_bytes, frame_in, frame_version, version_in, kind_in, size_in, serial_in, most_payload}
 use Rattle.ghost_model.specs.core.Asks.{NumberedAsk, asked_of, RowCells, ask_payload, kinds_of, row_width, rows_in}
@@ -58,13 +58,10 @@ rows_fit rows last kinds (row ∷ later) =
     nat_lt last row.identifier && nat_le row.identifier rows && are_cells kinds row.cells
     && rows_fit rows row.identifier kinds later
 
-abbrev pub rows_of_payload : Catalog → Ask → List ℕ → List RowCells
-rows_of_payload catalog ask payload = rows_in catalog.schema ask payload
-
 -- whether a frame of a reply may come after so many rows, the last with this identifier
 abbrev pub reply_fits : Catalog → Ask → (count last : ℕ) → Frame → Bool
 reply_fits catalog ask count last (RowsFrame _ payload) =
-    rows_fit (row_count_in catalog ask.table) last (kinds_of catalog.schema ask) (rows_of_payload catalog ask payload)
+    rows_fit (count_of catalog ask.table) last (kinds_of catalog.schema ask) (rows_in catalog.schema ask payload)
 reply_fits catalog ask count last (DoneFrame _ total) = total == count
 reply_fits catalog ask count last (SorryFrame _ code) = not (code == 0)
 reply_fits catalog ask count last _ = false
@@ -218,10 +215,6 @@ at_first catalog = record {
 
 abbrev pub heard : Catalog → (asks : List NumberedAsk) → (received : List ℕ) → Heard
 heard catalog asks received = hear_all catalog asks (at_first catalog) received
-
--- the frames of the key that received bytes call for
-abbrev pub due : Catalog → (asks : List NumberedAsk) → (received : List ℕ) → List Frame
-due catalog asks received = (heard catalog asks received).due
 
 -- an invalid frame: its first byte, and the number of bytes taken before it
 pub record InvalidFrame : Type 0 where

@@ -74,17 +74,6 @@ holders_of schema child = places_where (λ table. not (is_empty (references_to c
 abbrev pub parent : Schema → ℕ → Option ℕ
 parent schema table = first_of (holders_of schema table)
 
--- the places, from `at` on, of the tables whose parent is this one; the last list has one element for each table from `at` on
-unfoldable pub children_from : Schema → (table at : ℕ) → List Table → List ℕ
-children_from schema table at [] = []
-children_from schema table at (_ ∷ later) =
-    if is_table table (parent schema at) then at ∷ children_from schema table (at + 1) later
-    else children_from schema table (at + 1) later
-
--- the tables that a table's foreign keys name, ascending
-abbrev pub children : Schema → ℕ → List ℕ
-children schema table = children_from schema table 0 schema
-
 -- a visible column is one that is neither hidden nor the identifier, which both sides know
 abbrev pub is_shown : Option Column → Bool
 is_shown None = false

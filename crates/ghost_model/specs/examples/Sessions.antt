@@ -10,7 +10,8 @@ use Rattle.ghost_model.specs.core.Host.{rows_frame, host_of}
 use Rattle.ghost_model.specs.core.Local.{IsServedBy}
 use Rattle.ghost_model.specs.core.Meaning.{answer}
 use Rattle.ghost_model.specs.core.Honest.{IsHonest}
-use Rattle.ghost_model.specs.core.Lines.{AreLines, ended_of, all_done, broken_word, rows_from_replies}
+use Rattle.ghost_model.specs.core.Lines.{AreLines, all_done, broken_word}
+use Rattle.ghost_model.specs.laws.ShortWords.{ended_of, rows_from_replies}
 use Rattle.ghost_model.specs.examples.Clinic.{clinic, clinic_schema, clinic_catalog, number, doctor_row, patient_row, visit_row}
 use Rattle.ghost_model.specs.examples.Channel.{hex, cardio_text, cardio_query, cardio_ask, cardio_test, cardio_journal, late_text, name_text, dialled, sends, takes, welcomed, closed}
 use Rattle.ghost_model.specs.core.Printed.{printed}

@@ -20,7 +20,7 @@ use Rattle.ghost_model.specs.core.Asks.{kind_at}
 use Rattle.ghost_model.specs.core.Split.{Hidden, hidden_of, rejoined, value_at, kind_of_column, are_of_kinds}
 use Rattle.ghost_model.specs.core.Replies.{hidden_places}
 use Rattle.ghost_model.specs.forms.Runs.{Run, page_bytes, number_cell, Stores}
-use Rattle.ghost_model.specs.forms.Layout.{below, is_hidden, count_of, levels_of, above_of, descendants_of, public_pages, column_file, subtree_table, index_header, index_directory, index_level, id_directory, id_level}
+use Rattle.ghost_model.specs.forms.Layout.{below, is_hidden, count_of, levels_of, above_of, descendants_of, public_pages, Cells, Subtrees, IndexHeader, IndexDirectory, IndexLevel, IdDirectory, IdLevel, run_of_file}
 
 -- The public pages: a page of the catalog's bytes, and 0xFF where there are none.
 abbrev pub catalog_part : Catalog → (place : ℕ) → List ℕ
@@ -36,21 +36,12 @@ HoldsCatalog page cat = (place : ℕ) → place < public_pages → page place �
 abbrev pub hidden_rows : Hidden → (table : ℕ) → Rows
 hidden_rows hidden table = rows_or_none (slice_get hidden.hidden table)
 
-abbrev pub hidden_kinds : Table → List Kind
-hidden_kinds table = map kind_of_column (filter (λ column. column.hidden) (drop 1 table.columns))
-
 -- the hidden part of a database that a catalog tells of
 pub record IsHidden (cat : Catalog) (hidden : Hidden) : Type 0 where
   pub database : Database
   pub proper : IsDatabase cat.schema database
   pub counted : row_counts database ≡ cat.counts
   pub part : hidden ≡ hidden_of cat.schema database
-
--- so each table has as many rows as the catalog says, and a row one value for each hidden column, of its kind
-pub record GoesWith (cat : Catalog) (hidden : Hidden) : Type 0 where
-  pub counted : map length hidden.hidden ≡ cat.counts
-  pub kinds : (table place : ℕ) (declared : Table) (row : Row) → slice_get cat.schema table ≡ Some declared
-      → slice_get (hidden_rows hidden table) place ≡ Some row → IsTrue (are_of_kinds (hidden_kinds declared) row)
 
 -- the cell of a hidden column for a row of the hidden part
 abbrev pub hidden_cell : Schema → (table column : ℕ) → Row → List ℕ
@@ -64,7 +55,7 @@ hidden_cells schema hidden table column = map (hidden_cell schema table column) 
 abbrev pub HoldsColumns : (ℕ → List ℕ) → Catalog → Hidden → Type 0
 HoldsColumns page cat hidden =
     (table column : ℕ) → is_hidden cat.schema table column ≡ true
-    → Stores page (column_file cat table column) (hidden_cells cat.schema hidden table column)
+    → Stores page (run_of_file cat (Cells table column)) (hidden_cells cat.schema hidden table column)
 
 -- Rows lead to rows along the foreign keys, which are hidden. So the hidden part tells it, whatever the visible values
 -- are: here 0 stands for each of them, of which a row has at most 24.
@@ -92,7 +83,7 @@ subtree_record schema hidden table identifier =
 abbrev pub HoldsSubtrees : (ℕ → List ℕ) → Catalog → Hidden → Type 0
 HoldsSubtrees page cat hidden =
     (table : ℕ) → table < length cat.schema → is_empty (descendants_of cat.schema table) ≡ false
-    → Stores page (subtree_table cat table) (map (subtree_record cat.schema hidden table) (ids (count_of cat table)))
+    → Stores page (run_of_file cat (Subtrees table)) (map (subtree_record cat.schema hidden table) (ids (count_of cat table)))
 
 -- Indexes. An index has entries, and at each of its levels a list of identifiers for each entry. The records of a level
 -- file: the lists one after another
@@ -140,11 +131,11 @@ pub record AreValues (cells values : List (List ℕ)) : Type 0 where
 pub record HoldsIndex (page : ℕ → List ℕ) (cat : Catalog) (hidden : Hidden) (table column : ℕ) : Type 0 where
   pub values : List (List ℕ)
   pub are_values : AreValues (hidden_cells cat.schema hidden table column) values
-  pub header : Stores page (index_header cat table column) (number_cell (length values) ∷ [])
+  pub header : Stores page (run_of_file cat (IndexHeader table column)) (number_cell (length values) ∷ [])
   -- an entry for each value, at most as many as the directory has room for
   pub fits : length values ≤ count_of cat table
   pub entries :
-      HoldsLists page (record (index_directory cat table column) { count = length values }) (index_level cat table column)
+      HoldsLists page (record (run_of_file cat (IndexDirectory table column)) { count = length values }) (λ level. run_of_file cat (IndexLevel table column level))
       values (levels_of cat.schema table) (value_lists cat hidden table column values)
 
 abbrev pub HoldsIndexes : (ℕ → List ℕ) → Catalog → Hidden → Type 0
@@ -162,7 +153,7 @@ id_lists cat hidden table from =
 abbrev pub HoldsIdIndexes : (ℕ → List ℕ) → Catalog → Hidden → Type 0
 HoldsIdIndexes page cat hidden =
     (table : ℕ) → table < length cat.schema → is_empty (above_of cat.schema table) ≡ false
-    → HoldsLists page (id_directory cat table) (id_level cat table) (replicate (count_of cat table) [])
+    → HoldsLists page (run_of_file cat (IdDirectory table)) (λ level. run_of_file cat (IdLevel table level)) (replicate (count_of cat table) [])
     (above_of cat.schema table) (id_lists cat hidden table)
 
 -- the static pages hold the hidden part

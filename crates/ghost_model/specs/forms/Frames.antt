@@ -94,20 +94,16 @@ payload_allowed kind payload =
     else if kind == 20 then not (slice_index payload 0 == 0)
     else true
 
--- the number that four bytes spell
-abbrev pub payload_number : List ℕ → ℕ
-payload_number bytes = from_be_bytes w32 (take 4 bytes)
-
 -- the frame of a kind, a serial and a payload that may stand together
 abbrev pub frame_of_parts : (kind serial : ℕ) → List ℕ → Frame
 frame_of_parts kind serial payload =
-    if kind == 1 then HelloFrame (payload_number payload)
+    if kind == 1 then HelloFrame (from_be_bytes w32 (take 4 payload))
     else if kind == 2 then AskFrame serial payload
     else if kind == 3 then MoreFrame serial
     else if kind == 4 then ByeFrame
     else if kind == 17 then WelcomeFrame (slice_index payload 0) (drop 1 payload)
     else if kind == 18 then RowsFrame serial payload
-    else if kind == 19 then DoneFrame serial (payload_number payload)
+    else if kind == 19 then DoneFrame serial (from_be_bytes w32 (take 4 payload))
     else SorryFrame serial (slice_index payload 0)
 
 abbrev pub frame_in : List ℕ → Frame

@@ -7,6 +7,7 @@ use Rattle.std.specs.List.{list_any, range_with_len, before_first}
 use Rattle.std.specs.Option.{option_map_or}
 use Rattle.ghost_model.specs.core.Schema.{Schema, Column, columns_of, column_at, is_empty, is_visible, ancestor}
 use Rattle.ghost_model.specs.core.Channel.{Catalog}
+pub use Rattle.ghost_model.specs.core.Channel.{count_of}
 use Rattle.ghost_model.specs.forms.Cells.{cell_width}
 use Rattle.ghost_model.specs.forms.Runs.{Run, pages_of, block_pages}
 
@@ -47,10 +48,6 @@ is_below schema table other = list_any (λ above. above == table) (above_of sche
 -- the tables below a table, in the order of the schema
 abbrev pub descendants_of : Schema → (table : ℕ) → List ℕ
 descendants_of schema table = filter (is_below schema table) (tables_of schema)
-
--- the number of rows of a table
-abbrev pub count_of : Catalog → (table : ℕ) → ℕ
-count_of cat table = slice_index cat.counts table
 
 -- What stands on the flash for a table: the file of a hidden column, with a cell for each row; the subtree key table, where
 -- tables lie below it, with the identifiers in these that each row leads to; the climbing index of a hidden column; and
@@ -125,37 +122,24 @@ abbrev pub static_files : Catalog → List Run
 static_files cat =
     flat_map (λ structure. map (run_of cat structure) (below (length (files_of cat structure)))) (structures cat.schema)
 
--- The files by name. The column is a hidden one, the table of a subtree key table has one below it, that of an id index one
--- above it; other names name no file. Levels are numbered upwards from 0, in an index the table itself, in an id index its
--- parent.
-abbrev pub column_file : Catalog → (table column : ℕ) → Run
-column_file cat table column = run_of cat (ColumnFile table column) 0
+-- The static files by kind. The column is a hidden one, the table of a subtree key table has one below it, that of an id
+-- index one above it; others are no file. Levels are numbered upwards from 0, in an id index from its table's parent.
+pub data File : Type 0 where
+  Cells : (table column : ℕ) → File
+  Subtrees : (table : ℕ) → File
+  IndexHeader IndexDirectory : (table column : ℕ) → File
+  IndexLevel : (table column level : ℕ) → File
+  IdDirectory : (table : ℕ) → File
+  IdLevel : (table level : ℕ) → File
 
-abbrev pub subtree_table : Catalog → (table : ℕ) → Run
-subtree_table cat table = run_of cat (SubtreeTable table) 0
-
-abbrev pub index_header : Catalog → (table column : ℕ) → Run
-index_header cat table column = run_of cat (ClimbingIndex table column) 0
-
-abbrev pub index_directory : Catalog → (table column : ℕ) → Run
-index_directory cat table column = run_of cat (ClimbingIndex table column) 1
-
-abbrev pub index_level : Catalog → (table column level : ℕ) → Run
-index_level cat table column level = run_of cat (ClimbingIndex table column) (2 + level)
-
-abbrev pub id_directory : Catalog → (table : ℕ) → Run
-id_directory cat table = run_of cat (IdIndex table) 0
-
-abbrev pub id_level : Catalog → (table level : ℕ) → Run
-id_level cat table level = run_of cat (IdIndex table) (1 + level)
-
--- the pages of the file of a column, none where it is not hidden, and those of the files of a table's columns
-abbrev pub column_pages : Catalog → (table column : ℕ) → ℕ
-column_pages cat table column =
-    if is_hidden cat.schema table column then pages_of (count_of cat table) (width_at cat.schema table column) else 0
-
-abbrev pub columns_pages : Catalog → (table : ℕ) → ℕ
-columns_pages cat table = sum_by (column_pages cat table) (below (column_count cat.schema table))
+abbrev pub run_of_file : Catalog → File → Run
+run_of_file cat (Cells table column) = run_of cat (ColumnFile table column) 0
+run_of_file cat (Subtrees table) = run_of cat (SubtreeTable table) 0
+run_of_file cat (IndexHeader table column) = run_of cat (ClimbingIndex table column) 0
+run_of_file cat (IndexDirectory table column) = run_of cat (ClimbingIndex table column) 1
+run_of_file cat (IndexLevel table column level) = run_of cat (ClimbingIndex table column) (2 + level)
+run_of_file cat (IdDirectory table) = run_of cat (IdIndex table) 0
+run_of_file cat (IdLevel table level) = run_of cat (IdIndex table) (1 + level)
 
 -- the page after the static files
 unfoldable pub files_end : Catalog → ℕ

@@ -13,25 +13,7 @@ use Rattle.ghost_model.specs.core.Database.{is_row_among}
 use Rattle.ghost_model.specs.readings.CellReading.{decode_cell}
 use Rattle.ghost_model.specs.core.Asks.{kind_at}
 use Rattle.ghost_model.specs.forms.Runs.{Run, page_of, slot_of, record_at, number_in, found_in}
-use Rattle.ghost_model.specs.forms.Layout.{is_hidden, width_at, count_of, levels_of, above_of, descendants_of, column_file, subtree_table, index_header, index_directory, index_level, id_directory, id_level}
-
--- the static files by kind, as the layout names them
-pub data File : Type 0 where
-  Cells : (table column : ℕ) → File
-  Subtrees : (table : ℕ) → File
-  IndexHeader IndexDirectory : (table column : ℕ) → File
-  IndexLevel : (table column level : ℕ) → File
-  IdDirectory : (table : ℕ) → File
-  IdLevel : (table level : ℕ) → File
-
-abbrev pub run_of_file : Catalog → File → Run
-run_of_file cat (Cells table column) = column_file cat table column
-run_of_file cat (Subtrees table) = subtree_table cat table
-run_of_file cat (IndexHeader table column) = index_header cat table column
-run_of_file cat (IndexDirectory table column) = index_directory cat table column
-run_of_file cat (IndexLevel table column level) = index_level cat table column level
-run_of_file cat (IdDirectory table) = id_directory cat table
-run_of_file cat (IdLevel table level) = id_level cat table level
+use Rattle.ghost_model.specs.forms.Layout.{is_hidden, width_at, count_of, levels_of, above_of, descendants_of, File, Cells, Subtrees, IndexHeader, IndexDirectory, IndexLevel, IdDirectory, IdLevel, run_of_file}
 
 -- whether a schema has such a file
 abbrev pub has_file : Schema → File → Bool

@@ -12,7 +12,8 @@ use Rattle.ghost_model.specs.core.Meaning.{all_of, answer_of_row}
 use Rattle.ghost_model.specs.forms.Cells.{cell_width}
 use Rattle.ghost_model.specs.forms.Catalog.{catalog_bytes}
 use Rattle.ghost_model.specs.refusals.QueryMeaning.{Means}
-use Rattle.ghost_model.specs.refusals.LoadFaults.{FileLimit, IsFirst, place, most_rows, most_bytes, load_faults, file_faults}
+use Rattle.ghost_model.specs.refusals.LoadFaults.{FileLimit, place, most_rows, most_bytes, load_faults, file_faults}
+use Rattle.ghost_model.specs.laws.LoadLaws.{IsFirst}
 use Rattle.ghost_model.specs.laws.SchemaTrees.{IsTree}
 
 -- a table is another one or lies below it: following parents from it comes there

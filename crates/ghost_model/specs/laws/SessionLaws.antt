@@ -20,7 +20,8 @@ use Rattle.ghost_model.specs.core.Host.{Holding, host_of, host_sends}
 use Rattle.ghost_model.specs.core.Local.{IsServedBy}
 use Rattle.ghost_model.specs.core.Honest.{IsSetting, IsCatalogOf, IsHonest}
 use Rattle.ghost_model.specs.core.Replies.{Reply, replies, answer_from}
-use Rattle.ghost_model.specs.core.Lines.{ended_of, all_done}
+use Rattle.ghost_model.specs.core.Lines.{all_done}
+use Rattle.ghost_model.specs.laws.ShortWords.{ended_of}
 
 -- at each point of the session every take was answered in full, and what was taken by then begins what the host sends
 -- for the bytes that the key had sent by then

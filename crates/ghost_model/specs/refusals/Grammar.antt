@@ -31,7 +31,3 @@ pub record IsSyntaxFault {Tree : Type 0} (spelling : Tree → List Symbol) (text
 -- one or more items with a symbol between each two
 abbrev pub separated : {X : Type 0} → Symbol → (X → List Symbol) → X → List X → List Symbol
 separated by spell x xs = spell x ++ flat_map (λ other. by ∷ spell other) xs
-
--- items that each have a symbol after them
-abbrev pub begun : {X : Type 0} → Symbol → (X → List Symbol) → List X → List Symbol
-begun by spell xs = flat_map (λ x. spell x ++ by ∷ []) xs

@@ -8,7 +8,7 @@ use Rattle.ghost_model.specs.core.Query.{Field}
 use Rattle.ghost_model.specs.core.Schema.{Schema, Table, places_of, is_table, references_to, parent, ancestor}
 use Rattle.ghost_model.specs.refusals.Rules.{broken_if, MeetsAll, BreaksFirst}
 use Rattle.ghost_model.specs.refusals.Grammar.{Spells, IsSyntaxFault}
-use Rattle.ghost_model.specs.refusals.SchemaGrammar.{To, ColumnDeclaration, CharColumn, IntegerColumn, TableText, SchemaText, spelling}
+use Rattle.ghost_model.specs.refusals.SchemaGrammar.{To, ColumnDeclaration, CharColumn, IntegerColumn, TableText, SchemaText, schema_spelling}
 use Rattle.ghost_model.specs.refusals.SchemaMeaning.{declared_table, columns_written, schema_of}
 
 -- the bytes of a schema's text, at most; a longer one is not read
@@ -17,16 +17,16 @@ most_schema_bytes = 65536
 
 -- tables and columns by their places. The fault of a table's name has column 0
 pub data SchemaFault : Type 0 where
-  Syntax : (at : ℕ) → SchemaFault
-  Limit : SchemaFault
+  BadSyntax : (at : ℕ) → SchemaFault
+  OverLimit : SchemaFault
   DuplicateName : (table column : ℕ) → SchemaFault
   NoId : (table : ℕ) → SchemaFault
-  UnknownTable : (table column : ℕ) → SchemaFault
+  UnknownChild : (table column : ℕ) → SchemaFault
   TwoParents : (child : ℕ) → SchemaFault
   Cycle : (table : ℕ) → SchemaFault
   NotOneRoot : (roots : ℕ) → SchemaFault
 
--- Limit: more than 12 tables, more than 24 columns in a table, a name of more than 32 bytes, wherever it stands, or a
+-- OverLimit: more than 12 tables, more than 24 columns in a table, a name of more than 32 bytes, wherever it stands, or a
 -- CHAR whose length is not 1 to 64
 abbrev pub is_long : List ℕ → Bool
 is_long name = nat_lt 32 (length name)
@@ -86,7 +86,7 @@ table_lacks_id (Some table) = not (is_identifier table.first) || list_any is_pri
 abbrev pub lacks_id : SchemaText → ℕ → Bool
 lacks_id tables place = table_lacks_id (slice_get tables place)
 
--- UnknownTable: a REFERENCES names no table
+-- UnknownChild: a REFERENCES names no table
 abbrev pub refers_nowhere : SchemaText → Option ColumnDeclaration → Bool
 refers_nowhere tables (Some (IntegerColumn name primary (Some (To table says_id)) hidden)) =
     is_none (declared_table tables table)
@@ -127,7 +127,7 @@ abbrev pub duplicate_at : Field → SchemaFault
 duplicate_at field = DuplicateName field.table field.column
 
 abbrev pub unknown_at : Field → SchemaFault
-unknown_at field = UnknownTable field.table field.column
+unknown_at field = UnknownChild field.table field.column
 
 abbrev pub wrong_roots : ℕ → Option SchemaFault
 wrong_roots roots = broken_if (not (roots == 1)) (NotOneRoot roots)
@@ -135,7 +135,7 @@ wrong_roots roots = broken_if (not (roots == 1)) (NotOneRoot roots)
 -- the rules that a tree may break, in their order, each with its fault at the first place that breaks it
 abbrev pub rules_of_schemas : SchemaText → List (Option SchemaFault)
 rules_of_schemas tables =
-    broken_if (is_over tables) Limit
+    broken_if (is_over tables) OverLimit
     ∷ option_map duplicate_at (find (is_duplicate tables) (fields tables))
     ∷ option_map NoId (find (lacks_id tables) (places_of tables))
     ∷ option_map unknown_at (find (is_unknown tables) (fields tables))
@@ -147,16 +147,16 @@ rules_of_schemas tables =
 -- the text spells a tree that meets the rules, and this is the schema of that tree
 pub record MeansSchema (text : List ℕ) (schema : Schema) : Type 0 where
   pub tables : SchemaText
-  pub spells : Spells spelling text tables
+  pub spells : Spells schema_spelling text tables
   pub obeys : MeetsAll (rules_of_schemas tables)
   pub means : schema_of tables ≡ schema
 
 -- the text spells a tree that breaks a rule, and this is the fault of the first one that it breaks
 pub record HasFault (text : List ℕ) (fault : SchemaFault) : Type 0 where
   pub tables : SchemaText
-  pub spells : Spells spelling text tables
+  pub spells : Spells schema_spelling text tables
   pub breaks : BreaksFirst (rules_of_schemas tables) fault
 
 abbrev pub IsSchemaFault : List ℕ → SchemaFault → Type 0
-IsSchemaFault text (Syntax at) = IsSyntaxFault spelling text at
+IsSchemaFault text (BadSyntax at) = IsSyntaxFault schema_spelling text at
 IsSchemaFault text fault = HasFault text fault

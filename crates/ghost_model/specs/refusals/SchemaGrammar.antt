@@ -40,19 +40,19 @@ abbrev pub spell_reference : Option Reference → List Symbol
 spell_reference None = []
 spell_reference (Some (To table says_id)) = Word ReferencesWord ∷ Name table ∷ spell_id says_id
 
-abbrev pub spell_column : ColumnDeclaration → List Symbol
-spell_column (CharColumn name digits hidden) =
+abbrev pub spell_declaration : ColumnDeclaration → List Symbol
+spell_declaration (CharColumn name digits hidden) =
     Name name ∷ Word CharWord ∷ Open ∷ Digits digits ∷ Closing ∷ spell_hidden hidden
-spell_column (IntegerColumn name primary reference hidden) =
+spell_declaration (IntegerColumn name primary reference hidden) =
     Name name ∷ Word IntegerWord ∷ (spell_primary primary ++ (spell_reference reference ++ spell_hidden hidden))
 
 abbrev pub spell_heading : List ℕ → List Symbol
 spell_heading name = Word CreateWord ∷ Word TableWord ∷ Name name ∷ Open ∷ []
 
-abbrev pub spell_table : TableText → List Symbol
-spell_table table =
-    spell_heading table.name ++ (separated Comma spell_column table.first table.others ++ Closing ∷ Semicolon ∷ [])
+abbrev pub spell_declared_table : TableText → List Symbol
+spell_declared_table table =
+    spell_heading table.name ++ (separated Comma spell_declaration table.first table.others ++ Closing ∷ Semicolon ∷ [])
 
 -- the symbols of a schema's text; a text of no table is one
-abbrev pub spelling : SchemaText → List Symbol
-spelling tables = flat_map spell_table tables ++ EndOfText ∷ []
+abbrev pub schema_spelling : SchemaText → List Symbol
+schema_spelling tables = flat_map spell_declared_table tables ++ EndOfText ∷ []

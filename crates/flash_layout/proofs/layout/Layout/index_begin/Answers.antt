@@ -30,6 +30,6 @@ returns-clause-most c =
     let there = laid.order.there_are table column c.requires.hidden in
     let begins = laid.few.table_begin table (omega (arith, there.0, laid.tree.few_tables)) in
     let before = laid.few.indexes_before table column (omega (arith, there.1, laid.narrow.columns table)) in
-    let begin : sums.index_begin cat table column ≡ sums.table_begin cat table + layout.columns_pages cat table + sums.subtree_pages cat table + sums.index_pages_before cat table column = refl in
+    let begin : sums.index_begin cat table column ≡ sums.table_begin cat table + sums.columns_pages cat table + sums.subtree_pages cat table + sums.index_pages_before cat table column = refl in
     let value = at_place (sums.index_begin cat table) (layout.column_count cat.schema table) column c.deref.result.now 0 (c.deref.ensures.0 ∙ c.places.ensures.places.indexes) there.1 in
     omega (arith, value ∙ begin, begins, laid.few.columns table, laid.few.subtree table, before)
