@@ -26,7 +26,6 @@ tests_of schema table conditions = flat_map (test_of schema table) conditions
 abbrev pub is_field : (table column : ℕ) → Field → Bool
 is_field table column field = field.table == table && field.column == column
 
--- whether a column is selected and visible
 abbrev pub is_wanted : Schema → List Field → (table column : ℕ) → Bool
 is_wanted schema select table column = is_visible schema table column && list_any (is_field table column) select
 
@@ -76,8 +75,7 @@ ascend_from before (x ∷ xs) = nat_lt before x && ascend_from x xs
 abbrev pub most_tests : ℕ
 most_tests = 16
 
--- whether an ask is one that a key may send: its table is there, its columns are visible and ascend, and it has at most
--- 16 conditions, each between a visible column and a value of that column's kind
+-- whether an ask is one that a key may send
 abbrev pub is_proper_ask : Schema → Ask → Bool
 is_proper_ask schema ask =
     nat_lt ask.table (length schema) && list_all (is_visible schema ask.table) ask.columns
@@ -85,7 +83,6 @@ is_proper_ask schema ask =
     && list_all (λ test. is_visible schema ask.table test.column) ask.tests
     && list_all (λ test. is_of_kind (kind_at schema ask.table test.column) test.value) ask.tests
 
--- the kinds of an ask's columns
 abbrev pub kinds_of : Schema → Ask → List Kind
 kinds_of schema ask = map (kind_at schema ask.table) ask.columns
 
@@ -113,7 +110,6 @@ rows_from width (suc count) bytes = row_in (take width bytes) ∷ rows_from widt
 abbrev pub rows_in : Schema → Ask → List ℕ → List RowCells
 rows_in schema ask payload = rows_from (row_width schema ask) (length payload / row_width schema ask) payload
 
--- an ask and the number of its text
 pub record NumberedAsk : Type 0 where
   pub text : ℕ
   pub ask : Ask
@@ -121,7 +117,6 @@ pub record NumberedAsk : Type 0 where
 abbrev pub asked : (text : ℕ) → Ask → NumberedAsk
 asked text ask = record { text = text; ask = ask }
 
--- the asks of a text that was read or refused
 abbrev pub asks_of_reading : {Refusal : Type 0} → Schema → Result Query Refusal → List Ask
 asks_of_reading schema (Ok query) = asks_of schema query
 asks_of_reading schema (Err _) = []

@@ -48,7 +48,6 @@ abbrev pub asks_in_got : Schema → Got → List Ask
 asks_in_got schema (Found frame) = asks_in_frame schema frame
 asks_in_got schema _ = []
 
--- the asks that a journal sent, in order
 abbrev pub asks_sent : Schema → Journal → List Ask
 asks_sent schema journal = flat_map (λ bytes. asks_in_got schema (got_of bytes)) (sent journal)
 
@@ -62,12 +61,10 @@ pub record IsHonest (catalog : Catalog) (public : Public) (journal : Journal) : 
   pub rest : List ℕ
   pub taken_before : taken journal ++ rest ≡ flat_map frame_bytes (greeting ++ replies)
 
--- the catalog is one that both sides may share, and there are at most 64 texts
 pub record IsSetting (catalog : Catalog) (texts : List (List ℕ)) : Type 0 where
   pub proper : IsCatalog catalog
   pub few : length texts ≤ 64
 
--- the catalog is one that both sides may share, and is that of a database
 pub record IsCatalogOf (catalog : Catalog) (database : Database) : Type 0 where
   pub proper : IsCatalog catalog
   pub is_database : IsDatabase catalog.schema database

@@ -25,7 +25,6 @@ is_refused_by (Refused _) = true
 abbrev pub was_refused : List EndedAsk → Bool
 was_refused ends = list_any (λ end. is_refused_by end.ending) ends
 
--- whether all asks of a query were ended by DONE
 abbrev pub all_done : Schema → Query → List EndedAsk → Bool
 all_done schema query ends =
     if was_refused ends then false else length ends == length (asks_of schema query)
@@ -95,14 +94,12 @@ pub record FaultLines (fault : Fault) (text : SessionText) (lines : List (List �
   pub front : rows_for text query ≡ given ++ left
   pub answer : lines ≡ map row_line given ++ word_line text.number (fault_word fault) ∷ []
 
--- the lines of a text for this reason
 abbrev pub AreLinesFor : Reason → SessionText → (lines : List (List ℕ)) → Type 0
 AreLinesFor WasRefused text lines = RefusedLines text lines
 AreLinesFor WasBroken text lines = BrokenLines text lines
 AreLinesFor WasAnswered text lines = AnsweredLines text lines
 AreLinesFor (MetFault fault) text lines = FaultLines fault text lines
 
--- text number `number`, which is `written`, in a session of these texts
 abbrev pub session_text : Catalog → Hidden → (texts : List (List ℕ)) → Journal → (number : ℕ) → (written : List ℕ) → SessionText
 session_text catalog kept texts journal number written = record {
   catalog = catalog;

@@ -7,7 +7,6 @@ use Rattle.std.specs.Prelude.{ℕ, List, [], ◌∷◌, ◌++◌, flat_map, map,
 use Rattle.hex.specs.Hex.{encode_lower}
 use Rattle.ghost_model.specs.core.Channel.{Move, Dial, Listen, Accept, Send, Take, Close, Answer, Made, Port, Piece, End, Failed, Entry, Journal}
 
--- the bytes that an answer gave
 abbrev pub piece_of : Answer → List ℕ
 piece_of (Piece bytes) = bytes
 piece_of _ = []
@@ -38,7 +37,6 @@ answer_text Failed = codes "failed"
 abbrev pub line_end : List ℕ
 line_end = 10 ∷ []
 
--- the line of a move and its answer
 abbrev pub line_of : Move → Answer → List ℕ
 line_of (Dial _) answer = codes "dial " ++ (answer_text answer ++ line_end)
 line_of (Send bytes) answer = codes "send " ++ (encode_lower bytes ++ (codes " " ++ (answer_text answer ++ line_end)))

@@ -45,7 +45,6 @@ abbrev pub welcome_fits : (missing : List ℕ) (last : ℕ) (part : List ℕ) �
 welcome_fits missing last part =
     bytes_eq part (take (length part) missing) && last == (if length part == length missing then 1 else 0)
 
--- whether bytes are cells of these kinds
 abbrev pub are_cells : List Kind → List ℕ → Bool
 are_cells [] bytes = is_empty bytes
 are_cells (kind ∷ kinds) bytes =
@@ -76,8 +75,7 @@ payload_fits catalog (AwaitsCatalog bytes) frame = greeting_fits bytes frame
 payload_fits catalog (AwaitsReply asked serial later count last) frame = reply_fits catalog asked.ask count last frame
 payload_fits catalog AwaitsNothing frame = false
 
--- what the bytes of the frame at hand amount to: its header or payload lacks so many bytes, or it is whole and valid, or
--- it is invalid
+-- what the bytes of the frame at hand amount to: header or payload lacks so many bytes, or all is valid, or it is not
 pub data Verdict : Type 0 where
   Lacking : (missing : ℕ) → Verdict
   Complete Invalid : Verdict
@@ -106,7 +104,6 @@ abbrev pub of_later_texts : (text : ℕ) → List NumberedAsk → List NumberedA
 of_later_texts text [] = []
 of_later_texts text (asked ∷ later) = if asked.text == text then of_later_texts text later else asked ∷ later
 
--- the last identifier of some rows
 abbrev pub last_identifier : (last : ℕ) → List RowCells → ℕ
 last_identifier last [] = last
 last_identifier last (row ∷ later) = last_identifier row.identifier later
@@ -157,7 +154,6 @@ ended_by_frame asked rows (DoneFrame _ _) = ended asked (Answered rows) ∷ []
 ended_by_frame asked rows (SorryFrame _ code) = ended asked (Refused code) ∷ []
 ended_by_frame asked rows _ = []
 
--- the ask, if any, that a valid frame ends
 abbrev pub ended_by : Awaits → (rows : List ℕ) → Frame → List EndedAsk
 ended_by (AwaitsReply asked serial later count last) rows frame = ended_by_frame asked rows frame
 ended_by _ rows frame = []
@@ -277,7 +273,6 @@ move_from catalog at standing =
     else if standing.stopped || standing.heard.broken then Some Close
     else Some (send_or (take_or_close catalog standing.heard standing.heard.awaits) (slice_get standing.heard.due standing.sent))
 
--- the next move of a session with these asks
 abbrev pub next_with : Catalog → (at : List ℕ) → (asks : List NumberedAsk) → Journal → Option Move
 next_with catalog at asks journal = move_from catalog at (standing_after catalog asks journal)
 
@@ -295,7 +290,6 @@ GoesOn catalog at asks before (entry ∷ later) =
 abbrev pub IsProperWith : Catalog → (at : List ℕ) → (asks : List NumberedAsk) → Journal → Type 0
 IsProperWith catalog at asks journal = GoesOn catalog at asks [] journal
 
--- a journal is proper for these texts
 abbrev pub IsProper : Catalog → (at : List ℕ) → (texts : List (List ℕ)) → Journal → Type 0
 IsProper catalog at texts journal = IsProperWith catalog at (asked_of catalog.schema texts) journal
 

@@ -22,7 +22,6 @@ pub record Table : Type 0 where
 abbrev pub Schema : Type 0
 Schema = List Table
 
--- the columns of a table, none where there is no such table
 abbrev pub columns_or_none : Option Table → List Column
 columns_or_none None = []
 columns_or_none (Some table) = table.columns
@@ -33,7 +32,6 @@ columns_of schema table = columns_or_none (slice_get schema table)
 abbrev pub column_at : Schema → ℕ → ℕ → Option Column
 column_at schema table column = slice_get (columns_of schema table) column
 
--- the kind of a column, where there is one
 abbrev pub column_kind : Schema → (table column : ℕ) → Option Kind
 column_kind schema table column = option_map (λ column. column.kind) (column_at schema table column)
 
@@ -45,7 +43,6 @@ places_from test at (x ∷ xs) = if test x then at ∷ places_from test (at + 1)
 abbrev pub places_where : {X : Type 0} → (X → Bool) → List X → List ℕ
 places_where test xs = places_from test 0 xs
 
--- the place of each element of a list
 abbrev pub places_of : {X : Type 0} → List X → List ℕ
 places_of xs = places_where (λ _. true) xs
 
@@ -66,7 +63,6 @@ is_table table (Some other) = other == table
 abbrev pub references_to : ℕ → Table → List ℕ
 references_to child table = places_where (λ column. is_table child column.child) table.columns
 
--- the tables that hold a foreign key to this table
 abbrev pub holders_of : Schema → ℕ → List ℕ
 holders_of schema child = places_where (λ table. not (is_empty (references_to child table))) schema
 

@@ -33,7 +33,6 @@ is_closed column = column.hidden
 abbrev pub part_of : (Column → Bool) → List Column → Row → Row
 part_of test columns row = map (λ held. held.1) (filter (λ held. test held.0) (zip (drop 1 columns) (drop 1 row)))
 
--- the same of each row of each table
 abbrev pub table_parts : (Column → Bool) → Schema → Database → List Rows
 table_parts test schema database = map (λ held. map (part_of test held.0.columns) held.1) (zip schema database)
 
@@ -71,12 +70,10 @@ abbrev pub rejoined_table : List Column → (visible kept : Rows) → Rows
 rejoined_table columns visible kept =
     map (λ row. rejoined_row columns row.0 row.1.0 row.1.1) (enumerate_from 1 (zip visible kept))
 
--- the database whose two parts these are
 abbrev pub rejoined : Schema → Public → Hidden → Database
 rejoined schema public kept =
     map (λ table. rejoined_table table.0.columns table.1.0 table.1.1) (zip schema (zip public.visible kept.hidden))
 
--- the visible rows of a table
 abbrev pub public_rows : Public → (table : ℕ) → Rows
 public_rows public table = rows_or_none (slice_get public.visible table)
 
@@ -119,7 +116,6 @@ kind_of_column column = column.kind
 abbrev pub cells : List Kind → Row → List ℕ
 cells kinds row = flat_map (λ held. encode_cell held.0 held.1) (zip kinds row)
 
--- the kinds of the visible columns
 abbrev pub visible_kinds : Table → List Kind
 visible_kinds table = map kind_of_column (filter is_open (drop 1 table.columns))
 
@@ -131,15 +127,12 @@ cells_of_tables schema visible = flat_map (λ held. flat_map (cells (visible_kin
 abbrev pub image : Catalog → Public → List ℕ
 image cat public = catalog_bytes cat ++ cells_of_tables cat.schema public.visible
 
--- the same row with the cells of its values
 abbrev pub reply_row : Schema → Ask → RowValues → RowCells
 reply_row schema ask row = record { identifier = row.identifier; cells = cells (kinds_of schema ask) row.values }
 
--- the rows of the reply to an ask with their cells
 abbrev pub reply_rows : Schema → Public → Ask → List RowCells
 reply_rows schema public ask = map (reply_row schema ask) (visible_rows schema public ask)
 
--- whether there is one value of each of these kinds
 abbrev pub are_of_kinds : List Kind → Row → Bool
 are_of_kinds kinds row = pointwise is_of_kind kinds row
 

@@ -57,8 +57,7 @@ HoldsColumns page cat hidden =
     (table column : ℕ) → is_hidden cat.schema table column ≡ true
     → Stores page (run_of_file cat (Cells table column)) (hidden_cells cat.schema hidden table column)
 
--- Rows lead to rows along the foreign keys, which are hidden. So the hidden part tells it, whatever the visible values
--- are: here 0 stands for each of them, of which a row has at most 24.
+-- Rows lead to rows along hidden columns, whatever the visible values are: here 0 stands for each, at most 24 in a row.
 abbrev pub zeros : Row
 zeros = replicate 24 (Number (pos 0))
 
@@ -85,8 +84,7 @@ HoldsSubtrees page cat hidden =
     (table : ℕ) → table < length cat.schema → is_empty (descendants_of cat.schema table) ≡ false
     → Stores page (run_of_file cat (Subtrees table)) (map (subtree_record cat.schema hidden table) (ids (count_of cat table)))
 
--- Indexes. An index has entries, and at each of its levels a list of identifiers for each entry. The records of a level
--- file: the lists one after another
+-- Indexes: at each level a list of identifiers for each entry. The records of a level file are the lists one after another
 abbrev pub list_records : (lists : List (List ℕ)) → List (List ℕ)
 list_records lists = map number_cell (concat lists)
 
@@ -142,8 +140,7 @@ abbrev pub HoldsIndexes : (ℕ → List ℕ) → Catalog → Hidden → Type 0
 HoldsIndexes page cat hidden =
     (table column : ℕ) → is_hidden cat.schema table column ≡ true → HoldsIndex page cat hidden table column
 
--- Id indexes: indexes over the identifiers themselves, an entry for each, which needs no bytes of its own, and without the
--- level of the table itself. The lists of identifiers at the level of a table: that table's rows which lead to one, ascending
+-- Id indexes: an entry for each identifier. The lists at the level of a table: its rows which lead to one, ascending
 abbrev pub id_lists : Catalog → Hidden → (table from : ℕ) → List (List ℕ)
 id_lists cat hidden table from =
     map (λ identifier.

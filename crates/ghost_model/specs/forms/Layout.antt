@@ -25,11 +25,9 @@ column_count schema table = length (columns_of schema table)
 abbrev pub is_hidden : Schema → (table column : ℕ) → Bool
 is_hidden schema table column = option_map_or (λ (held : Column). held.hidden) (column_at schema table column) false
 
--- the hidden columns of a table, by place
 abbrev pub hidden_columns : Schema → (table : ℕ) → List ℕ
 hidden_columns schema table = filter (is_hidden schema table) (below (column_count schema table))
 
--- the width of a column's cells
 abbrev pub width_at : Schema → (table column : ℕ) → ℕ
 width_at schema table column = option_map_or (λ (held : Column). cell_width held.kind) (column_at schema table column) 0
 
@@ -37,7 +35,6 @@ width_at schema table column = option_map_or (λ (held : Column). cell_width hel
 abbrev pub levels_of : Schema → (table : ℕ) → List ℕ
 levels_of schema table = filter_map (λ steps. ancestor schema steps table) (below (length schema))
 
--- the tables above a table, nearest first
 abbrev pub above_of : Schema → (table : ℕ) → List ℕ
 above_of schema table = drop 1 (levels_of schema table)
 
@@ -49,23 +46,19 @@ is_below schema table other = list_any (λ above. above == table) (above_of sche
 abbrev pub descendants_of : Schema → (table : ℕ) → List ℕ
 descendants_of schema table = filter (is_below schema table) (tables_of schema)
 
--- What stands on the flash for a table: the file of a hidden column, with a cell for each row; the subtree key table, where
--- tables lie below it, with the identifiers in these that each row leads to; the climbing index of a hidden column; and
--- the id index, where a table lies above it. (`structures_of` lists the two last kinds for every table; where no table lies
--- below or above, they have no page.)
+-- What stands on the flash for a table: the cells of a hidden column; where tables lie below it, the identifiers in these
+-- that each row leads to; the climbing index of a hidden column; and, where a table lies above it, the id index.
 pub data Structure : Type 0 where
   ColumnFile : (table column : ℕ) → Structure
   SubtreeTable : (table : ℕ) → Structure
   ClimbingIndex : (table column : ℕ) → Structure
   IdIndex : (table : ℕ) → Structure
 
--- those of a table in their order
 abbrev pub structures_of : Schema → (table : ℕ) → List Structure
 structures_of schema table =
     map (ColumnFile table) (hidden_columns schema table)
     ++ (SubtreeTable table ∷ (map (ClimbingIndex table) (hidden_columns schema table) ++ IdIndex table ∷ []))
 
--- all, table by table
 abbrev pub structures : Schema → List Structure
 structures schema = flat_map (structures_of schema) (tables_of schema)
 
@@ -73,10 +66,9 @@ structures schema = flat_map (structures_of schema) (tables_of schema)
 abbrev pub level_files : Catalog → (tables : List ℕ) → List (ℕ × ℕ)
 level_files cat tables = map (λ table. (count_of cat table, 4)) tables
 
--- The files of a structure in their order, each by the number of its records and their width. An index has a header of one
--- record, a directory with room for a record for each row, and level files for the table itself and those above it, nearest
--- first; a record of the directory has the cell and eight bytes for each level. An id index has no header, no cell, and no
--- level for the table itself. Where no table lies below or above, records have no bytes, and so the file has no page.
+-- The files of a structure, each by the number and width of its records. An index has a header, a directory with room for
+-- a record for each row, which has the cell and eight bytes for each level, and level files, nearest first. An id index has
+-- no header, no cell, and no level for the table itself. Where no table lies below or above, the file has no page.
 abbrev pub files_of : Catalog → Structure → List (ℕ × ℕ)
 files_of cat (ColumnFile table column) = (count_of cat table, width_at cat.schema table column) ∷ []
 files_of cat (SubtreeTable table) = (count_of cat table, 4 * length (descendants_of cat.schema table)) ∷ []
@@ -86,14 +78,12 @@ files_of cat (ClimbingIndex table column) =
 files_of cat (IdIndex table) =
     (count_of cat table, 8 * length (above_of cat.schema table)) ∷ level_files cat (above_of cat.schema table)
 
--- the pages of some files
 abbrev pub files_pages : (files : List (ℕ × ℕ)) → ℕ
 files_pages files = sum_by (λ file. pages_of file.0 file.1) files
 
 abbrev pub structure_pages : Catalog → Structure → ℕ
 structure_pages cat structure = files_pages (files_of cat structure)
 
--- whether two are the same structure
 abbrev pub is_same : Structure → Structure → Bool
 is_same (ColumnFile table column) (ColumnFile other at) = table == other && column == at
 is_same (SubtreeTable table) (SubtreeTable other) = table == other
@@ -117,7 +107,6 @@ run_of cat structure place = record {
   width = (get_or (files_of cat structure) place (0, 0)).1;
 }
 
--- the static files in the order of their pages
 abbrev pub static_files : Catalog → List Run
 static_files cat =
     flat_map (λ structure. map (run_of cat structure) (below (length (files_of cat structure)))) (structures cat.schema)
@@ -160,7 +149,6 @@ visible_columns schema table = filter (is_visible schema table) (below (column_c
 abbrev pub spool_width : Schema → (table : ℕ) → ℕ
 spool_width schema table = 4 + sum_by (width_at schema table) (visible_columns schema table)
 
--- the pages of a table's area in one half
 abbrev pub spool_pages : Catalog → (table : ℕ) → ℕ
 spool_pages cat table =
     if is_empty (visible_columns cat.schema table) then 0
@@ -193,7 +181,6 @@ largest_count cat = fold max 0 cat.counts
 abbrev pub scratch_pages : Catalog → ℕ
 scratch_pages cat = in_blocks (pages_of (largest_count cat) 4)
 
--- scratch areas 0 to 5
 abbrev pub scratch_area : Catalog → (area : ℕ) → Run
 scratch_area cat area =
     record { first = spool_end cat + area * scratch_pages cat; count = largest_count cat; width = 4 }

@@ -15,7 +15,6 @@ use Rattle.ghost_model.specs.core.Asks.{kind_at}
 use Rattle.ghost_model.specs.forms.Runs.{Run, page_of, slot_of, record_at, number_in, found_in}
 use Rattle.ghost_model.specs.forms.Layout.{is_hidden, width_at, count_of, levels_of, above_of, descendants_of, File, Cells, Subtrees, IndexHeader, IndexDirectory, IndexLevel, IdDirectory, IdLevel, run_of_file}
 
--- whether a schema has such a file
 abbrev pub has_file : Schema → File → Bool
 has_file schema (Cells table column) = is_hidden schema table column
 has_file schema (Subtrees table) = not (is_empty (descendants_of schema table))
@@ -110,8 +109,7 @@ abbrev pub ascends : (before : Option (List ℕ)) → List ℕ → Bool
 ascends None bytes = true
 ascends (Some before) bytes = is_lt (slice_cmp nat_cmp before bytes)
 
--- whether they may stand there after those before them: in a directory those of the slot before, in a level file those
--- before in the same list, if there are any
+-- whether they may stand there after those before: in a directory of the slot before, in a level file of the same list
 abbrev pub may_follow : Catalog → File → (before : Option (List ℕ)) → List ℕ → Bool
 may_follow cat (IndexDirectory table column) before bytes =
     ascends (option_map (cell_part cat.schema table column) before) (cell_part cat.schema table column bytes)
@@ -122,7 +120,6 @@ may_follow cat (IdDirectory table) before bytes = places_keep_order (above_of ca
 may_follow cat (IdLevel table level) before bytes = ascends before bytes
 may_follow cat _ before bytes = true
 
--- the record in a slot of a file
 abbrev pub in_slot : (ℕ → List ℕ) → Catalog → File → (place : ℕ) → List ℕ
 in_slot page cat file place = record_at page (run_of_file cat file) place
 
@@ -137,13 +134,11 @@ slots_in page cat (IndexLevel table column level) = count_of cat (slice_index (l
 slots_in page cat (IdDirectory table) = count_of cat table
 slots_in page cat (IdLevel table level) = count_of cat (slice_index (above_of cat.schema table) level)
 
--- the record before it, if it is not the first
 abbrev pub before_slot : (ℕ → List ℕ) → Catalog → File → (place : ℕ) → Option (List ℕ)
 before_slot page cat file zero = None
 before_slot page cat file (suc place) = Some (in_slot page cat file place)
 
--- some entry's list has a record of a level file and the one before it. Where its list is the directory says in eight
--- bytes, after so many bytes for the cell and for the levels below
+-- some entry's list has a record of a level file and the one before it, as the directory says after so many bytes
 pub record AreInOneList (page : ℕ → List ℕ) (cat : Catalog) (directory : File) (skipped place : ℕ) : Type 0 where
   pub entry : ℕ
   pub there : entry < slots_in page cat directory
@@ -171,7 +166,6 @@ pub record IsDamagedIn (cat : Catalog) (page : ℕ → List ℕ) (file : File) (
   pub damaged : (may_stand cat file (in_slot page cat file place) ≡ false) ⊎ IsOutOfOrder page cat file place
   pub found_is : found ≡ found_in (in_slot page cat file place)
 
--- a slot of some file
 pub record IsDamagedSlot (cat : Catalog) (page : ℕ → List ℕ) (number slot found : ℕ) : Type 0 where
   pub file : File
   pub place : ℕ

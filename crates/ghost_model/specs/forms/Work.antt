@@ -13,12 +13,10 @@ use Rattle.ghost_model.specs.forms.Flash.{hidden_cells}
 abbrev pub catalog_pages : Catalog → ℕ
 catalog_pages cat = pages_of (length (catalog_bytes cat)) 1
 
--- how many values a hidden column has, each counted once
 abbrev pub value_count : Catalog → Hidden → (table column : ℕ) → ℕ
 value_count cat hidden table column = distinct_count bytes_eq (hidden_cells cat.schema hidden table column)
 
--- the records that stand in the files of a structure, and their width: as many as there is room for, but a directory of a
--- climbing index has one for each value
+-- the files of a structure as they are filled: the directory of a climbing index has a record for each value
 abbrev pub written_of : Catalog → Hidden → Structure → List (ℕ × ℕ)
 written_of cat hidden (ClimbingIndex table column) =
     (1, 4) ∷ (value_count cat hidden table column, width_at cat.schema table column + 8 * length (levels_of cat.schema table))

@@ -4,7 +4,6 @@
 use Rattle.std.specs.Prelude.{◌≡◌, ℕ, ◌+◌, ◌<◌, List, [], ◌∷◌, ◌++◌, length, take, flat_map, Some}
 use Rattle.ghost_model.specs.refusals.Tokens.{Symbol, symbols, offset_of}
 
--- the symbols of a text are those of a tree
 abbrev pub Spells : {Tree : Type 0} → (Tree → List Symbol) → List ℕ → Tree → Type 0
 Spells spelling text tree = symbols text ≡ spelling tree
 

@@ -118,7 +118,6 @@ references_from database table schema later =
 abbrev pub reference_faults : Schema → Database → List LoadFault
 reference_faults schema database = references_from database 0 schema database
 
--- all faults of the files of a schema's tables, in reading order
 abbrev pub load_faults : Schema → (files : List (List ℕ)) → List LoadFault
 load_faults schema files = files_faults 0 schema files ++ reference_faults schema (database_of schema files)
 

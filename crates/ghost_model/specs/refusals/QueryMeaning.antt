@@ -28,7 +28,6 @@ table_named schema name = first_of (places_where (λ table. bytes_eq table.name 
 abbrev pub column_named : Schema → ℕ → List ℕ → Option ℕ
 column_named schema table name = first_of (places_where (λ column. bytes_eq column.name name) (columns_of schema table))
 
--- the column of a table that has this name, if there is one
 abbrev pub fields_named : Schema → List ℕ → ℕ → List Field
 fields_named schema name table = option_to_list (option_map (field table) (column_named schema table name))
 
@@ -149,7 +148,6 @@ is_ambiguous schema tree =
     has_repeat (from_tables schema tree)
     || list_any (λ column. nat_lt 1 (length (meanings schema (from_tables schema tree) column))) (columns_in tree)
 
--- whether a value is of another kind than a column's
 abbrev pub is_other_kind : Option Kind → Value → Bool
 is_other_kind (Some Integer) (Text text) = true
 is_other_kind (Some (Chars most)) (Number number) = true
@@ -203,7 +201,6 @@ is_unlinked schema query =
     || is_none (top_of schema query)
     || list_any (lacks_join schema query) query.from
 
--- the rules that the tree of a text may break, in their order
 abbrev pub rules_of_queries : Schema → List ℕ → QueryText → List (Option Refusal)
 rules_of_queries schema text tree =
     broken_if (is_over_limit schema text tree) Limit

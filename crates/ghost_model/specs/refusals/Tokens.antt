@@ -14,8 +14,7 @@ pub data Keyword : Type 0 where
   AndWord BetweenWord CharWord CreateWord FromWord HiddenWord IntegerWord : Keyword
   PrimaryKeyWord PrimaryWord ReferencesWord SelectWord TableWord WhereWord : Keyword
 
--- what the grammars are about: a token without its place. A name stands in lower case, a number by its digits, a
--- text literal by its value, in which `''` is one `'`
+-- a token without its place: a name in lower case, a number by its digits, a literal by its value, `''` being one `'`
 pub data Symbol : Type 0 where
   Word : Keyword → Symbol
   Reserved : Symbol
@@ -24,7 +23,6 @@ pub data Symbol : Type 0 where
   EqualSign UnequalSign LessSign AtMostSign MoreSign AtLeastSign : Symbol
   NoToken EndOfText : Symbol
 
--- a token and the offset of its first byte in the text
 pub record Token : Type 0 where
   pub symbol : Symbol
   pub at : ℕ
@@ -38,7 +36,6 @@ is_space byte = byte == 32 || byte == 9 || byte == 10 || byte == 13
 abbrev pub is_digit : ℕ → Bool
 is_digit byte = is_between 48 57 byte
 
--- one or more digits
 abbrev pub is_numeral : List ℕ → Bool
 is_numeral [] = false
 is_numeral (digit ∷ digits) = list_all is_digit (digit ∷ digits)
@@ -61,7 +58,6 @@ is_printable byte = is_between 32 126 byte
 abbrev pub in_lower_case : List ℕ → List ℕ
 in_lower_case bytes = map to_ascii_lowercase bytes
 
--- the keywords and the word of each, in lower case
 abbrev pub keywords : List (Keyword × List ℕ)
 keywords =
     (AndWord, codes "and") ∷ (BetweenWord, codes "between") ∷ (CharWord, codes "char") ∷ (CreateWord, codes "create")
@@ -86,7 +82,6 @@ abbrev pub symbol_of_word : List ℕ → Symbol
 symbol_of_word word =
     option_map_or Word (keyword_of word) (if list_any (bytes_eq word) other_reserved then Reserved else Name word)
 
--- a symbol and how many bytes it takes
 pub record Read : Type 0 where
   pub symbol : Symbol
   pub bytes : ℕ
@@ -94,8 +89,7 @@ pub record Read : Type 0 where
 abbrev pub read : Symbol → ℕ → Read
 read symbol bytes = record { symbol = symbol; bytes = bytes }
 
--- a literal whose opening `'` was read: its value and the bytes that it takes, its last `'` among them. `ended` says
--- that the byte before was a `'`: it ends the literal where no second one follows
+-- a literal whose opening `'` was read. `ended`: the byte before was a `'`, which ends it where no second one follows
 unfoldable pub quoted_from : (ended : Bool) (value : List ℕ) (count : ℕ) → List ℕ → Read
 quoted_from true value count [] = read (Quoted value) count
 quoted_from true value count (b ∷ bs) =
@@ -163,6 +157,5 @@ symbol_of token = token.symbol
 abbrev pub symbols : List ℕ → List Symbol
 symbols text = map symbol_of (tokens text)
 
--- the offset of the token at a place
 abbrev pub offset_of : List ℕ → ℕ → Option ℕ
 offset_of text place = option_map (λ token. token.at) (slice_get (tokens text) place)
