@@ -7,8 +7,8 @@ use Rattle.ghost_model.specs.core.Schema.{Schema, Column, columns_of, column_at,
 use Rattle.ghost_model.specs.core.Channel.{Ask, Test}
 use Rattle.ghost_model.specs.core.Values.{Value}
 use Rattle.ghost_model.specs.core.Query.{Query, Field, Condition, Compare, Join, Operator}
-use Rattle.ghost_model.specs.core.Asks.{ask_for, asks_of, is_needed, is_wanted, is_field, test_of}
-use Rattle.ghost_model.specs.laws.ShortWords.{is_from}
+use Rattle.ghost_model.specs.core.Asks.{ask_for, asks_of, is_needed, is_wanted, test_of}
+use Rattle.ghost_model.specs.laws.ShortWords.{is_field, is_from}
 use Rattle.ghost_model.specs.core.Replies.{Reply, reply_about}
 use Rattle.ghost_model.proofs.MeaningLemmas.OneRow.{Among, among-filter, from_filter, from_map, in_table, both_true, neither_true}
 use Rattle.ghost_model.proofs.MeaningLemmas.Leading.{place_within}

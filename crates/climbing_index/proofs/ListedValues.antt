@@ -17,9 +17,9 @@ use Rattle.ghost_model.specs.forms.Runs.{Run, record_at, number_in, number_cell,
 use Rattle.ghost_model.specs.laws.ShortWords as short
 use Rattle.ghost_model.specs.forms.Layout as layout
 use Rattle.ghost_model.specs.forms.Layout.{is_hidden, width_at, count_of, levels_of, above_of, below, File, IndexDirectory, IdDirectory}
-use Rattle.ghost_model.specs.laws.ShortWords.{index_level, id_level}
+use Rattle.ghost_model.specs.laws.ShortWords.{index_level, id_level, first_listed}
 use Rattle.ghost_model.specs.forms.Flash.{directory_record, list_place, value_lists, id_lists}
-use Rattle.ghost_model.specs.forms.Slots.{in_slot, may_stand, is_row, first_listed}
+use Rattle.ghost_model.specs.forms.Slots.{in_slot, may_stand, is_row}
 use Rattle.ghost_base.specs.Runs.{run_of}
 use Rattle.ghost_base.specs.declared.runs.ListRef.{ListRef}
 use Rattle.climbing_index.specs.declared.directory.LevelFile.{LevelFile}

@@ -11,8 +11,8 @@ use Rattle.ghost_model.specs.core.Values.{Value, Number, Rows, Database}
 use Rattle.ghost_model.specs.core.Channel.{Catalog, Ask}
 use Rattle.ghost_model.specs.core.Database.{holds, leads, rows_of, value_at_row}
 use Rattle.ghost_model.specs.core.Meaning.{compares}
-use Rattle.ghost_model.specs.core.Asks.{asks_of, ask_for, is_needed, tests_of}
-use Rattle.ghost_model.specs.laws.ShortWords.{is_from, values_met, rows_met}
+use Rattle.ghost_model.specs.core.Asks.{asks_of, ask_for, is_needed}
+use Rattle.ghost_model.specs.laws.ShortWords.{tests_of, is_from, values_met, rows_met, search_work}
 use Rattle.ghost_model.specs.core.Query.{Query, Operator, Condition, Compare, Join}
 use Rattle.ghost_model.specs.core.Replies as replies
 use Rattle.ghost_model.specs.core.Replies.{reply_about, row_replied}
@@ -38,7 +38,7 @@ use Rattle.condition_lists.specs.declared.term.Term.TheVariants.{Ranges, Entries
 use Rattle.condition_lists.specs.Bounds.{lies_within}
 use Rattle.condition_lists.specs.Terms.{AreEntriesOf, AreIdentifiersOf, IsTermOf, IsReplyTermOf, AreTermsOf, IsIdIndexAt, is_in_one, is_compared}
 use Rattle.condition_lists.specs.Laws.{IsOver}
-use Rattle.ghost_model.specs.forms.QueryWork.{union_work, search_work, values_of, count_values, rows_leading, values_work, condition_work, honest_rows, reply_work}
+use Rattle.ghost_model.specs.forms.QueryWork.{union_work, values_of, count_values, rows_leading, values_work, condition_work, honest_rows, reply_work}
 use Rattle.condition_lists.specs.Costs.{rows_meeting, values_within, replied_count, term_cost}
 use Rattle.condition_lists.specs.CostLaws.{WorkGrows}
 use Rattle.condition_lists.proofs.CountLemmas.{ranges_once, among_map, counted, at_most, same_count}

@@ -20,7 +20,8 @@ use Rattle.ghost_model.specs.laws.Spelled.{is_spelled, is_reserved, is_name}
 use Rattle.ghost_model.specs.refusals.SchemaGrammar.{To, ColumnDeclaration, CharColumn, IntegerColumn, TableText, SchemaText, spell_hidden, spell_id, spell_declaration, spell_heading, spell_declared_table}
 use Rattle.ghost_model.specs.readings.SchemaPlaces.{schema_syntax_of}
 use Rattle.ghost_model.specs.refusals.SchemaMeaning.{declared_table, columns_written, column_of, table_of, schema_of}
-use Rattle.ghost_model.specs.refusals.SchemaFaults.{OverLimit, NoId, TwoParents, Cycle, is_long, is_over, is_table_over, is_column_over, declared_name, columns_at, repeats, table_repeats, column_repeats, is_duplicate, fields_from, fields, is_identifier, is_primary, table_lacks_id, lacks_id, refers_nowhere, is_unknown, references_naming, is_shared, returns, roots_of, duplicate_at, unknown_at, wrong_roots, rules_of_schemas as schema_rules, MeansSchema}
+use Rattle.ghost_model.specs.refusals.SchemaFaults.{OverLimit, NoId, TwoParents, Cycle, is_long, is_over, is_table_over, is_column_over, declared_name, columns_at, repeats, is_duplicate, fields_from, fields, is_identifier, is_primary, table_lacks_id, refers_nowhere, is_unknown, references_naming, returns, roots_of, rules_of_schemas as schema_rules, MeansSchema}
+use Rattle.ghost_model.specs.laws.ShortWords.{table_repeats, column_repeats, lacks_id, is_shared, duplicate_at, unknown_at, wrong_roots}
 use Rattle.ghost_model.specs.readings.SchemaReading.{schema_or, schema_judged, schema_reading}
 use Rattle.ghost_model.specs.refusals.Rules.{broken_if, first_broken, MeetsAll}
 use Rattle.ghost_model.specs.forms.Catalog.{name_or_none, reference_text, hidden_text, column_text, table_text, canonical_text}

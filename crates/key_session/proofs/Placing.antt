@@ -5,8 +5,8 @@ use Rattle.ghost_model.specs.core.Schema.{Schema, columns_of, is_visible, is_emp
 use Rattle.ghost_model.specs.core.Query.{Query, Condition, Compare, Join}
 use Rattle.ghost_model.specs.readings.QueryReading.{reading}
 use Rattle.ghost_model.specs.core.Channel.{Catalog, Ask}
-use Rattle.ghost_model.specs.core.Asks.{NumberedAsk, asked, asked_from, asked_of, asks_of, asks_of_reading, ask_for, is_needed, is_wanted, tests_of, row_width}
-use Rattle.ghost_model.specs.laws.ShortWords.{is_from}
+use Rattle.ghost_model.specs.core.Asks.{NumberedAsk, asked, asked_from, asked_of, asks_of, asks_of_reading, ask_for, is_needed, is_wanted, row_width}
+use Rattle.ghost_model.specs.laws.ShortWords.{tests_of, is_from}
 use Rattle.ghost_model.specs.forms.Layout.{spool_width}
 use Rattle.ghost_model.proofs.ChannelLemmas.Tests.{false_is_not, both_hold, hold_both}
 use Rattle.ghost_model.proofs.SessionLemmas.Accepted.{Each}

@@ -7,8 +7,8 @@ use Rattle.ghost_model.specs.core.Schema.{Schema, places_from, columns_of, is_em
 use Rattle.ghost_model.specs.core.Query.{Query, Field, Condition, Compare, Join}
 use Rattle.ghost_model.specs.core.Channel.{Ask, Test}
 use Rattle.ghost_model.specs.core.Asks as asks
-use Rattle.ghost_model.specs.core.Asks.{test_of, tests_of, is_wanted, is_needed}
-use Rattle.ghost_model.specs.laws.ShortWords.{is_from}
+use Rattle.ghost_model.specs.core.Asks.{test_of, is_wanted, is_needed}
+use Rattle.ghost_model.specs.laws.ShortWords.{tests_of, is_from}
 use Rattle.spj_parse.specs.Resolved.{is_comparison}
 use Rattle.tree_schema.proofs.RuleSteps.{place_next, places_end}
 use Rattle.std.specs.Prelude.{Option, Some, None, is_some, option_to_list, option_map, IfSome}

@@ -11,6 +11,7 @@ use Rattle.ghost_model.specs.core.Schema.{Schema, parent, is_table, first_of}
 use Rattle.ghost_model.specs.laws.SchemaTrees.{IsTree}
 use Rattle.ghost_model.specs.core.Values.{Value, Database}
 use Rattle.ghost_model.specs.core.Database.{order_of, meets, holds}
+use Rattle.ghost_model.specs.laws.ShortWords as short
 use Rattle.ghost_model.specs.core.Query as query
 use Rattle.ghost_model.specs.core.Query.{Query, Field, Condition, Compare, Join, is_among, is_some_among, top_of}
 use Rattle.ghost_model.specs.refusals.QueryGrammar.{ColumnText, Bare, Qualified, ConditionText, Compares, LiesBetween, Joins, QueryText}
@@ -300,7 +301,7 @@ same_answer laws schema tree asked h source (Some top) =
     ap (map (meaning.selected source asked.select))
     (filter_same (is_kept source (linked schema asked).conditions) (is_kept source asked.conditions)
     (λ rows. ap (λ b. list_all source.admits rows && b) (same_passes laws schema tree asked h (record { source = source; rows = rows })))
-    (map (λ others. pick top identifier ∷ others) (meaning.combinations source.count (meaning.others_of top asked.from)))))
+    (map (λ others. pick top identifier ∷ others) (meaning.combinations source.count (short.others_of top asked.from)))))
     (range_with_len 1 (source.count top))
 
 linked_by : (a b c : Bool) → (not a || b || c) ≡ false → (a ≡ true) × (c ≡ false)

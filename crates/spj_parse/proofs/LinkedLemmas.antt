@@ -4,8 +4,8 @@ use Rattle.std.proofs.lemmas.Grind.{flat_map-append}
 use Rattle.ghost_model.specs.core.Schema.{Schema, first_of, parent, columns_of, places_of}
 use Rattle.ghost_model.specs.core.Query.{Query, Condition, Compare, Join, is_among}
 use Rattle.ghost_model.specs.core.Channel.{Ask, Test}
-use Rattle.ghost_model.specs.core.Asks.{test_of, tests_of, ask_for, asks_of, is_wanted, is_needed}
-use Rattle.ghost_model.specs.laws.ShortWords.{is_from}
+use Rattle.ghost_model.specs.core.Asks.{test_of, ask_for, asks_of, is_wanted, is_needed}
+use Rattle.ghost_model.specs.laws.ShortWords.{tests_of, is_from}
 use Rattle.spj_parse.specs.Resolved.{keys_between, join_by, join_with, join_to, joins_of, is_comparison, linked}
 
 key_tests : (schema : Schema) (asked table holder : ℕ) (key : Option ℕ) → flat_map (test_of schema asked) (join_by table holder key) ≡ []

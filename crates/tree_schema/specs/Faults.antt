@@ -6,6 +6,7 @@ use Rattle.ghost_model.specs.core.Schema.{Schema, places_of}
 use Rattle.ghost_model.specs.refusals.Rules.{broken_if}
 use Rattle.ghost_model.specs.refusals.SchemaGrammar.{SchemaText}
 use Rattle.ghost_model.specs.readings.SchemaPlaces.{schema_syntax_of}
+use Rattle.ghost_model.specs.laws.ShortWords as short
 use Rattle.ghost_model.specs.refusals.SchemaFaults as faults
 use Rattle.tree_schema.specs.declared.faults.SchemaFault.{SchemaFault}
 use Rattle.tree_schema.specs.declared.faults.SchemaFault.TheVariants as fault
@@ -41,9 +42,9 @@ field_of places = field_at places.0 places.1
 abbrev pub fault_of_texts : SchemaText → Option faults.SchemaFault
 fault_of_texts tables =
     option_or (broken_if (faults.is_over tables) faults.OverLimit)
-    (option_or (option_map faults.duplicate_at (find (faults.is_duplicate tables) (faults.fields tables)))
-    (option_or (option_map faults.NoId (find (faults.lacks_id tables) (places_of tables)))
-    (option_map faults.unknown_at (find (faults.is_unknown tables) (faults.fields tables)))))
+    (option_or (option_map short.duplicate_at (find (faults.is_duplicate tables) (faults.fields tables)))
+    (option_or (option_map faults.NoId (find (short.lacks_id tables) (places_of tables)))
+    (option_map short.unknown_at (find (faults.is_unknown tables) (faults.fields tables)))))
 
 abbrev pub is_shared : Schema → ℕ → Bool
 is_shared schema child = nat_lt 1 (faults.references_naming schema child)
@@ -52,7 +53,7 @@ abbrev pub fault_of_tree : Schema → Option faults.SchemaFault
 fault_of_tree schema =
     option_or (option_map faults.TwoParents (find (is_shared schema) (places_of schema)))
     (option_or (option_map faults.Cycle (find (faults.returns schema) (places_of schema)))
-    (faults.wrong_roots (faults.roots_of schema)))
+    (short.wrong_roots (faults.roots_of schema)))
 
 -- some text spells these tables
 pub record IsSpelled (tables : SchemaText) : Type 0 where

@@ -11,8 +11,8 @@ use Rattle.ghost_model.specs.core.Query.{Query, Field, top_of}
 use Rattle.ghost_model.specs.refusals.QueryMeaning as meaning
 use Rattle.ghost_model.specs.refusals.QueryMeaning.{Means}
 use Rattle.ghost_model.specs.core.Channel.{Ask}
-use Rattle.ghost_model.specs.core.Asks.{kind_at, kinds_of, is_field, is_wanted, ask_for, is_needed, asks_of}
-use Rattle.ghost_model.specs.laws.ShortWords.{is_from}
+use Rattle.ghost_model.specs.core.Asks.{kind_at, kinds_of, is_wanted, ask_for, is_needed, asks_of}
+use Rattle.ghost_model.specs.laws.ShortWords.{is_field, is_from}
 use Rattle.ghost_model.specs.core.Database.{IsDatabase, row_of, row_count, is_of_kind}
 use Rattle.ghost_model.specs.core.Split.{RowValues, hidden_of, value_at, are_of_kinds}
 use Rattle.ghost_model.specs.core.Replies.{Reply, reply_about, row_replied, replied_value, hidden_value, known_value}

@@ -90,7 +90,7 @@ module _ (schema : Schema) where
   visible_columns : (select : List Field) (table : ℕ) → list_all (is_visible schema table) (filter (asks.is_wanted schema select table) (schemas.places_of (columns_of schema table))) ≡ true
   visible_columns select table =
       all_filter (is_visible schema table) (asks.is_wanted schema select table) (schemas.places_of (columns_of schema table))
-      (λ column e. (both_hold (is_visible schema table column) (list_any (asks.is_field table column) select) e).one)
+      (λ column e. (both_hold (is_visible schema table column) (list_any (short.is_field table column) select) e).one)
 
   tested : (table : ℕ) (field : Field) (test : Test) (r : Test → Bool) (b : Bool) → (b ≡ true → r test ≡ true) → list_all r (if b then test ∷ [] else []) ≡ true
   tested table field test r true h = hold_both (r test) true (h refl) refl
@@ -103,7 +103,7 @@ module _ (schema : Schema) where
       (λ e. (both_hold (field.table == table) (is_visible schema table field.column) e).other)
   visible_test table (Join left right) = refl
 
-  visible_tests : (table : ℕ) (conditions : List Condition) → list_all (λ test. is_visible schema table test.column) (asks.tests_of schema table conditions) ≡ true
+  visible_tests : (table : ℕ) (conditions : List Condition) → list_all (λ test. is_visible schema table test.column) (short.tests_of schema table conditions) ≡ true
   visible_tests table conditions =
       all_flat (λ test. is_visible schema table test.column) (asks.test_of schema table) conditions
       (all_each (λ condition. list_all (λ test. is_visible schema table test.column) (asks.test_of schema table condition)) conditions (visible_test table))
@@ -185,7 +185,7 @@ module _ (schema : Schema) where
   sound_tests :
       (table : ℕ) (conditions : List Condition) → list_any (meaning.literal_fails schema meaning.is_other_kind) conditions ≡ false
       → list_any (meaning.literal_fails schema meaning.is_too_large) conditions ≡ false → list_all is_plain_condition conditions ≡ true
-      → list_all (is_sound table) (asks.tests_of schema table conditions) ≡ true
+      → list_all (is_sound table) (short.tests_of schema table conditions) ≡ true
   sound_tests table conditions a b c =
       all_flat (is_sound table) (asks.test_of schema table) conditions
       (all_from_three (λ x. not (meaning.literal_fails schema meaning.is_other_kind x)) (λ x. not (meaning.literal_fails schema meaning.is_too_large x)) is_plain_condition
@@ -302,13 +302,13 @@ module _ (schema : Schema) (from : List ℕ) (table : ℕ) where
       ap length (none_of_all_joins (meaning.meanings schema from right) (meaning.meanings schema from left)) in
       omega (arith, none)
 
-  few_in_all : (conditions : List ConditionText) → list_all (λ condition. list_all has_one (meaning.condition_columns condition)) conditions ≡ true → length (asks.tests_of schema table (flat_map (meaning.conditions_of schema from) conditions)) ≤ sum_by meaning.literal_conditions conditions
+  few_in_all : (conditions : List ConditionText) → list_all (λ condition. list_all has_one (meaning.condition_columns condition)) conditions ≡ true → length (short.tests_of schema table (flat_map (meaning.conditions_of schema from) conditions)) ≤ sum_by meaning.literal_conditions conditions
   few_in_all [] e = omega arith
   few_in_all (condition ∷ more) e =
       let both : BothHold (list_all has_one (meaning.condition_columns condition)) (list_all (λ condition. list_all has_one (meaning.condition_columns condition)) more) = both_hold _ _ e in
       let here : List Condition = meaning.conditions_of schema from condition in
       let rest : List Condition = flat_map (meaning.conditions_of schema from) more in
-      let split : length (asks.tests_of schema table (flat_map (meaning.conditions_of schema from) (condition ∷ more))) ≡ length (flat_map (asks.test_of schema table) here) + length (flat_map (asks.test_of schema table) rest) =
+      let split : length (short.tests_of schema table (flat_map (meaning.conditions_of schema from) (condition ∷ more))) ≡ length (flat_map (asks.test_of schema table) here) + length (flat_map (asks.test_of schema table) rest) =
       ap length (flat_map-append (asks.test_of schema table) here rest) ∙ length-append (flat_map (asks.test_of schema table) here) (flat_map (asks.test_of schema table) rest) in
       let total : sum_by meaning.literal_conditions (condition ∷ more) ≡ meaning.literal_conditions condition + sum_by meaning.literal_conditions more = sum_by-cons meaning.literal_conditions condition more in
       omega (arith, split, total, few_tests condition both.one, few_in_all more both.other)
@@ -350,14 +350,14 @@ module _ (schema : Schema) (text : List ℕ) (tree : QueryText) (spells : symbol
   proper_ask : (table : ℕ) → nat_lt table (length schema) ≡ true → asks.is_proper_ask schema (asks.ask_for schema (meaning.resolved schema tree) table) ≡ true
   proper_ask table e =
       let query : Query = meaning.resolved schema tree in
-      let count : length (asks.tests_of schema table query.conditions) ≤ 16 = omega (arith, few_in_all schema tables table tree.conditions single, limited) in
+      let count : length (short.tests_of schema table query.conditions) ≤ 16 = omega (arith, few_in_all schema tables table tree.conditions single, limited) in
       hold_both _ _
       (hold_both _ _
       (hold_both _ _
       (hold_both _ _
       (hold_both _ _ e (visible_columns schema query.select table))
       (columns_ascend (asks.is_wanted schema query.select table) (columns_of schema table) refl))
-      (le-leb (length (asks.tests_of schema table query.conditions)) 16 count))
+      (le-leb (length (short.tests_of schema table query.conditions)) 16 count))
       (visible_tests schema table query.conditions))
       (sound_tests schema table query.conditions keeps.kinds keeps.literals plain)
 

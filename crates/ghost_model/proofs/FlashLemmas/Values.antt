@@ -10,7 +10,8 @@ use Rattle.ghost_model.specs.core.Schema.{Schema, Column, Kind, columns_of, colu
 use Rattle.ghost_model.specs.core.Values.{Value, Row, Rows, Database}
 use Rattle.ghost_model.specs.core.Channel.{Catalog}
 use Rattle.ghost_model.specs.laws.SchemaTrees.{IsTree, identifier}
-use Rattle.ghost_model.specs.core.Database.{IsDatabase, is_of_kind, rows_or_none, rows_of}
+use Rattle.ghost_model.specs.core.Database.{IsDatabase, is_of_kind, rows_of}
+use Rattle.ghost_model.specs.laws.ShortWords.{rows_or_none}
 use Rattle.ghost_model.specs.forms.Cells.{cell_width, encode_cell}
 use Rattle.ghost_model.specs.readings.CellReading.{decode_cell}
 use Rattle.ghost_model.specs.core.Asks.{kind_or_none, kind_at}

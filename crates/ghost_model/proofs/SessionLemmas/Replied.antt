@@ -13,7 +13,8 @@ use Rattle.ghost_model.specs.core.Schema.{Schema, Kind, Column, columns_of, colu
 use Rattle.ghost_model.specs.core.Values.{Value, Text, Row, Rows, Database}
 use Rattle.ghost_model.specs.core.Query.{Query}
 use Rattle.ghost_model.specs.core.Channel.{Catalog, count_of, Ask}
-use Rattle.ghost_model.specs.core.Database.{is_of_kind, rows_or_none, rows_of, row_counts, IsDatabase}
+use Rattle.ghost_model.specs.core.Database.{is_of_kind, rows_of, row_counts, IsDatabase}
+use Rattle.ghost_model.specs.laws.ShortWords.{rows_or_none}
 use Rattle.ghost_model.specs.forms.Cells.{cell_width, encode_cell}
 use Rattle.ghost_model.specs.readings.CellReading.{decode_cell}
 use Rattle.ghost_model.specs.forms.Frames.{AreBytes, most_payload}

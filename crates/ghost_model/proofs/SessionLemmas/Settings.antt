@@ -7,7 +7,8 @@ use Rattle.std.proofs.lemmas.Bool.{and_parts, leb-true}
 use Rattle.std.proofs.lemmas.List.{length-map}
 use Rattle.ghost_model.specs.core.Schema.{Schema, places_from, places_of}
 use Rattle.ghost_model.specs.core.Values.{Rows, Database}
-use Rattle.ghost_model.specs.core.Database.{rows_or_none, row_count, row_counts}
+use Rattle.ghost_model.specs.core.Database.{row_count, row_counts}
+use Rattle.ghost_model.specs.laws.ShortWords.{rows_or_none, is_from}
 use Rattle.ghost_model.specs.refusals.LoadFaults.{most_rows}
 use Rattle.ghost_model.specs.core.Query.{Query}
 use Rattle.ghost_model.specs.readings.QueryReading.{reading}
@@ -15,7 +16,6 @@ use Rattle.ghost_model.specs.core.Channel.{Catalog, Ask}
 use Rattle.ghost_model.specs.forms.Catalog.{IsCatalog, canonical_text, catalog_bytes}
 use Rattle.ghost_model.specs.forms.Frames.{AreBytes}
 use Rattle.ghost_model.specs.core.Asks.{asked, asked_from, asked_of, ask_for, asks_of, asks_of_reading, is_needed}
-use Rattle.ghost_model.specs.laws.ShortWords.{is_from}
 use Rattle.ghost_model.specs.laws.ChannelLaws.{AsksAreFew}
 use Rattle.ghost_model.specs.laws.SchemaTrees.{IsTree}
 use Rattle.ghost_model.specs.core.Honest.{IsSetting, IsCatalogOf}

@@ -20,20 +20,14 @@ test_of schema table (Compare field operator value) =
     then record { column = field.column; operator = operator; value = value } ∷ [] else []
 test_of schema table (Join _ _) = []
 
-abbrev pub tests_of : Schema → (table : ℕ) → List Condition → List Test
-tests_of schema table conditions = flat_map (test_of schema table) conditions
-
-abbrev pub is_field : (table column : ℕ) → Field → Bool
-is_field table column field = field.table == table && field.column == column
-
 abbrev pub is_wanted : Schema → List Field → (table column : ℕ) → Bool
-is_wanted schema select table column = is_visible schema table column && list_any (is_field table column) select
+is_wanted schema select table column = is_visible schema table column && list_any (λ field. field.table == table && field.column == column) select
 
 abbrev pub ask_for : Schema → Query → (table : ℕ) → Ask
 ask_for schema query table = record {
   table = table;
   columns = filter (is_wanted schema query.select table) (places_of (columns_of schema table));
-  tests = tests_of schema table query.conditions;
+  tests = flat_map (test_of schema table) query.conditions;
 }
 
 abbrev pub is_needed : Ask → Bool
@@ -72,14 +66,11 @@ abbrev pub ascend_from : ℕ → List ℕ → Bool
 ascend_from before [] = true
 ascend_from before (x ∷ xs) = nat_lt before x && ascend_from x xs
 
-abbrev pub most_tests : ℕ
-most_tests = 16
-
 -- whether an ask is one that a key may send
 abbrev pub is_proper_ask : Schema → Ask → Bool
 is_proper_ask schema ask =
     nat_lt ask.table (length schema) && list_all (is_visible schema ask.table) ask.columns
-    && ascend_from 0 ask.columns && nat_le (length ask.tests) most_tests
+    && ascend_from 0 ask.columns && nat_le (length ask.tests) 16
     && list_all (λ test. is_visible schema ask.table test.column) ask.tests
     && list_all (λ test. is_of_kind (kind_at schema ask.table test.column) test.value) ask.tests
 

@@ -26,12 +26,9 @@ is_of_kind Integer (Number number) = fits_integer number
 is_of_kind (Chars most) (Text bytes) = is_text most bytes
 is_of_kind _ _ = false
 
-abbrev pub rows_or_none : Option Rows → Rows
-rows_or_none found = unwrap_or found []
-
 -- the rows of a table, none where there is no such table
 abbrev pub rows_of : Database → ℕ → Rows
-rows_of database table = rows_or_none (slice_get database table)
+rows_of database table = unwrap_or (slice_get database table) []
 
 abbrev pub row_count : Database → ℕ → ℕ
 row_count database table = length (rows_of database table)

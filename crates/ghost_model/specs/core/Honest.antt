@@ -15,14 +15,10 @@ use Rattle.ghost_model.specs.core.NextMove.{is_stop}
 use Rattle.ghost_model.specs.core.Split.{Public, reply_rows}
 use Rattle.ghost_model.specs.core.Host.{welcomes_of, rows_frame, most_part, asks_in_frame}
 
--- whether a list has at least one element and at most so many
-abbrev pub has_up_to : {X : Type 0} → (most : ℕ) → List X → Bool
-has_up_to most xs = nat_lt 0 (length xs) && nat_le (length xs) most
-
 -- WELCOME frames that spell the catalog, cut anywhere
 pub record AreWelcomes (catalog : Catalog) (frames : List Frame) : Type 0 where
   pub parts : List (List ℕ)
-  pub cut : list_all (has_up_to most_part) parts ≡ true
+  pub cut : list_all (λ part. nat_lt 0 (length part) && nat_le (length part) most_part) parts ≡ true
   pub whole : concat parts ≡ catalog_bytes catalog
   pub frames_are : frames ≡ welcomes_of parts
 

@@ -78,26 +78,14 @@ abbrev pub answers_ask : Holding → (serial : ℕ) → Option Ask → Option Re
 answers_ask held serial None = None
 answers_ask held serial (Some ask) = goes_on serial (reply_to held serial ask)
 
-abbrev pub answers_greeting : Holding → Frame → Option Response
-answers_greeting held (HelloFrame _) = Some (record { says = welcomes held.catalog; stand = Listening 1 })
-answers_greeting held _ = None
-
-abbrev pub answers_request : Holding → (next : ℕ) → Frame → Option Response
-answers_request held next (AskFrame serial payload) =
-    if serial == next then answers_ask held serial (ask_in held.catalog.schema payload) else None
-answers_request held next ByeFrame = Some (record { says = []; stand = Over })
-answers_request held next _ = None
-
-abbrev pub answers_more : (serial : ℕ) → (rest : List Frame) → Frame → Option Response
-answers_more serial rest (MoreFrame other) = if other == serial then goes_on serial rest else None
-answers_more serial rest _ = None
-
 -- how a frame is answered; a frame that is no frame of the key in its place is not
 abbrev pub answer_to : Holding → Stand → Frame → Option Response
-answer_to held Greeting frame = answers_greeting held frame
-answer_to held (Listening next) frame = answers_request held next frame
-answer_to held (Replying serial rest) frame = answers_more serial rest frame
-answer_to held Over frame = None
+answer_to held Greeting (HelloFrame _) = Some (record { says = welcomes held.catalog; stand = Listening 1 })
+answer_to held (Listening next) (AskFrame serial payload) =
+    if serial == next then answers_ask held serial (ask_in held.catalog.schema payload) else None
+answer_to held (Listening next) ByeFrame = Some (record { says = []; stand = Over })
+answer_to held (Replying serial rest) (MoreFrame other) = if other == serial then goes_on serial rest else None
+answer_to held _ _ = None
 
 abbrev pub refusal : (serial : ℕ) → Response
 refusal serial = record { says = SorryFrame serial 1 ∷ []; stand = Listening (serial + 1) }

@@ -6,11 +6,6 @@ use Rattle.ghost_model.specs.core.Channel.{Move, Dial, Listen, Accept, Send, Tak
 use Rattle.ghost_model.specs.core.Moves.{taken, sent}
 use Rattle.ghost_model.specs.core.Host.{Holding, host_sends}
 
--- whether an answer is a piece of so many bytes
-abbrev pub is_piece_of : (size : ℕ) → Answer → Bool
-is_piece_of size (Piece bytes) = length bytes == size
-is_piece_of size _ = false
-
 abbrev pub is_made : Answer → Bool
 is_made Made = true
 is_made _ = false
@@ -19,7 +14,8 @@ is_made _ = false
 abbrev pub is_answered_in_full : Move → Answer → Bool
 is_answered_in_full (Listen _) answer = false
 is_answered_in_full Accept answer = false
-is_answered_in_full (Take most) answer = is_piece_of most answer
+is_answered_in_full (Take most) (Piece bytes) = length bytes == most
+is_answered_in_full (Take most) _ = false
 is_answered_in_full _ answer = is_made answer
 
 abbrev pub is_full : Entry → Bool

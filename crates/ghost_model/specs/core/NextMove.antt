@@ -40,11 +40,6 @@ header_fits catalog (AwaitsReply asked serial later count last) header =
     && reply_size_fits (row_width catalog.schema asked.ask) (kind_in header) (size_in header)
 header_fits catalog AwaitsNothing header = false
 
--- the last WELCOME frame, which alone begins with 1, is the one that ends the catalog
-abbrev pub welcome_fits : (missing : List ℕ) (last : ℕ) (part : List ℕ) → Bool
-welcome_fits missing last part =
-    bytes_eq part (take (length part) missing) && last == (if length part == length missing then 1 else 0)
-
 abbrev pub are_cells : List Kind → List ℕ → Bool
 are_cells [] bytes = is_empty bytes
 are_cells (kind ∷ kinds) bytes =
@@ -65,8 +60,10 @@ reply_fits catalog ask count last (DoneFrame _ total) = total == count
 reply_fits catalog ask count last (SorryFrame _ code) = not (code == 0)
 reply_fits catalog ask count last _ = false
 
+-- the last WELCOME frame, which alone begins with 1, is the one that ends the catalog
 abbrev pub greeting_fits : (missing : List ℕ) → Frame → Bool
-greeting_fits missing (WelcomeFrame last part) = welcome_fits missing last part
+greeting_fits missing (WelcomeFrame last part) =
+    bytes_eq part (take (length part) missing) && last == (if length part == length missing then 1 else 0)
 greeting_fits missing _ = false
 
 -- whether a frame whose header fits may come where this is awaited
@@ -149,14 +146,10 @@ abbrev pub rows_after : (rows : List ℕ) → Frame → List ℕ
 rows_after rows (RowsFrame _ payload) = rows ++ payload
 rows_after rows _ = []
 
-abbrev pub ended_by_frame : NumberedAsk → (rows : List ℕ) → Frame → List EndedAsk
-ended_by_frame asked rows (DoneFrame _ _) = ended asked (Answered rows) ∷ []
-ended_by_frame asked rows (SorryFrame _ code) = ended asked (Refused code) ∷ []
-ended_by_frame asked rows _ = []
-
 abbrev pub ended_by : Awaits → (rows : List ℕ) → Frame → List EndedAsk
-ended_by (AwaitsReply asked serial later count last) rows frame = ended_by_frame asked rows frame
-ended_by _ rows frame = []
+ended_by (AwaitsReply asked serial later count last) rows (DoneFrame _ _) = ended asked (Answered rows) ∷ []
+ended_by (AwaitsReply asked serial later count last) rows (SorryFrame _ code) = ended asked (Refused code) ∷ []
+ended_by _ rows _ = []
 
 -- what received bytes amount to: what is awaited, the part of the frame at hand, the valid frames before it, the frames
 -- of the key that they make due, the bytes of the rows of the ask at hand, the asks that were ended, in order, and

@@ -1,7 +1,7 @@
 -- What a text answers by the replies that came, whoever sent them. The key knows the identifiers and the hidden columns
 -- of all rows, and of each asked table the rows of its reply. So it is the plain meaning from another source: a condition on
 -- a visible column gives way to "the row of each asked table stands in its reply", and a visible value is the replied one.
-use Rattle.std.specs.Prelude.{ℕ, zero, suc, pos, Bool, true, ◌==◌, List, [], ◌∷◌, ◌++◌, length, map, filter_map, take, drop, Option, Some, None, is_some, slice_get, option_and_then, option_to_list, if◌then◌else◌}
+use Rattle.std.specs.Prelude.{ℕ, zero, suc, pos, Bool, true, ◌==◌, List, [], ◌∷◌, ◌++◌, length, map, filter_map, take, drop, Option, Some, None, is_some, slice_get, option_and_then, option_to_list, unwrap_or, if◌then◌else◌}
 use Rattle.ghost_model.specs.core.Schema.{Schema, Kind, columns_of, places_from, is_visible}
 use Rattle.ghost_model.specs.core.Values.{Value, Number, Row}
 use Rattle.ghost_model.specs.core.Query.{Query}
@@ -11,7 +11,7 @@ use Rattle.ghost_model.specs.core.Channel.{Catalog, Ask, Journal}
 use Rattle.ghost_model.specs.core.Asks.{NumberedAsk, RowCells, kinds_of, rows_in}
 use Rattle.ghost_model.specs.core.Moves.{taken}
 use Rattle.ghost_model.specs.core.NextMove.{Ending, Answered, Refused, EndedAsk, heard}
-use Rattle.ghost_model.specs.core.Database.{rows_or_none, row_numbered}
+use Rattle.ghost_model.specs.core.Database.{row_numbered}
 use Rattle.ghost_model.specs.core.Split.{Hidden, RowValues, value_at}
 use Rattle.ghost_model.specs.core.Meaning.{Source, answer_by}
 
@@ -59,7 +59,7 @@ hidden_places schema table = places_from (λ column. column.hidden) 1 (drop 1 (c
 abbrev pub hidden_value : Schema → Hidden → (table identifier column : ℕ) → Option Value
 hidden_value schema kept table identifier column =
     option_and_then (λ row. value_at (hidden_places schema table) row column)
-    (row_numbered (rows_or_none (slice_get kept.hidden table)) identifier)
+    (row_numbered (unwrap_or (slice_get kept.hidden table) []) identifier)
 
 -- what the key knows of a row: its identifier, a replied value or a hidden one
 abbrev pub known_value : Schema → Hidden → List Reply → (table identifier column : ℕ) → Option Value
@@ -76,7 +76,7 @@ stands_in identifier (Some reply) = is_some (row_replied identifier reply.rows)
 -- what the key knows: rows that stand in the reply of their table, if it was asked for, which judged the visible columns
 abbrev pub known : Schema → Hidden → List Reply → Source
 known schema kept given = record {
-  count = λ table. length (rows_or_none (slice_get kept.hidden table));
+  count = λ table. length (unwrap_or (slice_get kept.hidden table) []);
   value = known_value schema kept given;
   admits = λ one. stands_in one.identifier (reply_about one.table given);
   is_judged = λ column. is_visible schema column.table column.column;

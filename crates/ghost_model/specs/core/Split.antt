@@ -8,7 +8,7 @@ use Rattle.std.specs.Option.{option_map_or, option_or, some_prefix}
 use Rattle.std.specs.Cmp.Lexicographic.{pointwise}
 use Rattle.ghost_model.specs.core.Schema.{Schema, Table, Column, Kind, columns_of, places_from}
 use Rattle.ghost_model.specs.core.Values.{Value, Number, Text, Row, Rows, Database}
-use Rattle.ghost_model.specs.core.Database.{rows_or_none, row_counts, is_of_kind, holds, IsDatabase}
+use Rattle.ghost_model.specs.core.Database.{row_counts, is_of_kind, holds, IsDatabase}
 use Rattle.ghost_model.specs.forms.Cells.{cell_width, encode_cell}
 use Rattle.ghost_model.specs.forms.Catalog.{catalog_bytes, IsCatalog}
 use Rattle.ghost_model.specs.core.Channel.{Catalog, Ask, Test}
@@ -75,7 +75,7 @@ rejoined schema public kept =
     map (λ table. rejoined_table table.0.columns table.1.0 table.1.1) (zip schema (zip public.visible kept.hidden))
 
 abbrev pub public_rows : Public → (table : ℕ) → Rows
-public_rows public table = rows_or_none (slice_get public.visible table)
+public_rows public table = unwrap_or (slice_get public.visible table) []
 
 abbrev pub meets_test : Test → Option Value → Bool
 meets_test test found = option_map_or (λ value. holds test.operator value test.value) found false

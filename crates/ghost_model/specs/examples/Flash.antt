@@ -4,9 +4,9 @@ use Rattle.std.specs.List.{concat}
 use Rattle.ghost_model.specs.core.Split.{Hidden, hidden_of}
 use Rattle.ghost_model.specs.forms.Runs.{Stores}
 use Rattle.ghost_model.specs.forms.Layout.{levels_of, above_of}
-use Rattle.ghost_model.specs.laws.ShortWords.{column_file}
+use Rattle.ghost_model.specs.laws.ShortWords.{column_file, catalog_pages}
 use Rattle.ghost_model.specs.forms.Flash.{Holds, catalog_page, hidden_cells, AreValues, value_lists, list_records, directory_records, subtree_record, id_lists, ids}
-use Rattle.ghost_model.specs.forms.Work.{catalog_pages, file_pages, pages_built}
+use Rattle.ghost_model.specs.forms.Work.{file_pages, pages_built}
 use Rattle.ghost_model.specs.examples.Clinic.{clinic_schema, clinic_catalog, note_schema, note_catalog, clinic, notes}
 
 abbrev pub hidden_clinic : Hidden

@@ -13,7 +13,7 @@ use Rattle.std.specs.Ordering.{nat_cmp}
 use Rattle.ghost_model.specs.core.Schema.{Schema, Table, Kind, is_empty, is_table}
 use Rattle.ghost_model.specs.core.Values.{Number, Row, Rows, Database}
 use Rattle.ghost_model.specs.core.Channel.{Catalog}
-use Rattle.ghost_model.specs.core.Database.{IsDatabase, rows_or_none, row_counts, leads}
+use Rattle.ghost_model.specs.core.Database.{IsDatabase, row_counts, leads}
 use Rattle.ghost_model.specs.forms.Cells.{encode_cell}
 use Rattle.ghost_model.specs.forms.Catalog.{catalog_bytes}
 use Rattle.ghost_model.specs.core.Asks.{kind_at}
@@ -34,7 +34,7 @@ HoldsCatalog page cat = (place : ℕ) → place < public_pages → page place �
 
 -- Column files. A row of the hidden part has a value for each hidden column in order.
 abbrev pub hidden_rows : Hidden → (table : ℕ) → Rows
-hidden_rows hidden table = rows_or_none (slice_get hidden.hidden table)
+hidden_rows hidden table = unwrap_or (slice_get hidden.hidden table) []
 
 -- the hidden part of a database that a catalog tells of
 pub record IsHidden (cat : Catalog) (hidden : Hidden) : Type 0 where
@@ -61,11 +61,8 @@ HoldsColumns page cat hidden =
 abbrev pub zeros : Row
 zeros = replicate 24 (Number (pos 0))
 
-abbrev pub zero_rows : Rows → Rows
-zero_rows rows = map (λ _. zeros) rows
-
 abbrev pub hidden_database : Schema → Hidden → Database
-hidden_database schema hidden = rejoined schema (record { visible = map zero_rows hidden.hidden }) hidden
+hidden_database schema hidden = rejoined schema (record { visible = map (λ rows. map (λ _. zeros) rows) hidden.hidden }) hidden
 
 abbrev pub leads_to : Schema → Hidden → (from identifier to : ℕ) → Option ℕ
 leads_to schema hidden from identifier to = leads schema (hidden_database schema hidden) from identifier to
@@ -136,10 +133,6 @@ pub record HoldsIndex (page : ℕ → List ℕ) (cat : Catalog) (hidden : Hidden
       HoldsLists page (record (run_of_file cat (IndexDirectory table column)) { count = length values }) (λ level. run_of_file cat (IndexLevel table column level))
       values (levels_of cat.schema table) (value_lists cat hidden table column values)
 
-abbrev pub HoldsIndexes : (ℕ → List ℕ) → Catalog → Hidden → Type 0
-HoldsIndexes page cat hidden =
-    (table column : ℕ) → is_hidden cat.schema table column ≡ true → HoldsIndex page cat hidden table column
-
 -- Id indexes: an entry for each identifier. The lists at the level of a table: its rows which lead to one, ascending
 abbrev pub id_lists : Catalog → Hidden → (table from : ℕ) → List (List ℕ)
 id_lists cat hidden table from =
@@ -157,7 +150,7 @@ HoldsIdIndexes page cat hidden =
 pub record HoldsFiles (page : ℕ → List ℕ) (cat : Catalog) (hidden : Hidden) : Type 0 where
   pub columns : HoldsColumns page cat hidden
   pub subtrees : HoldsSubtrees page cat hidden
-  pub indexes : HoldsIndexes page cat hidden
+  pub indexes : (table column : ℕ) → is_hidden cat.schema table column ≡ true → HoldsIndex page cat hidden table column
   pub id_indexes : HoldsIdIndexes page cat hidden
 
 -- the pages hold the catalog and the hidden part

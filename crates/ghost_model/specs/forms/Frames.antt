@@ -56,12 +56,9 @@ size_allowed kind size =
     else if kind == 18 then nat_le 4 size && nat_le size most_payload
     else false
 
--- the kinds whose serial is 0; the other ones belong to an ask and have its serial
-abbrev pub has_no_serial : ℕ → Bool
-has_no_serial kind = kind == 1 || kind == 4 || kind == 17
-
+-- three kinds have the serial 0; the other ones belong to an ask and have its serial
 abbrev pub serial_allowed : (kind serial : ℕ) → Bool
-serial_allowed kind serial = if has_no_serial kind then serial == 0 else not (serial == 0)
+serial_allowed kind serial = if kind == 1 || kind == 4 || kind == 17 then serial == 0 else not (serial == 0)
 
 -- the parts of a header, of bytes that have a whole one
 abbrev pub kind_in : List ℕ → ℕ

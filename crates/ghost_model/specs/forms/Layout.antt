@@ -18,15 +18,11 @@ below count = range_with_len 0 count
 abbrev pub tables_of : Schema → List ℕ
 tables_of schema = below (length schema)
 
--- how many columns a table has, its identifier among them
-abbrev pub column_count : Schema → (table : ℕ) → ℕ
-column_count schema table = length (columns_of schema table)
-
 abbrev pub is_hidden : Schema → (table column : ℕ) → Bool
 is_hidden schema table column = option_map_or (λ (held : Column). held.hidden) (column_at schema table column) false
 
 abbrev pub hidden_columns : Schema → (table : ℕ) → List ℕ
-hidden_columns schema table = filter (is_hidden schema table) (below (column_count schema table))
+hidden_columns schema table = filter (is_hidden schema table) (below (length (columns_of schema table)))
 
 abbrev pub width_at : Schema → (table column : ℕ) → ℕ
 width_at schema table column = option_map_or (λ (held : Column). cell_width held.kind) (column_at schema table column) 0
@@ -143,7 +139,7 @@ abbrev pub static_end : Catalog → ℕ
 static_end cat = in_blocks (files_end cat)
 
 abbrev pub visible_columns : Schema → (table : ℕ) → List ℕ
-visible_columns schema table = filter (is_visible schema table) (below (column_count schema table))
+visible_columns schema table = filter (is_visible schema table) (below (length (columns_of schema table)))
 
 -- a row of a reply: the identifier and at most all visible cells
 abbrev pub spool_width : Schema → (table : ℕ) → ℕ

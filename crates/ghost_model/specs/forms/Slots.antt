@@ -59,10 +59,7 @@ abbrev pub are_rows : Catalog → (tables bytes : List ℕ) → Bool
 are_rows cat [] bytes = true
 are_rows cat (table ∷ tables) bytes = is_row cat table (number_in bytes 0) && are_rows cat tables (drop 4 bytes)
 
--- where a list begins and how long it is, and where the one after it begins, by eight bytes of a directory
-abbrev pub first_listed : List ℕ → ℕ
-first_listed bytes = number_in bytes 0
-
+-- where a list ends, by eight bytes of a directory: its first place and its length
 abbrev pub list_end : List ℕ → ℕ
 list_end bytes = number_in bytes 0 + number_in bytes 4
 
@@ -74,12 +71,12 @@ are_places cat (table ∷ tables) bytes = nat_le (list_end bytes) (count_of cat 
 -- whether lists begin where those before them end
 abbrev pub follow : (tables before bytes : List ℕ) → Bool
 follow [] before bytes = true
-follow (_ ∷ tables) before bytes = first_listed bytes == list_end before && follow tables (drop 8 before) (drop 8 bytes)
+follow (_ ∷ tables) before bytes = number_in bytes 0 == list_end before && follow tables (drop 8 before) (drop 8 bytes)
 
 -- whether they begin where their level files do
 abbrev pub begin : (tables bytes : List ℕ) → Bool
 begin [] bytes = true
-begin (_ ∷ tables) bytes = first_listed bytes == 0 && begin tables (drop 8 bytes)
+begin (_ ∷ tables) bytes = number_in bytes 0 == 0 && begin tables (drop 8 bytes)
 
 abbrev pub places_keep_order : (tables : List ℕ) → (before : Option (List ℕ)) → List ℕ → Bool
 places_keep_order tables None bytes = begin tables bytes
@@ -142,7 +139,7 @@ before_slot page cat file (suc place) = Some (in_slot page cat file place)
 pub record AreInOneList (page : ℕ → List ℕ) (cat : Catalog) (directory : File) (skipped place : ℕ) : Type 0 where
   pub entry : ℕ
   pub there : entry < slots_in page cat directory
-  pub after_first : first_listed (drop skipped (in_slot page cat directory entry)) < place
+  pub after_first : number_in (drop skipped (in_slot page cat directory entry)) 0 < place
   pub before_end : place < list_end (drop skipped (in_slot page cat directory entry))
 
 -- whether the order of a file binds a slot to the one before it: in a level file within a list alone

@@ -84,7 +84,7 @@ pub record LieInOrder (cat : Catalog) : Type 0 where
   -- only columns that there are, are hidden
   pub there_are :
       (table column : ℕ) → Layout.is_hidden cat.schema table column ≡ true
-      → (table < length cat.schema) × (column < Layout.column_count cat.schema table)
+      → (table < length cat.schema) × (column < short.column_count cat.schema table)
   pub next_table : (table : ℕ) → LayoutSums.table_begin cat (table + 1) ≡ LayoutSums.table_begin cat table + LayoutSums.table_pages cat table
   pub tables : (table later : ℕ) → table ≤ later → LayoutSums.table_begin cat table ≤ LayoutSums.table_begin cat later
   pub next_column :
@@ -164,7 +164,7 @@ CatalogsAreLimited = (cat : Catalog) → IsCatalog cat → IsLimited cat
 
 -- the widths of records
 pub record AreNarrow (cat : Catalog) : Type 0 where
-  pub columns : (table : ℕ) → Layout.column_count cat.schema table ≤ 24
+  pub columns : (table : ℕ) → short.column_count cat.schema table ≤ 24
   pub levels : (table : ℕ) → length (Layout.levels_of cat.schema table) ≤ 12
   pub above : (table : ℕ) → length (Layout.above_of cat.schema table) ≤ 12
   pub descendants : (table : ℕ) → length (Layout.descendants_of cat.schema table) ≤ 12

@@ -4,7 +4,8 @@ use Rattle.std.specs.Prelude.{ℕ, ◌+◌, ◌*◌, List, length, take, sum_by,
 use Rattle.ghost_model.specs.core.Schema.{Schema, is_empty}
 use Rattle.ghost_model.specs.core.Channel.{Catalog}
 use Rattle.ghost_model.specs.forms.Runs.{Run, pages_of}
-use Rattle.ghost_model.specs.forms.Layout.{below, is_hidden, width_at, column_count, levels_of, above_of, descendants_of, count_of, public_pages, spool_pages}
+use Rattle.ghost_model.specs.forms.Layout.{below, is_hidden, width_at, levels_of, above_of, descendants_of, count_of, public_pages, spool_pages}
+use Rattle.ghost_model.specs.laws.ShortWords.{column_count}
 
 -- the pages of the file of a column, none where it is not hidden, and those of the files of a table's columns
 abbrev pub column_pages : Catalog → (table column : ℕ) → ℕ

@@ -1,22 +1,28 @@
 -- Short names for what words of the rooms say together. Contracts and proofs of single crates use them; nothing here need be
 -- believed: each is written out where a promise stands on it.
-use Rattle.std.specs.Prelude.{ℕ, ◌==◌, Bool, List, [], map, filter, take, Option, Some}
+use Rattle.std.specs.Prelude.{ℕ, ◌+◌, ◌*◌, ◌==◌, ◌&&◌, not, nat_lt, Bool, List, [], length, map, filter, flat_map, take, Option, Some, bytes_eq, slice_get, unwrap_or, if◌then◌else◌}
 use Rattle.std.specs.Int.{from_be_bytes, w32}
-use Rattle.ghost_model.specs.core.Schema.{Schema}
-use Rattle.ghost_model.specs.core.Values.{Value, Row, Database}
-use Rattle.ghost_model.specs.core.Query.{Query, Field, Operator, is_among}
-use Rattle.ghost_model.specs.core.Channel.{Catalog, Frame, Move, Answer, Entry, Journal}
-use Rattle.ghost_model.specs.core.Database.{value_at_row, holds}
+use Rattle.ghost_model.specs.core.Schema.{Schema, Table, Column, columns_of}
+use Rattle.ghost_model.specs.core.Values.{Value, Row, Rows, Database}
+use Rattle.ghost_model.specs.core.Query.{Query, Field, Operator, Condition, is_among}
+use Rattle.ghost_model.specs.core.Channel.{Catalog, Test, Frame, Move, Answer, Entry, Journal}
+use Rattle.ghost_model.specs.core.Database.{value_at_row, holds, integer_of}
 use Rattle.ghost_model.specs.core.Meaning.{compares}
-use Rattle.ghost_model.specs.core.Asks.{NumberedAsk}
+use Rattle.ghost_model.specs.core.Asks.{NumberedAsk, test_of}
 use Rattle.ghost_model.specs.core.Moves.{taken}
 use Rattle.ghost_model.specs.core.NextMove.{EndedAsk, InvalidFrame, heard}
 use Rattle.ghost_model.specs.core.Split.{Hidden}
 use Rattle.ghost_model.specs.core.Host.{Holding, Stand, said_with_refusals, bad_with_refusals}
 use Rattle.ghost_model.specs.core.Replies.{replies, answer_from}
-use Rattle.ghost_model.specs.forms.Runs.{Run}
+use Rattle.ghost_model.specs.forms.Runs.{Run, pages_of, number_in}
+use Rattle.ghost_model.specs.forms.Catalog.{catalog_bytes}
 use Rattle.ghost_model.specs.forms.Layout.{Cells, Subtrees, IndexHeader, IndexDirectory, IndexLevel, IdDirectory, IdLevel, run_of_file}
-use Rattle.ghost_model.specs.forms.QueryWork.{values_of, count_values, rows_leading}
+use Rattle.ghost_model.specs.forms.QueryWork.{bits, values_of, count_values, rows_leading}
+use Rattle.ghost_model.specs.refusals.Rules.{broken_if}
+use Rattle.ghost_model.specs.refusals.SchemaGrammar.{TableText, SchemaText}
+use Rattle.ghost_model.specs.refusals.SchemaMeaning.{schema_of}
+use Rattle.ghost_model.specs.refusals.SchemaFaults.{SchemaFault, DuplicateName, UnknownChild, NotOneRoot, declared_name, repeats, columns_at, table_lacks_id, references_naming}
+use Rattle.ghost_model.specs.refusals.LoadFaults.{LoadFault, BadId, place, unless, is_number, references_from}
 
 abbrev pub is_from : Query → (table : ℕ) → Bool
 is_from query table = is_among query.from table
@@ -83,3 +89,72 @@ abbrev pub rows_met : Schema → Database → (top : ℕ) → Field → Operator
 rows_met schema database top column operator literal =
     rows_leading schema database top column.table
     (λ row. compares operator (value_at_row database column.table row column.column) (Some literal))
+
+abbrev pub rows_or_none : Option Rows → Rows
+rows_or_none found = unwrap_or found []
+
+-- how many columns a table has, its identifier among them
+abbrev pub column_count : Schema → (table : ℕ) → ℕ
+column_count schema table = length (columns_of schema table)
+
+abbrev pub name_of : Column → List ℕ
+name_of column = column.name
+
+abbrev pub is_field : (table column : ℕ) → Field → Bool
+is_field table column field = field.table == table && field.column == column
+
+abbrev pub tests_of : Schema → (table : ℕ) → List Condition → List Test
+tests_of schema table conditions = flat_map (test_of schema table) conditions
+
+abbrev pub most_tests : ℕ
+most_tests = 16
+
+-- the tables but the top one
+abbrev pub others_of : (top : ℕ) → (from : List ℕ) → List ℕ
+others_of top from = filter (λ table. not (table == top)) from
+
+-- the last WELCOME frame, which alone begins with 1, is the one that ends the catalog
+abbrev pub welcome_fits : (missing : List ℕ) (last : ℕ) (part : List ℕ) → Bool
+welcome_fits missing last part =
+    bytes_eq part (take (length part) missing) && last == (if length part == length missing then 1 else 0)
+
+-- the first field is the row's number
+abbrev pub id_faults : (table row : ℕ) → List ℕ → List LoadFault
+id_faults table row text = unless (is_number row (integer_of text)) (BadId (place table (row + 1) 0))
+
+abbrev pub reference_faults : Schema → Database → List LoadFault
+reference_faults schema database = references_from database 0 schema database
+
+-- where a list begins and how long it is, and where the one after it begins, by eight bytes of a directory
+abbrev pub first_listed : List ℕ → ℕ
+first_listed bytes = number_in bytes 0
+
+-- the pages that hold a byte of the catalog: its bytes are a run of width 1
+abbrev pub catalog_pages : Catalog → ℕ
+catalog_pages cat = pages_of (length (catalog_bytes cat)) 1
+
+-- the calls for finding a value among so many
+abbrev pub search_work : (values : ℕ) → ℕ
+search_work values = 4 * (bits values + 3)
+
+-- the faults of a place
+abbrev pub duplicate_at : Field → SchemaFault
+duplicate_at field = DuplicateName field.table field.column
+
+abbrev pub unknown_at : Field → SchemaFault
+unknown_at field = UnknownChild field.table field.column
+
+abbrev pub wrong_roots : ℕ → Option SchemaFault
+wrong_roots roots = broken_if (not (roots == 1)) (NotOneRoot roots)
+
+abbrev pub table_repeats : SchemaText → ℕ → Bool
+table_repeats tables place = repeats (map (λ (table : TableText). table.name) tables) place
+
+abbrev pub column_repeats : SchemaText → Field → Bool
+column_repeats tables field = repeats (map declared_name (columns_at (slice_get tables field.table))) field.column
+
+abbrev pub lacks_id : SchemaText → ℕ → Bool
+lacks_id tables place = table_lacks_id (slice_get tables place)
+
+abbrev pub is_shared : SchemaText → ℕ → Bool
+is_shared tables child = nat_lt 1 (references_naming (schema_of tables) child)

@@ -52,14 +52,11 @@ abbrev pub is_number : ℕ → Option ℤ → Bool
 is_number number found = option_map_or (λ other. int_eq other (pos number)) found false
 
 -- the first field is the row's number
-abbrev pub id_faults : (table row : ℕ) → List ℕ → List LoadFault
-id_faults table row text = unless (is_number row (integer_of text)) (BadId (place table (row + 1) 0))
-
 abbrev pub fields_faults : (table row : ℕ) → List Column → List (List ℕ) → List LoadFault
 fields_faults table row [] fields = []
 fields_faults table row (_ ∷ _) [] = []
 fields_faults table row (_ ∷ columns) (text ∷ fields) =
-    id_faults table row text ++ field_faults table (row + 1) 1 columns fields
+    unless (is_number row (integer_of text)) (BadId (place table (row + 1) 0)) ++ field_faults table (row + 1) 1 columns fields
 
 -- row number `row` is the record after it, since the header is the first
 abbrev pub row_faults : (table row : ℕ) → List Column → List (List ℕ) → List LoadFault
@@ -73,12 +70,9 @@ unfoldable pub rows_faults : (table row : ℕ) → List Column → List (List (L
 rows_faults table row columns records =
     flat_map (λ held. row_faults table held.0 columns held.1) (enumerate_from row records)
 
-abbrev pub name_of : Column → List ℕ
-name_of column = column.name
-
 -- the names of the columns in order, without regard to case
 abbrev pub is_header : List Column → List (List ℕ) → Bool
-is_header columns fields = pointwise bytes_eq (map in_lower_case fields) (map name_of columns)
+is_header columns fields = pointwise bytes_eq (map in_lower_case fields) (map (λ column. column.name) columns)
 
 -- the first record is the header
 abbrev pub record_faults : (table : ℕ) → List Column → List (List (List ℕ)) → List LoadFault
@@ -115,11 +109,8 @@ unfoldable pub references_from : Database → (table : ℕ) → Schema → List 
 references_from database table schema later =
     flat_map (λ held. table_references database held.0 2 held.1.0.columns held.1.1) (enumerate_from table (zip schema later))
 
-abbrev pub reference_faults : Schema → Database → List LoadFault
-reference_faults schema database = references_from database 0 schema database
-
 abbrev pub load_faults : Schema → (files : List (List ℕ)) → List LoadFault
-load_faults schema files = files_faults 0 schema files ++ reference_faults schema (database_of schema files)
+load_faults schema files = files_faults 0 schema files ++ references_from (database_of schema files) 0 schema (database_of schema files)
 
 -- the fault that is answered; none where the files keep every rule
 abbrev pub load_fault : Schema → (files : List (List ℕ)) → Option LoadFault

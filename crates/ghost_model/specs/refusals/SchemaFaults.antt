@@ -60,15 +60,11 @@ abbrev pub columns_at : Option TableText → List ColumnDeclaration
 columns_at None = []
 columns_at (Some table) = columns_written table
 
-abbrev pub table_repeats : SchemaText → ℕ → Bool
-table_repeats tables place = repeats (map (λ (table : TableText). table.name) tables) place
-
-abbrev pub column_repeats : SchemaText → Field → Bool
-column_repeats tables field = repeats (map declared_name (columns_at (slice_get tables field.table))) field.column
-
 -- column 0 has no earlier column, so it speaks of its table's name
 abbrev pub is_duplicate : SchemaText → Field → Bool
-is_duplicate tables field = (field.column == 0 && table_repeats tables field.table) || column_repeats tables field
+is_duplicate tables field =
+    (field.column == 0 && repeats (map (λ (table : TableText). table.name) tables) field.table)
+    || repeats (map declared_name (columns_at (slice_get tables field.table))) field.column
 
 -- NoId: the first column is not `id INTEGER PRIMARY KEY`, without REFERENCES and HIDDEN, or a later one has PRIMARY KEY
 abbrev pub is_identifier : ColumnDeclaration → Bool
@@ -83,9 +79,6 @@ abbrev pub table_lacks_id : Option TableText → Bool
 table_lacks_id None = false
 table_lacks_id (Some table) = not (is_identifier table.first) || list_any is_primary table.others
 
-abbrev pub lacks_id : SchemaText → ℕ → Bool
-lacks_id tables place = table_lacks_id (slice_get tables place)
-
 -- UnknownChild: a REFERENCES names no table
 abbrev pub refers_nowhere : SchemaText → Option ColumnDeclaration → Bool
 refers_nowhere tables (Some (IntegerColumn name primary (Some (To table says_id)) hidden)) =
@@ -99,9 +92,6 @@ is_unknown tables field =
 -- TwoParents: two foreign keys name a table, be it from two tables or from one
 abbrev pub references_naming : Schema → ℕ → ℕ
 references_naming schema child = sum_by (λ (table : Table). length (references_to child table)) schema
-
-abbrev pub is_shared : SchemaText → ℕ → Bool
-is_shared tables child = nat_lt 1 (references_naming (schema_of tables) child)
 
 -- Cycle: following parents from a table returns to it, in at most as many steps as there are tables
 abbrev pub returns : Schema → ℕ → Bool
@@ -122,26 +112,16 @@ fields_from at (table ∷ later) =
 abbrev pub fields : SchemaText → List Field
 fields tables = fields_from 0 tables
 
--- the faults of a place
-abbrev pub duplicate_at : Field → SchemaFault
-duplicate_at field = DuplicateName field.table field.column
-
-abbrev pub unknown_at : Field → SchemaFault
-unknown_at field = UnknownChild field.table field.column
-
-abbrev pub wrong_roots : ℕ → Option SchemaFault
-wrong_roots roots = broken_if (not (roots == 1)) (NotOneRoot roots)
-
 -- the rules that a tree may break, in their order, each with its fault at the first place that breaks it
 abbrev pub rules_of_schemas : SchemaText → List (Option SchemaFault)
 rules_of_schemas tables =
     broken_if (is_over tables) OverLimit
-    ∷ option_map duplicate_at (find (is_duplicate tables) (fields tables))
-    ∷ option_map NoId (find (lacks_id tables) (places_of tables))
-    ∷ option_map unknown_at (find (is_unknown tables) (fields tables))
-    ∷ option_map TwoParents (find (is_shared tables) (places_of tables))
+    ∷ option_map (λ field. DuplicateName field.table field.column) (find (is_duplicate tables) (fields tables))
+    ∷ option_map NoId (find (λ place. table_lacks_id (slice_get tables place)) (places_of tables))
+    ∷ option_map (λ field. UnknownChild field.table field.column) (find (is_unknown tables) (fields tables))
+    ∷ option_map TwoParents (find (λ child. nat_lt 1 (references_naming (schema_of tables) child)) (places_of tables))
     ∷ option_map Cycle (find (returns (schema_of tables)) (places_of tables))
-    ∷ wrong_roots (roots_of (schema_of tables))
+    ∷ broken_if (not (roots_of (schema_of tables) == 1)) (NotOneRoot (roots_of (schema_of tables)))
     ∷ []
 
 -- the text spells a tree that meets the rules, and this is the schema of that tree

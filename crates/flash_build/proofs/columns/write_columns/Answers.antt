@@ -1,4 +1,5 @@
 use Rattle.std.proofs.Common.{◌≡◌, sym, subst, refl, Err, arith, rules}
+use Rattle.ghost_model.specs.laws.ShortWords as short
 use Rattle.ghost_model.specs.forms.Layout as layout
 use Rattle.ghost_model.specs.laws.LayoutSums as sums
 use Rattle.flash_build.specs.Building.{Wrote}
@@ -17,7 +18,7 @@ returns-in_err-write_column-clause-wrote g c =
     let column = c.loop-column.column in
     let same : c.from_residual.result ≡ Err c.in_err-write_column.field-0.0 = search rules in
     let ends =
-    column_ends cat c.args.table column (layout.column_count cat.schema c.args.table)
+    column_ends cat c.args.table column (short.column_count cat.schema c.args.table)
     (omega (arith, c.loop-column-test.true, c.columns-column-end.ensures.count)) in
     let step = wrote_after (Err c.in_err-write_column.field-0.0) (omega arith) (omega arith) c.loop-column.invariant.wrote c.in_err-write_column.ensures.wrote in
     subst (λ r. Wrote (sums.table_begin cat c.args.table) (sums.subtree_begin cat c.args.table) (sums.columns_pages cat c.args.table)

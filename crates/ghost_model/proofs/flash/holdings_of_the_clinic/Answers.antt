@@ -11,7 +11,7 @@ use Rattle.ghost_model.specs.core.Database.{leads_within}
 use Rattle.ghost_model.specs.forms.Runs.{number_cell, record_at, records_in, Stores}
 use Rattle.ghost_model.specs.forms.Layout.{levels_of, above_of, is_hidden, first_page}
 use Rattle.ghost_model.specs.laws.ShortWords.{column_file, subtree_table, index_header, index_directory, index_level, id_directory, id_level}
-use Rattle.ghost_model.specs.forms.Flash.{HoldsCatalog, HoldsColumns, HoldsSubtrees, HoldsIndex, HoldsIndexes, HoldsIdIndexes, AreValues, catalog_page, hidden_cells, subtree_record, ids, directory_records, value_lists, id_lists, list_records}
+use Rattle.ghost_model.specs.forms.Flash.{HoldsCatalog, HoldsColumns, HoldsSubtrees, HoldsIndex, HoldsIdIndexes, AreValues, catalog_page, hidden_cells, subtree_record, ids, directory_records, value_lists, id_lists, list_records}
 use Rattle.ghost_model.specs.examples.Clinic.{clinic_schema, clinic_catalog}
 use Rattle.ghost_model.specs.examples.Flash.{hidden_clinic, countries, names, purposes, doctors, key, doctor_files, patient_files, visit_files, filled, clinic_page}
 use Rattle.ghost_model.proofs.flash.holdings_of_the_clinic.Goals as goal
@@ -168,7 +168,7 @@ patient_index = record {
   };
 }
 
-indexes : HoldsIndexes clinic_page clinic_catalog hidden_clinic
+indexes : (table column : ℕ) → is_hidden clinic_catalog.schema table column ≡ true → HoldsIndex clinic_page clinic_catalog hidden_clinic table column
 indexes = of_hidden (HoldsIndex clinic_page clinic_catalog hidden_clinic) country_index name_index purpose_index doctor_index patient_index
 
 id_indexes : HoldsIdIndexes clinic_page clinic_catalog hidden_clinic
