@@ -151,6 +151,7 @@ pub record HoldingsOfTheClinic : Type 0 where
   pub whole : Holds clinic_page clinic_catalog hidden_clinic
   pub another_catalog : Holds (changed 0 0) clinic_catalog hidden_clinic → ⊥
   pub another_country : Holds (changed 64 0) clinic_catalog hidden_clinic → ⊥
+  pub another_entry_of_an_index : Holds (changed 66 0) clinic_catalog hidden_clinic → ⊥
   pub another_place_of_visits : Holds (changed 69 1) clinic_catalog hidden_clinic → ⊥
   pub another_visit_of_a_doctor : Holds (changed 70 1) clinic_catalog hidden_clinic → ⊥
   pub another_doctor : Holds (changed 81 1) clinic_catalog hidden_clinic → ⊥
