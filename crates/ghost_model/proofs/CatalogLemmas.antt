@@ -17,11 +17,11 @@ use Rattle.ghost_model.specs.core.Schema.{Schema, Column, Chars, places_from, pl
 use Rattle.ghost_model.specs.core.Query.{Field}
 use Rattle.ghost_model.specs.refusals.Tokens.{number_of, is_between, Keyword, Symbol, Word, Reserved, Name, Digits, Open, Closing, Comma, Semicolon, EndOfText, CharWord, CreateWord, HiddenWord, IntegerWord, PrimaryKeyWord, PrimaryWord, ReferencesWord, TableWord, Read, read, symbol_of, symbols, tokens_from, token_at, word_at, digits_at, symbol_of_word, keyword_of, other_reserved, in_lower_case, begins_name, is_space, is_digit, is_name_byte}
 use Rattle.ghost_model.specs.laws.Spelled.{is_spelled, is_reserved, is_name}
-use Rattle.ghost_model.specs.refusals.SchemaGrammar.{To, ColumnDeclaration, CharColumn, IntegerColumn, TableText, SchemaText, spell_hidden, spell_id, spell_declaration, spell_heading, spell_declared_table}
+use Rattle.ghost_model.specs.refusals.SchemaGrammar.{To, ColumnDeclaration, CharColumn, IntegerColumn, TableText, SchemaText, spell_if, spell_declaration, spell_heading, spell_declared_table}
 use Rattle.ghost_model.specs.readings.SchemaPlaces.{schema_syntax_of}
 use Rattle.ghost_model.specs.refusals.SchemaMeaning.{declared_table, columns_written, column_of, table_of, schema_of}
-use Rattle.ghost_model.specs.refusals.SchemaFaults.{OverLimit, NoId, TwoParents, Cycle, is_long, is_over, is_table_over, is_column_over, declared_name, columns_at, repeats, is_duplicate, fields_from, fields, is_identifier, is_primary, table_lacks_id, refers_nowhere, is_unknown, references_naming, returns, roots_of, rules_of_schemas as schema_rules, MeansSchema}
-use Rattle.ghost_model.specs.laws.ShortWords.{table_repeats, column_repeats, lacks_id, is_shared, duplicate_at, unknown_at, wrong_roots}
+use Rattle.ghost_model.specs.refusals.SchemaFaults.{OverLimit, NoId, TwoParents, Cycle, is_long, is_over, is_table_over, is_column_over, declared_name, columns_at, repeats, is_duplicate, fields_from, fields, is_identifier, is_primary, table_lacks_id, refers_nowhere, references_naming, returns, roots_of, rules_of_schemas as schema_rules, MeansSchema}
+use Rattle.ghost_model.specs.laws.ShortWords.{is_unknown, table_repeats, column_repeats, lacks_id, is_shared, duplicate_at, unknown_at, wrong_roots}
 use Rattle.ghost_model.specs.readings.SchemaReading.{schema_or, schema_judged, schema_reading}
 use Rattle.ghost_model.specs.refusals.Rules.{broken_if, first_broken, MeetsAll}
 use Rattle.ghost_model.specs.forms.Catalog.{name_or_none, reference_text, hidden_text, column_text, table_text, canonical_text}
@@ -132,7 +132,7 @@ unfolding tokens_from
 char_first rest = ap (λ (xs : List Symbol). Word CharWord ∷ Open ∷ xs) (kinds_anywhere 0 6 0 rest)
 
 char_last : (hidden : Bool) (rest : List ℕ) → AfterColumn rest
-    → symbols (41 ∷ (hidden_text hidden ++ rest)) ≡ Closing ∷ (spell_hidden hidden ++ symbols rest)
+    → symbols (41 ∷ (hidden_text hidden ++ rest)) ≡ Closing ∷ (spell_if hidden (Word HiddenWord ∷ []) ++ symbols rest)
 unfolding tokens_from
 char_last true rest (comma later) = ap (λ (xs : List Symbol). Closing ∷ Word HiddenWord ∷ Comma ∷ xs) (kinds_anywhere 0 9 1 later)
 char_last true rest (closing later) = ap (λ (xs : List Symbol). Closing ∷ Word HiddenWord ∷ Closing ∷ xs) (kinds_anywhere 0 9 1 later)
@@ -140,7 +140,7 @@ char_last false rest (comma later) = ap (λ (xs : List Symbol). Closing ∷ Comm
 char_last false rest (closing later) = ap (λ (xs : List Symbol). Closing ∷ Closing ∷ xs) (kinds_anywhere 0 2 1 later)
 
 integer_last : (hidden : Bool) (rest : List ℕ) → AfterColumn rest
-    → symbols (codes " INTEGER" ++ (hidden_text hidden ++ rest)) ≡ Word IntegerWord ∷ (spell_hidden hidden ++ symbols rest)
+    → symbols (codes " INTEGER" ++ (hidden_text hidden ++ rest)) ≡ Word IntegerWord ∷ (spell_if hidden (Word HiddenWord ∷ []) ++ symbols rest)
 unfolding tokens_from
 integer_last true rest (comma later) = ap (λ (xs : List Symbol). Word IntegerWord ∷ Word HiddenWord ∷ Comma ∷ xs) (kinds_anywhere 0 16 1 later)
 integer_last true rest (closing later) = ap (λ (xs : List Symbol). Word IntegerWord ∷ Word HiddenWord ∷ Closing ∷ xs) (kinds_anywhere 0 16 1 later)
@@ -551,10 +551,10 @@ proper_column tables (IntegerColumn name primary None hidden) within spelled pla
     (column_named (IntegerColumn name primary None hidden) spelled, plain)
 proper_column tables (IntegerColumn name true (Some (To table says_id)) hidden) within spelled plain known = absurd (cc)
 proper_column tables (IntegerColumn name false (Some (To table says_id)) hidden) within spelled plain known =
-    let names = and_parts (is_name name) (list_all is_spelled (Word ReferencesWord ∷ Name table ∷ (spell_id says_id ++ spell_hidden hidden))) spelled in (
+    let names = and_parts (is_name name) (list_all is_spelled (Word ReferencesWord ∷ Name table ∷ (spell_if says_id (Open ∷ Name (codes "id") ∷ Closing ∷ []) ++ spell_if hidden (Word HiddenWord ∷ [])))) spelled in (
       names.0,
       plain,
-      (and_parts (is_name table) (list_all is_spelled (spell_id says_id ++ spell_hidden hidden)) names.1).0,
+      (and_parts (is_name table) (list_all is_spelled (spell_if says_id (Open ∷ Name (codes "id") ∷ Closing ∷ []) ++ spell_if hidden (Word HiddenWord ∷ []))) names.1).0,
       reference_named tables table (declared_table tables table) refl known,
     )
 

@@ -9,8 +9,8 @@ use Rattle.ghost_model.specs.refusals.Grammar.{Spells}
 use Rattle.ghost_model.specs.refusals.SchemaGrammar.{SchemaText, schema_spelling}
 use Rattle.ghost_model.specs.readings.SchemaPlaces.{schema_syntax_of}
 use Rattle.ghost_model.specs.refusals.SchemaMeaning.{schema_of}
-use Rattle.ghost_model.specs.refusals.SchemaFaults.{SchemaFault, BadSyntax, OverLimit, NoId, TwoParents, Cycle, NotOneRoot, is_over, is_duplicate, is_unknown, returns, roots_of, fields, rules_of_schemas, MeansSchema, HasFault, IsSchemaFault}
-use Rattle.ghost_model.specs.laws.ShortWords.{lacks_id, is_shared, duplicate_at, unknown_at, wrong_roots}
+use Rattle.ghost_model.specs.refusals.SchemaFaults.{SchemaFault, BadSyntax, OverLimit, NoId, TwoParents, Cycle, NotOneRoot, is_over, is_duplicate, returns, roots_of, fields, rules_of_schemas, MeansSchema, HasFault, IsSchemaFault}
+use Rattle.ghost_model.specs.laws.ShortWords.{is_unknown, lacks_id, is_shared, duplicate_at, unknown_at, wrong_roots}
 use Rattle.ghost_model.specs.readings.SchemaReading.{schema_or, schema_judged, schema_reading}
 use Rattle.ghost_model.specs.laws.SchemaTrees.{Returns}
 use Rattle.ghost_model.specs.laws.SchemaLaws.{OneSchemaReading}

@@ -13,8 +13,8 @@ use Rattle.ghost_model.specs.laws.Spelled.{is_spelled, is_name}
 use Rattle.ghost_model.specs.refusals.SchemaGrammar.{To, ColumnDeclaration, CharColumn, IntegerColumn, TableText, SchemaText, spell_declaration, spell_declared_table}
 use Rattle.ghost_model.specs.refusals.SchemaMeaning.{columns_written, column_of, table_of, schema_of}
 use Rattle.ghost_model.specs.refusals.SchemaFaults as faults
-use Rattle.ghost_model.specs.refusals.SchemaFaults.{is_over, is_table_over, is_column_over, declared_name, columns_at, repeats, is_duplicate, fields_from, fields, is_identifier, table_lacks_id, is_primary, refers_nowhere, is_unknown, returns, rules_of_schemas, MeansSchema}
-use Rattle.ghost_model.specs.laws.ShortWords.{table_repeats, lacks_id, is_shared}
+use Rattle.ghost_model.specs.refusals.SchemaFaults.{is_over, is_table_over, is_column_over, declared_name, columns_at, repeats, is_duplicate, fields_from, fields, is_identifier, table_lacks_id, is_primary, refers_nowhere, returns, rules_of_schemas, MeansSchema}
+use Rattle.ghost_model.specs.laws.ShortWords.{is_unknown, table_repeats, lacks_id, is_shared}
 use Rattle.ghost_model.specs.refusals.Rules.{MeetsAll}
 use Rattle.ghost_model.specs.laws.SchemaTrees.{identifier, Returns, IsTree, SchemasAreTrees}
 use Rattle.ghost_model.proofs.GrammarLemmas.{spelled_parts, spelled_front}

@@ -15,7 +15,8 @@ use Rattle.ghost_model.specs.laws.ShortWords as short
 use Rattle.ghost_model.specs.core.Query as query
 use Rattle.ghost_model.specs.core.Query.{Query, Field, Condition, Compare, Join, is_among, is_some_among, top_of}
 use Rattle.ghost_model.specs.refusals.QueryGrammar.{ColumnText, Bare, Qualified, ConditionText, Compares, LiesBetween, Joins, QueryText}
-use Rattle.ghost_model.specs.refusals.QueryMeaning.{field, table_named, column_named, fields_named, meanings, conditions_of, resolved, from_tables, is_reference_to, is_proper, is_join_of, lacks_join, is_unlinked, value_of_literal}
+use Rattle.ghost_model.specs.refusals.QueryMeaning.{field, table_named, fields_named, meanings, conditions_of, resolved, from_tables, is_reference_to, is_proper, is_join_of, lacks_join, is_unlinked, value_of_literal}
+use Rattle.ghost_model.specs.laws.ShortWords.{column_named}
 use Rattle.ghost_model.specs.core.Meaning as meaning
 use Rattle.ghost_model.specs.core.Meaning.{Source, pick, compares, is_kept, answer_of_row, answer_by_top, all_of, answer}
 use Rattle.spj_parse.specs.Resolved.{is_comparison, keys_between, join_by, join_with, join_to, joins_of, linked}

@@ -63,6 +63,6 @@ pub tree_decides : (tables : SchemaText) → fault_of_texts tables ≡ None → 
 tree_decides tables e =
     then_rest (broken_if (faults.is_over tables) faults.OverLimit) (option_map short.duplicate_at (find (faults.is_duplicate tables) (faults.fields tables)))
     (option_map faults.NoId (find (short.lacks_id tables) (places_of tables)))
-    (option_map short.unknown_at (find (faults.is_unknown tables) (faults.fields tables))) (rest_by tables (places_of tables) (option_or (by_roots tables) None)) e
+    (option_map short.unknown_at (find (short.is_unknown tables) (faults.fields tables))) (rest_by tables (places_of tables) (option_or (by_roots tables) None)) e
     ∙ (ap (rest_by tables (places_of tables)) (last_rule (by_roots tables))
     ∙ ap (λ places. rest_by tables places (by_roots tables)) (sym (same_places (meaning.table_of tables) tables 0)))

@@ -15,8 +15,8 @@ use Rattle.ghost_model.specs.core.Schema.{places_from, places_of}
 use Rattle.ghost_model.specs.refusals.Rules.{broken_if}
 use Rattle.ghost_model.specs.refusals.SchemaGrammar.{TableText, SchemaText}
 use Rattle.ghost_model.specs.refusals.SchemaMeaning.{columns_written}
-use Rattle.ghost_model.specs.refusals.SchemaFaults.{is_this_name, repeats, declared_name, columns_at, is_duplicate, fields, fields_from, is_over, is_unknown, SchemaFault, OverLimit, DuplicateName, NoId}
-use Rattle.ghost_model.specs.laws.ShortWords.{table_repeats, lacks_id, duplicate_at as duplicate_fault, unknown_at as unknown_fault}
+use Rattle.ghost_model.specs.refusals.SchemaFaults.{is_this_name, repeats, declared_name, columns_at, is_duplicate, fields, fields_from, is_over, SchemaFault, OverLimit, DuplicateName, NoId}
+use Rattle.ghost_model.specs.laws.ShortWords.{is_unknown, table_repeats, lacks_id, duplicate_at as duplicate_fault, unknown_at as unknown_fault}
 use Rattle.tree_schema.specs.declared.syntax.ColumnDraft.{ColumnDraft}
 use Rattle.tree_schema.specs.Drafts as drafts
 use Rattle.tree_schema.specs.Faults.{field_at, fault_of_texts}

@@ -44,7 +44,7 @@ fault_of_texts tables =
     option_or (broken_if (faults.is_over tables) faults.OverLimit)
     (option_or (option_map short.duplicate_at (find (faults.is_duplicate tables) (faults.fields tables)))
     (option_or (option_map faults.NoId (find (short.lacks_id tables) (places_of tables)))
-    (option_map short.unknown_at (find (faults.is_unknown tables) (faults.fields tables)))))
+    (option_map short.unknown_at (find (short.is_unknown tables) (faults.fields tables)))))
 
 abbrev pub is_shared : Schema → ℕ → Bool
 is_shared schema child = nat_lt 1 (faults.references_naming schema child)

@@ -273,7 +273,7 @@ fn column_at<'a>(table: &TableDraft<'a>, place: usize) -> Option<ColumnDraft<'a>
 
 /// Whether the REFERENCES of a column names no table.
 fn is_unknown(tables: &[TableDraft], table: usize, column: usize) -> bool
-    ensures unknown { result ≡ faults.is_unknown (map table_of tables.now) (field_at table column) }
+    ensures unknown { result ≡ short.is_unknown (map table_of tables.now) (field_at table column) }
 {
     match tables.get(table) {
         None => false,
@@ -320,7 +320,7 @@ fn first_duplicate(tables: &[TableDraft]) -> Option<(usize, usize)>
 
 /// The first column of a table whose REFERENCES names no table.
 fn first_unknown_in(tables: &[TableDraft], table: usize) -> Option<usize>
-    ensures first { result ≡ find (λ column. faults.is_unknown (map table_of tables.now) (field_at table column)) (places_of (faults.columns_at (slice_get (map table_of tables.now) table))) }
+    ensures first { result ≡ find (λ column. short.is_unknown (map table_of tables.now) (field_at table column)) (places_of (faults.columns_at (slice_get (map table_of tables.now) table))) }
 {
     for column in 0..columns_len(tables, table) {
         if is_unknown(tables, table, column) {
@@ -332,7 +332,7 @@ fn first_unknown_in(tables: &[TableDraft], table: usize) -> Option<usize>
 
 /// The first table and column whose REFERENCES names no table.
 fn first_unknown(tables: &[TableDraft]) -> Option<(usize, usize)>
-    ensures first { option_map field_of result ≡ find (faults.is_unknown (map table_of tables.now)) (faults.fields (map table_of tables.now)) }
+    ensures first { option_map field_of result ≡ find (short.is_unknown (map table_of tables.now)) (faults.fields (map table_of tables.now)) }
 {
     for table in 0..tables.len() {
         if let Some(column) = first_unknown_in(tables, table) {

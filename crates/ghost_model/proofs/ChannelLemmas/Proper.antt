@@ -329,8 +329,8 @@ module _ (schema : Schema) (text : List ℕ) (tree : QueryText) (spells : symbol
 
   limited : sum_by meaning.literal_conditions tree.conditions ≤ 16
   limited =
-      let four : ((nat_lt 4096 (length text) || list_any (λ name. nat_lt 32 (length name)) (meaning.names_in tree) || nat_lt 12 (length (meaning.from_names tree)) || nat_lt 16 (sum_by meaning.literal_conditions tree.conditions)) ≡ false) × (nat_lt 32 (meaning.selected_count schema tree tree.selection) ≡ false) = neither _ _ keeps.limits in
-      let three : ((nat_lt 4096 (length text) || list_any (λ name. nat_lt 32 (length name)) (meaning.names_in tree) || nat_lt 12 (length (meaning.from_names tree))) ≡ false) × (nat_lt 16 (sum_by meaning.literal_conditions tree.conditions) ≡ false) = neither _ _ four.0 in
+      let four : ((nat_lt 4096 (length text) || list_any (λ name. nat_lt 32 (length name)) (short.names_in tree) || nat_lt 12 (length (meaning.from_names tree)) || nat_lt 16 (sum_by meaning.literal_conditions tree.conditions)) ≡ false) × (nat_lt 32 (meaning.selected_count schema tree tree.selection) ≡ false) = neither _ _ keeps.limits in
+      let three : ((nat_lt 4096 (length text) || list_any (λ name. nat_lt 32 (length name)) (short.names_in tree) || nat_lt 12 (length (meaning.from_names tree))) ≡ false) × (nat_lt 16 (sum_by meaning.literal_conditions tree.conditions) ≡ false) = neither _ _ four.0 in
       ltb-false 16 (sum_by meaning.literal_conditions tree.conditions) three.1
 
   single : list_all (λ condition. list_all (has_one schema tables 0) (meaning.condition_columns condition)) tree.conditions ≡ true

@@ -14,14 +14,14 @@ use Rattle.ghost_model.specs.core.Values.{Value, Text, Row, Rows, Database}
 use Rattle.ghost_model.specs.core.Query.{Query}
 use Rattle.ghost_model.specs.core.Channel.{Catalog, count_of, Ask}
 use Rattle.ghost_model.specs.core.Database.{is_of_kind, rows_of, row_counts, IsDatabase}
-use Rattle.ghost_model.specs.laws.ShortWords.{rows_or_none}
+use Rattle.ghost_model.specs.laws.ShortWords.{rows_or_none, reply_row}
 use Rattle.ghost_model.specs.forms.Cells.{cell_width, encode_cell}
 use Rattle.ghost_model.specs.readings.CellReading.{decode_cell}
 use Rattle.ghost_model.specs.forms.Frames.{AreBytes, most_payload}
 use Rattle.ghost_model.specs.core.Asks.{RowCells, row_bytes, kind_or_none, kind_at, kinds_of, row_width}
 use Rattle.ghost_model.specs.laws.ChannelLaws.{IsReplyRow}
 use Rattle.ghost_model.specs.core.NextMove.{are_cells, rows_fit, last_identifier}
-use Rattle.ghost_model.specs.core.Split.{cells, are_of_kinds, value_at, asked_value, visible_places, RowValues, replied, meets_tests, replies_from, visible_rows, reply_row, reply_rows, public_of}
+use Rattle.ghost_model.specs.core.Split.{cells, are_of_kinds, value_at, asked_value, visible_places, RowValues, replied, meets_tests, replies_from, visible_rows, reply_rows, public_of}
 use Rattle.ghost_model.proofs.MeaningLemmas.PartsByFlags.{visible_rows_at}
 use Rattle.ghost_model.specs.core.Honest.{fits_frame}
 use Rattle.ghost_model.specs.laws.HostLaws.{AreGroups}

@@ -12,9 +12,9 @@ use Rattle.ghost_model.specs.core.Values.{Value, Row, Rows, Database}
 use Rattle.ghost_model.specs.core.Query.{Query, Field, Condition, Compare, Join}
 use Rattle.ghost_model.specs.core.Channel.{Ask, Test}
 use Rattle.ghost_model.specs.core.Asks.{ask_for, is_needed, test_of, is_wanted}
-use Rattle.ghost_model.specs.laws.ShortWords.{tests_of, is_field, is_from}
+use Rattle.ghost_model.specs.laws.ShortWords.{tests_of, is_field, is_from, meets_test}
 use Rattle.ghost_model.specs.core.Database.{rows_of, IsDatabase}
-use Rattle.ghost_model.specs.core.Split.{Public, hidden_of, public_of, value_at, visible_places, RowValues, replied, meets_test, meets_tests, replies_from, visible_rows}
+use Rattle.ghost_model.specs.core.Split.{Public, hidden_of, public_of, value_at, visible_places, RowValues, replied, meets_tests, replies_from, visible_rows}
 use Rattle.ghost_model.specs.laws.SplitByFlags.{hidden_flags, visible_values, rows_by}
 use Rattle.ghost_model.proofs.MeaningLemmas.PartsByFlags.{visible_rows_at}
 use Rattle.ghost_model.specs.core.Replies.{Reply, hidden_value, row_replied, reply_about, replied_value, known_value, stands_in}

@@ -66,23 +66,19 @@ abbrev pub rejoined_row : List Column → (identifier : ℕ) → (visible kept :
 rejoined_row columns identifier visible kept =
     Number (pos identifier) ∷ some_prefix (map (value_in_part columns visible kept) (column_places (λ _. true) columns))
 
-abbrev pub rejoined_table : List Column → (visible kept : Rows) → Rows
-rejoined_table columns visible kept =
-    map (λ row. rejoined_row columns row.0 row.1.0 row.1.1) (enumerate_from 1 (zip visible kept))
-
 abbrev pub rejoined : Schema → Public → Hidden → Database
 rejoined schema public kept =
-    map (λ table. rejoined_table table.0.columns table.1.0 table.1.1) (zip schema (zip public.visible kept.hidden))
+    map (λ table.
+    map (λ row. rejoined_row table.0.columns row.0 row.1.0 row.1.1) (enumerate_from 1 (zip table.1.0 table.1.1)))
+    (zip schema (zip public.visible kept.hidden))
 
 abbrev pub public_rows : Public → (table : ℕ) → Rows
 public_rows public table = unwrap_or (slice_get public.visible table) []
 
-abbrev pub meets_test : Test → Option Value → Bool
-meets_test test found = option_map_or (λ value. holds test.operator value test.value) found false
-
 -- whether a visible row meets every condition of an ask
 abbrev pub meets_tests : (places : List ℕ) → List Test → Row → Bool
-meets_tests places tests row = list_all (λ test. meets_test test (value_at places row test.column)) tests
+meets_tests places tests row =
+    list_all (λ test. option_map_or (λ value. holds test.operator value test.value) (value_at places row test.column) false) tests
 
 -- a row of a reply: its identifier and the values of the asked columns
 pub record RowValues : Type 0 where
@@ -127,11 +123,9 @@ cells_of_tables schema visible = flat_map (λ held. flat_map (cells (visible_kin
 abbrev pub image : Catalog → Public → List ℕ
 image cat public = catalog_bytes cat ++ cells_of_tables cat.schema public.visible
 
-abbrev pub reply_row : Schema → Ask → RowValues → RowCells
-reply_row schema ask row = record { identifier = row.identifier; cells = cells (kinds_of schema ask) row.values }
-
 abbrev pub reply_rows : Schema → Public → Ask → List RowCells
-reply_rows schema public ask = map (reply_row schema ask) (visible_rows schema public ask)
+reply_rows schema public ask =
+    map (λ row. record { identifier = row.identifier; cells = cells (kinds_of schema ask) row.values }) (visible_rows schema public ask)
 
 abbrev pub are_of_kinds : List Kind → Row → Bool
 are_of_kinds kinds row = pointwise is_of_kind kinds row

@@ -50,13 +50,11 @@ pub data Structure : Type 0 where
   ClimbingIndex : (table column : ℕ) → Structure
   IdIndex : (table : ℕ) → Structure
 
-abbrev pub structures_of : Schema → (table : ℕ) → List Structure
-structures_of schema table =
-    map (ColumnFile table) (hidden_columns schema table)
-    ++ (SubtreeTable table ∷ (map (ClimbingIndex table) (hidden_columns schema table) ++ IdIndex table ∷ []))
-
 abbrev pub structures : Schema → List Structure
-structures schema = flat_map (structures_of schema) (tables_of schema)
+structures schema =
+    flat_map (λ table.
+    map (ColumnFile table) (hidden_columns schema table)
+    ++ (SubtreeTable table ∷ (map (ClimbingIndex table) (hidden_columns schema table) ++ IdIndex table ∷ []))) (tables_of schema)
 
 -- level files: one for each of some tables, with an identifier for each of its rows
 abbrev pub level_files : Catalog → (tables : List ℕ) → List (ℕ × ℕ)

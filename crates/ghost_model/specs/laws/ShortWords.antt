@@ -1,27 +1,31 @@
 -- Short names for what words of the rooms say together. Contracts and proofs of single crates use them; nothing here need be
 -- believed: each is written out where a promise stands on it.
-use Rattle.std.specs.Prelude.{ℕ, ◌+◌, ◌*◌, ◌==◌, ◌&&◌, not, nat_lt, Bool, List, [], length, map, filter, flat_map, take, Option, Some, bytes_eq, slice_get, unwrap_or, if◌then◌else◌}
+use Rattle.std.specs.Prelude.{ℕ, false, ◌+◌, ◌*◌, ◌==◌, ◌&&◌, not, nat_lt, Bool, List, [], length, map, filter, flat_map, take, Option, Some, bytes_eq, slice_get, unwrap_or, if◌then◌else◌, ◌∷◌, ◌++◌}
 use Rattle.std.specs.Int.{from_be_bytes, w32}
-use Rattle.ghost_model.specs.core.Schema.{Schema, Table, Column, columns_of}
+use Rattle.std.specs.List.{list_any, zip, enumerate_from}
+use Rattle.std.specs.Option.{option_map_or}
+use Rattle.ghost_model.specs.refusals.QueryMeaning.{literal_fails, is_other_kind, is_too_large, resolved, table_names, column_name, columns_in}
+use Rattle.ghost_model.specs.refusals.QueryGrammar.{QueryText}
+use Rattle.ghost_model.specs.core.Schema.{Schema, Table, Column, columns_of, places_where, first_of}
 use Rattle.ghost_model.specs.core.Values.{Value, Row, Rows, Database}
 use Rattle.ghost_model.specs.core.Query.{Query, Field, Operator, Condition, is_among}
-use Rattle.ghost_model.specs.core.Channel.{Catalog, Test, Frame, Move, Answer, Entry, Journal}
+use Rattle.ghost_model.specs.core.Channel.{Catalog, Test, Frame, Move, Answer, Entry, Journal, Ask}
 use Rattle.ghost_model.specs.core.Database.{value_at_row, holds, integer_of}
 use Rattle.ghost_model.specs.core.Meaning.{compares}
-use Rattle.ghost_model.specs.core.Asks.{NumberedAsk, test_of}
+use Rattle.ghost_model.specs.core.Asks.{NumberedAsk, test_of, RowCells, kinds_of}
 use Rattle.ghost_model.specs.core.Moves.{taken}
 use Rattle.ghost_model.specs.core.NextMove.{EndedAsk, InvalidFrame, heard}
-use Rattle.ghost_model.specs.core.Split.{Hidden}
+use Rattle.ghost_model.specs.core.Split.{Hidden, RowValues, cells, rejoined_row}
 use Rattle.ghost_model.specs.core.Host.{Holding, Stand, said_with_refusals, bad_with_refusals}
 use Rattle.ghost_model.specs.core.Replies.{replies, answer_from}
 use Rattle.ghost_model.specs.forms.Runs.{Run, pages_of, number_in}
 use Rattle.ghost_model.specs.forms.Catalog.{catalog_bytes}
-use Rattle.ghost_model.specs.forms.Layout.{Cells, Subtrees, IndexHeader, IndexDirectory, IndexLevel, IdDirectory, IdLevel, run_of_file}
+use Rattle.ghost_model.specs.forms.Layout.{Cells, Subtrees, IndexHeader, IndexDirectory, IndexLevel, IdDirectory, IdLevel, run_of_file, Structure, ColumnFile, SubtreeTable, ClimbingIndex, IdIndex, hidden_columns}
 use Rattle.ghost_model.specs.forms.QueryWork.{bits, values_of, count_values, rows_leading}
 use Rattle.ghost_model.specs.refusals.Rules.{broken_if}
 use Rattle.ghost_model.specs.refusals.SchemaGrammar.{TableText, SchemaText}
 use Rattle.ghost_model.specs.refusals.SchemaMeaning.{schema_of}
-use Rattle.ghost_model.specs.refusals.SchemaFaults.{SchemaFault, DuplicateName, UnknownChild, NotOneRoot, declared_name, repeats, columns_at, table_lacks_id, references_naming}
+use Rattle.ghost_model.specs.refusals.SchemaFaults.{SchemaFault, DuplicateName, UnknownChild, NotOneRoot, declared_name, repeats, columns_at, table_lacks_id, references_naming, refers_nowhere}
 use Rattle.ghost_model.specs.refusals.LoadFaults.{LoadFault, BadId, place, unless, is_number, references_from}
 
 abbrev pub is_from : Query → (table : ℕ) → Bool
@@ -158,3 +162,34 @@ lacks_id tables place = table_lacks_id (slice_get tables place)
 
 abbrev pub is_shared : SchemaText → ℕ → Bool
 is_shared tables child = nat_lt 1 (references_naming (schema_of tables) child)
+
+abbrev pub structures_of : Schema → (table : ℕ) → List Structure
+structures_of schema table =
+    map (ColumnFile table) (hidden_columns schema table)
+    ++ (SubtreeTable table ∷ (map (ClimbingIndex table) (hidden_columns schema table) ++ IdIndex table ∷ []))
+
+abbrev pub meets_test : Test → Option Value → Bool
+meets_test test found = option_map_or (λ value. holds test.operator value test.value) found false
+
+abbrev pub reply_row : Schema → Ask → RowValues → RowCells
+reply_row schema ask row = record { identifier = row.identifier; cells = cells (kinds_of schema ask) row.values }
+
+abbrev pub rejoined_table : List Column → (visible kept : Rows) → Rows
+rejoined_table columns visible kept =
+    map (λ row. rejoined_row columns row.0 row.1.0 row.1.1) (enumerate_from 1 (zip visible kept))
+
+abbrev pub has_kind_mismatch : Schema → QueryText → Bool
+has_kind_mismatch schema tree = list_any (literal_fails schema is_other_kind) (resolved schema tree).conditions
+
+abbrev pub has_bad_literal : Schema → QueryText → Bool
+has_bad_literal schema tree = list_any (literal_fails schema is_too_large) (resolved schema tree).conditions
+
+abbrev pub names_in : QueryText → List (List ℕ)
+names_in tree = table_names tree ++ map column_name (columns_in tree)
+
+abbrev pub column_named : Schema → ℕ → List ℕ → Option ℕ
+column_named schema table name = first_of (places_where (λ column. bytes_eq column.name name) (columns_of schema table))
+
+abbrev pub is_unknown : SchemaText → Field → Bool
+is_unknown tables field =
+    refers_nowhere tables (slice_get (columns_at (slice_get tables field.table)) field.column)

@@ -6,7 +6,7 @@
 use Rattle.std.specs.Prelude.{ℕ, Bool, true, false, List, [], ◌∷◌, ◌++◌, flat_map, codes, bytes_eq, Option, Some, None, option_map, Result, Ok, Err, if◌then◌else◌}
 use Rattle.ghost_model.specs.refusals.Tokens.{Symbol, Token, Word, Name, Digits, Open, Closing, Comma, Semicolon, EndOfText, CharWord, CreateWord, HiddenWord, IntegerWord, PrimaryKeyWord, PrimaryWord, ReferencesWord, TableWord, tokens}
 use Rattle.ghost_model.specs.readings.Begun.{begun}
-use Rattle.ghost_model.specs.refusals.SchemaGrammar.{Reference, To, ColumnDeclaration, CharColumn, IntegerColumn, TableText, SchemaText, spell_primary, spell_declaration, spell_heading, spell_declared_table, schema_spelling}
+use Rattle.ghost_model.specs.refusals.SchemaGrammar.{Reference, To, ColumnDeclaration, CharColumn, IntegerColumn, TableText, SchemaText, spell_if, spell_declaration, spell_heading, spell_declared_table, schema_spelling}
 
 -- within a column. A column that may stand as it is is `WholeColumn`, also where more may follow
 pub data InColumn : Type 0 where
@@ -33,11 +33,11 @@ before_in (AfterChar name) = Name name ∷ Word CharWord ∷ []
 before_in (AfterOpen name) = Name name ∷ Word CharWord ∷ Open ∷ []
 before_in (AfterLength name digits) = Name name ∷ Word CharWord ∷ Open ∷ Digits digits ∷ []
 before_in (AfterPrimary name) = Name name ∷ Word IntegerWord ∷ Word PrimaryWord ∷ []
-before_in (AfterReferences name primary) = Name name ∷ Word IntegerWord ∷ (spell_primary primary ++ Word ReferencesWord ∷ [])
+before_in (AfterReferences name primary) = Name name ∷ Word IntegerWord ∷ (spell_if primary (Word PrimaryWord ∷ Word PrimaryKeyWord ∷ []) ++ Word ReferencesWord ∷ [])
 before_in (OpensId name primary table) =
-    Name name ∷ Word IntegerWord ∷ (spell_primary primary ++ Word ReferencesWord ∷ Name table ∷ Open ∷ [])
+    Name name ∷ Word IntegerWord ∷ (spell_if primary (Word PrimaryWord ∷ Word PrimaryKeyWord ∷ []) ++ Word ReferencesWord ∷ Name table ∷ Open ∷ [])
 before_in (AfterId name primary table) =
-    Name name ∷ Word IntegerWord ∷ (spell_primary primary ++ Word ReferencesWord ∷ Name table ∷ Open ∷ Name (codes "id") ∷ [])
+    Name name ∷ Word IntegerWord ∷ (spell_if primary (Word PrimaryWord ∷ Word PrimaryKeyWord ∷ []) ++ Word ReferencesWord ∷ Name table ∷ Open ∷ Name (codes "id") ∷ [])
 before_in (WholeColumn column) = spell_declaration column
 
 -- the symbols that were read

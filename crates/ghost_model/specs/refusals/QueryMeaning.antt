@@ -25,11 +25,9 @@ field table column = record { table = table; column = column }
 abbrev pub table_named : Schema → List ℕ → Option ℕ
 table_named schema name = first_of (places_where (λ table. bytes_eq table.name name) schema)
 
-abbrev pub column_named : Schema → ℕ → List ℕ → Option ℕ
-column_named schema table name = first_of (places_where (λ column. bytes_eq column.name name) (columns_of schema table))
-
 abbrev pub fields_named : Schema → List ℕ → ℕ → List Field
-fields_named schema name table = option_to_list (option_map (field table) (column_named schema table name))
+fields_named schema name table =
+    option_to_list (option_map (field table) (first_of (places_where (λ column. bytes_eq column.name name) (columns_of schema table))))
 
 abbrev pub fields_of : Schema → ℕ → List Field
 fields_of schema table = map (field table) (places_of (columns_of schema table))
@@ -106,9 +104,6 @@ column_name (Qualified table name) = name
 abbrev pub table_names : QueryText → List (List ℕ)
 table_names tree = from_names tree ++ flat_map qualifier_of (columns_in tree)
 
-abbrev pub names_in : QueryText → List (List ℕ)
-names_in tree = table_names tree ++ map column_name (columns_in tree)
-
 -- how many conditions with a literal a condition of a text is
 abbrev pub literal_conditions : ConditionText → ℕ
 literal_conditions (Compares column operator literal) = 1
@@ -124,7 +119,7 @@ selected_count schema tree (Columns column more) = length (column ∷ more)
 abbrev pub is_over_limit : Schema → List ℕ → QueryText → Bool
 is_over_limit schema text tree =
     nat_lt 4096 (length text)
-    || list_any (λ name. nat_lt 32 (length name)) (names_in tree)
+    || list_any (λ name. nat_lt 32 (length name)) (table_names tree ++ map column_name (columns_in tree))
     || nat_lt 12 (length (from_names tree))
     || nat_lt 16 (sum_by literal_conditions tree.conditions)
     || nat_lt 32 (selected_count schema tree tree.selection)
@@ -164,12 +159,6 @@ abbrev pub literal_fails : Schema → (Option Kind → Value → Bool) → Condi
 literal_fails schema test (Compare column operator value) = test (column_kind schema column.table column.column) value
 literal_fails schema test (Join left right) = false
 
-abbrev pub has_kind_mismatch : Schema → QueryText → Bool
-has_kind_mismatch schema tree = list_any (literal_fails schema is_other_kind) (resolved schema tree).conditions
-
-abbrev pub has_bad_literal : Schema → QueryText → Bool
-has_bad_literal schema tree = list_any (literal_fails schema is_too_large) (resolved schema tree).conditions
-
 -- the top table and the joins
 
 -- the first column is a foreign key and the second the identifier of its child
@@ -207,8 +196,8 @@ rules_of_queries schema text tree =
     ∷ broken_if (has_unknown_table schema tree) UnknownTable
     ∷ broken_if (has_unknown_column schema tree) UnknownColumn
     ∷ broken_if (is_ambiguous schema tree) Ambiguous
-    ∷ broken_if (has_kind_mismatch schema tree) KindMismatch
-    ∷ broken_if (has_bad_literal schema tree) BadLiteral
+    ∷ broken_if (list_any (literal_fails schema is_other_kind) (resolved schema tree).conditions) KindMismatch
+    ∷ broken_if (list_any (literal_fails schema is_too_large) (resolved schema tree).conditions) BadLiteral
     ∷ broken_if (is_unlinked schema (resolved schema tree)) NotLinked
     ∷ []
 

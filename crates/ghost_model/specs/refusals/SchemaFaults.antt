@@ -85,10 +85,6 @@ refers_nowhere tables (Some (IntegerColumn name primary (Some (To table says_id)
     is_none (declared_table tables table)
 refers_nowhere tables _ = false
 
-abbrev pub is_unknown : SchemaText → Field → Bool
-is_unknown tables field =
-    refers_nowhere tables (slice_get (columns_at (slice_get tables field.table)) field.column)
-
 -- TwoParents: two foreign keys name a table, be it from two tables or from one
 abbrev pub references_naming : Schema → ℕ → ℕ
 references_naming schema child = sum_by (λ (table : Table). length (references_to child table)) schema
@@ -118,7 +114,8 @@ rules_of_schemas tables =
     broken_if (is_over tables) OverLimit
     ∷ option_map (λ field. DuplicateName field.table field.column) (find (is_duplicate tables) (fields tables))
     ∷ option_map NoId (find (λ place. table_lacks_id (slice_get tables place)) (places_of tables))
-    ∷ option_map (λ field. UnknownChild field.table field.column) (find (is_unknown tables) (fields tables))
+    ∷ option_map (λ field. UnknownChild field.table field.column)
+    (find (λ field. refers_nowhere tables (slice_get (columns_at (slice_get tables field.table)) field.column)) (fields tables))
     ∷ option_map TwoParents (find (λ child. nat_lt 1 (references_naming (schema_of tables) child)) (places_of tables))
     ∷ option_map Cycle (find (returns (schema_of tables)) (places_of tables))
     ∷ broken_if (not (roots_of (schema_of tables) == 1)) (NotOneRoot (roots_of (schema_of tables)))
