@@ -2,7 +2,7 @@
 -- taken begins what the host sends for the key's bytes. Together with the next move this leaves one journal.
 use Rattle.std.specs.Prelude.{◌≡◌, ℕ, Bool, true, false, ◌==◌, List, ◌++◌, length}
 use Rattle.std.specs.List.{list_all, concat}
-use Rattle.ghost_model.specs.core.Channel.{Move, Dial, Listen, Accept, Send, Take, Close, Answer, Made, Port, Piece, End, Failed, Entry, Journal}
+use Rattle.ghost_model.specs.core.Channel.{Move, Listen, Accept, Take, Answer, Made, Piece, Entry, Journal}
 use Rattle.ghost_model.specs.core.Moves.{taken, sent}
 use Rattle.ghost_model.specs.core.Host.{Holding, host_sends}
 

@@ -5,7 +5,7 @@
 -- have no line.
 use Rattle.std.specs.Prelude.{ℕ, List, [], ◌∷◌, ◌++◌, flat_map, map, codes, decimal}
 use Rattle.hex.specs.Hex.{encode_lower}
-use Rattle.ghost_model.specs.core.Channel.{Move, Dial, Listen, Accept, Send, Take, Close, Answer, Made, Port, Piece, End, Failed, Entry, Journal}
+use Rattle.ghost_model.specs.core.Channel.{Move, Dial, Send, Take, Close, Answer, Made, Port, Piece, End, Failed, Entry, Journal}
 
 abbrev pub piece_of : Answer → List ℕ
 piece_of (Piece bytes) = bytes

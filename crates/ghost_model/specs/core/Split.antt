@@ -2,14 +2,14 @@
 -- keys among them; the identifier stands in neither, since both sides know it. Each part has all rows of each table in
 -- order, so it tells their number. From the public part follow the visible image, which is the host's file, and the
 -- rows that an ask is to be replied with.
-use Rattle.std.specs.Prelude.{◌≡◌, ℕ, ◌+◌, ◌*◌, pos, Bool, true, false, not, ◌==◌, List, [], ◌∷◌, ◌++◌, length, map, drop, filter, flat_map, sum, sum_by, Option, Some, None, slice_get, unwrap_or, IsTrue, if◌then◌else◌}
+use Rattle.std.specs.Prelude.{◌≡◌, ℕ, ◌+◌, pos, Bool, true, false, not, ◌==◌, List, [], ◌∷◌, ◌++◌, length, map, drop, filter, flat_map, Option, Some, None, slice_get, unwrap_or, IsTrue, if◌then◌else◌}
 use Rattle.std.specs.List.{list_all, zip, enumerate_from}
 use Rattle.std.specs.Option.{option_map_or, option_or, some_prefix}
 use Rattle.std.specs.Cmp.Lexicographic.{pointwise}
 use Rattle.ghost_model.specs.core.Schema.{Schema, Table, Column, Kind, columns_of, places_from}
 use Rattle.ghost_model.specs.core.Values.{Value, Number, Text, Row, Rows, Database}
-use Rattle.ghost_model.specs.core.Database.{row_counts, is_of_kind, holds, IsDatabase}
-use Rattle.ghost_model.specs.forms.Cells.{cell_width, encode_cell}
+use Rattle.ghost_model.specs.core.Database.{is_of_kind, holds}
+use Rattle.ghost_model.specs.forms.Cells.{encode_cell}
 use Rattle.ghost_model.specs.forms.Catalog.{catalog_bytes, IsCatalog}
 use Rattle.ghost_model.specs.core.Channel.{Catalog, Ask, Test}
 use Rattle.ghost_model.specs.core.Asks.{RowCells, kinds_of}

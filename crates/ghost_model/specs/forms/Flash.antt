@@ -4,20 +4,20 @@
 -- rows that have it and the rows of each table above that lead to such a row; an id index has the same for each
 -- identifier. At one level the lists of all entries stand one after another, and an entry of the directory says where
 -- its own begins and how long it is. The part that each file kind has is a word of its own; `Holds` is all of them.
-use Rattle.std.specs.Prelude.{◌≡◌, ℕ, ◌-◌, ◌*◌, ◌<◌, ◌≤◌, pos, true, false, List, [], ◌∷◌, ◌++◌, length, take, drop, map, filter, flat_map, replicate, get_or, slice_index, Contains, bytes_eq, Option, Some, slice_get, unwrap_or, IsTrue}
+use Rattle.std.specs.Prelude.{◌≡◌, ℕ, ◌-◌, ◌*◌, ◌<◌, ◌≤◌, pos, true, false, List, [], ◌∷◌, ◌++◌, length, take, drop, map, filter, flat_map, replicate, get_or, slice_index, Contains, bytes_eq, Option, slice_get, unwrap_or}
 use Rattle.std.specs.List.Sorted.{IsStrictlySortedBy}
 use Rattle.std.specs.List.{concat, range_with_len}
 use Rattle.std.specs.Option.{option_map_or}
 use Rattle.std.specs.Cmp.Lexicographic.{slice_cmp}
 use Rattle.std.specs.Ordering.{nat_cmp}
-use Rattle.ghost_model.specs.core.Schema.{Schema, Table, Kind, is_empty, is_table}
+use Rattle.ghost_model.specs.core.Schema.{Schema, is_empty, is_table}
 use Rattle.ghost_model.specs.core.Values.{Number, Row, Rows, Database}
 use Rattle.ghost_model.specs.core.Channel.{Catalog}
 use Rattle.ghost_model.specs.core.Database.{IsDatabase, row_counts, leads}
 use Rattle.ghost_model.specs.forms.Cells.{encode_cell}
 use Rattle.ghost_model.specs.forms.Catalog.{catalog_bytes}
 use Rattle.ghost_model.specs.core.Asks.{kind_at}
-use Rattle.ghost_model.specs.core.Split.{Hidden, hidden_of, rejoined, value_at, kind_of_column, are_of_kinds}
+use Rattle.ghost_model.specs.core.Split.{Hidden, hidden_of, rejoined, value_at}
 use Rattle.ghost_model.specs.core.Replies.{hidden_places}
 use Rattle.ghost_model.specs.forms.Runs.{Run, page_bytes, number_cell, Stores}
 use Rattle.ghost_model.specs.forms.Layout.{below, is_hidden, count_of, levels_of, above_of, descendants_of, public_pages, Cells, Subtrees, IndexHeader, IndexDirectory, IndexLevel, IdDirectory, IdLevel, run_of_file}

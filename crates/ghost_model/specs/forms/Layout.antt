@@ -2,7 +2,7 @@
 -- follow one another in the order of `structures`, each on pages of its own. The static part ends at a block. Then come
 -- the two halves of the spool, in each an area for each table that has a visible column, and then six scratch areas of one
 -- size; each of these areas is of whole blocks. A file or an area is a run: a first page, and so many records of one width.
-use Rattle.std.specs.Prelude.{ℕ, ◌+◌, ◌-◌, ◌*◌, ◌/◌, max, Bool, false, not, ◌&&◌, ◌==◌, List, [], ◌∷◌, ◌++◌, length, take, drop, map, filter, filter_map, flat_map, fold, sum_by, slice_index, get_or, if◌then◌else◌}
+use Rattle.std.specs.Prelude.{ℕ, ◌+◌, ◌-◌, ◌*◌, ◌/◌, max, Bool, false, not, ◌&&◌, ◌==◌, List, [], ◌∷◌, ◌++◌, length, take, drop, map, filter, filter_map, flat_map, fold, sum_by, get_or, if◌then◌else◌}
 use Rattle.std.specs.List.{list_any, range_with_len, before_first}
 use Rattle.std.specs.Option.{option_map_or}
 use Rattle.ghost_model.specs.core.Schema.{Schema, Column, columns_of, column_at, is_empty, is_visible, ancestor}

@@ -1,5 +1,5 @@
 -- Laws of frames, asks and next moves. Nothing here need be believed: each is proved.
-use Rattle.std.specs.Prelude.{◌≡◌, ℕ, ◌+◌, ◌-◌, ◌^◌, ◌<◌, Bool, true, false, ◌&&◌, List, [], ◌++◌, length, take, map, flat_map, Some, Ok, ◌%◌, All, ◌*◌, ◌≤◌}
+use Rattle.std.specs.Prelude.{◌≡◌, ℕ, ◌+◌, ◌^◌, ◌<◌, Bool, true, false, ◌&&◌, List, [], ◌++◌, length, take, map, flat_map, Some, Ok, ◌%◌, All, ◌*◌, ◌≤◌}
 use Rattle.ghost_model.specs.core.Channel.{Frame, Ask, Catalog, Journal}
 use Rattle.std.specs.List.{list_all}
 use Rattle.ghost_model.specs.core.Schema.{Schema, is_visible}

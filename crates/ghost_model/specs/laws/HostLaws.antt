@@ -1,6 +1,6 @@
 -- Laws of hosts: what a host sends is honest, is cut into its frames again, and is heard whole. Nothing here need be
 -- believed: each is proved.
-use Rattle.std.specs.Prelude.{◌≡◌, ℕ, ◌+◌, ◌-◌, ◌/◌, List, [], ◌∷◌, ◌++◌, length, map, flat_map, All, nat_lt, nat_le, ◌&&◌, true, false, ◌*◌, ◌^◌, ◌≤◌, ◌<◌}
+use Rattle.std.specs.Prelude.{◌≡◌, ℕ, ◌+◌, ◌/◌, List, [], ◌∷◌, ◌++◌, length, map, flat_map, All, nat_lt, nat_le, ◌&&◌, true, false, ◌*◌, ◌^◌, ◌≤◌, ◌<◌}
 use Rattle.std.specs.List.{list_all}
 use Rattle.ghost_model.specs.core.Channel.{Catalog, count_of, Ask, Frame, WelcomeFrame, DoneFrame}
 use Rattle.ghost_model.specs.forms.Catalog.{catalog_bytes}

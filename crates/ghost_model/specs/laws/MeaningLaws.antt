@@ -1,6 +1,6 @@
 -- Laws of databases and their meaning: what rows lead to, one row of an answer for each row of the top table, a database as
 -- its two parts, and files that keep every rule.
-use Rattle.std.specs.Prelude.{◌≡◌, ℕ, ◌+◌, ◌*◌, ◌≤◌, ◌<◌, List, [], Option, Some, length, map, sum, sum_by, option_and_then}
+use Rattle.std.specs.Prelude.{◌≡◌, ℕ, ◌+◌, ◌*◌, ◌≤◌, ◌<◌, List, [], Some, length, map, sum, sum_by, option_and_then}
 use Rattle.std.specs.List.{zip}
 use Rattle.ghost_model.specs.core.Schema.{Schema, Column, parent, ancestor}
 use Rattle.ghost_model.specs.core.Values.{Row, Database}

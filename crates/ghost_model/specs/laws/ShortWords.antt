@@ -6,7 +6,7 @@ use Rattle.std.specs.List.{list_any, zip, enumerate_from}
 use Rattle.std.specs.Option.{option_map_or}
 use Rattle.ghost_model.specs.refusals.QueryMeaning.{literal_fails, is_other_kind, is_too_large, resolved, table_names, column_name, columns_in}
 use Rattle.ghost_model.specs.refusals.QueryGrammar.{QueryText}
-use Rattle.ghost_model.specs.core.Schema.{Schema, Table, Column, columns_of, places_where, first_of}
+use Rattle.ghost_model.specs.core.Schema.{Schema, Column, columns_of, places_where, first_of}
 use Rattle.ghost_model.specs.core.Values.{Value, Row, Rows, Database}
 use Rattle.ghost_model.specs.core.Query.{Query, Field, Operator, Condition, is_among}
 use Rattle.ghost_model.specs.core.Channel.{Catalog, Test, Frame, Move, Answer, Entry, Journal, Ask}

@@ -3,7 +3,7 @@
 -- many rows, then the number of its fields, then field by field with the identifier first; the foreign keys come after
 -- all files, by table, record and column. `load_fault` is the first of them. No other is ever answered, so what the list
 -- says after it is of no account: rows that break a rule are still looked at by the rules that come later.
-use Rattle.std.specs.Prelude.{◌≡◌, ℕ, ◌+◌, ◌<◌, ◌≤◌, ℤ, pos, Bool, true, false, ◌==◌, nat_le, List, [], ◌∷◌, ◌++◌, length, map, flat_map, Option, Some, None, bytes_eq, Result, Ok, Err, is_some}
+use Rattle.std.specs.Prelude.{ℕ, ◌+◌, ℤ, pos, Bool, true, false, ◌==◌, nat_le, List, [], ◌∷◌, ◌++◌, length, map, flat_map, Option, Some, None, bytes_eq, is_some}
 use Rattle.std.specs.List.{zip, enumerate_from}
 use Rattle.std.specs.Option.{option_map_or}
 use Rattle.std.specs.Cmp.Lexicographic.{pointwise}
@@ -11,7 +11,7 @@ use Rattle.std.specs.Ordering.{int_eq}
 use Rattle.ghost_model.specs.core.Schema.{Schema, Column, Kind, Integer, Chars, first_of}
 use Rattle.ghost_model.specs.refusals.Tokens.{in_lower_case}
 use Rattle.ghost_model.specs.core.Values.{Value, Row, Rows, Database}
-use Rattle.ghost_model.specs.core.Database.{is_text, is_row_among, row_count, records_of, integer_of, database_of, IsDatabase}
+use Rattle.ghost_model.specs.core.Database.{is_text, is_row_among, row_count, records_of, integer_of, database_of}
 
 -- a table by its place, a record by its number in the file from 1, and a column; 0 where none applies
 pub record Place : Type 0 where

@@ -2,7 +2,7 @@
 -- meaning. The rules are tested one after another, each over the whole text. A column may stand without its table
 -- where exactly one FROM table has it. `*` is every column of the FROM tables in the order of the text, identifiers and
 -- foreign keys among them. BETWEEN is two conditions.
-use Rattle.std.specs.Prelude.{◌≡◌, ℕ, ℤ, pos, neg_ℤ, Bool, true, false, not, ◌&&◌, ◌||◌, ◌==◌, nat_lt, List, [], ◌∷◌, ◌++◌, length, map, filter, filter_map, flat_map, sum_by, Option, Some, None, is_none, option_map, option_and_then, option_to_list, bytes_eq}
+use Rattle.std.specs.Prelude.{◌≡◌, ℕ, ℤ, pos, neg_ℤ, Bool, true, false, not, ◌&&◌, ◌||◌, ◌==◌, nat_lt, List, [], ◌∷◌, ◌++◌, length, map, filter, filter_map, flat_map, sum_by, Option, Some, is_none, option_map, option_and_then, option_to_list, bytes_eq}
 use Rattle.std.specs.List.{list_any, list_all}
 use Rattle.ghost_model.specs.core.Schema.{Schema, Kind, Integer, Chars, columns_of, column_at, column_kind, places_where, places_of, first_of, is_empty, is_table, parent}
 use Rattle.ghost_model.specs.refusals.Tokens.{number_of}

@@ -1,7 +1,7 @@
 -- Why a text means no schema. There are eight rules, tested in their order: the fault of a text is of the first rule
 -- that it breaks, and of one rule it is the first place in text order. The first rule is the grammar; the others speak
 -- of the tree that the text spells. A text that breaks none means the schema of its tree.
-use Rattle.std.specs.Prelude.{◌≡◌, ℕ, zero, suc, ◌+◌, nat_lt, Bool, true, false, not, ◌&&◌, ◌||◌, ◌==◌, List, [], ◌∷◌, ◌++◌, length, map, take, find, sum_by, count_by, slice_get, codes, bytes_eq, Option, Some, None, is_none, option_map, option_and_then}
+use Rattle.std.specs.Prelude.{◌≡◌, ℕ, suc, ◌+◌, nat_lt, Bool, true, false, not, ◌&&◌, ◌||◌, ◌==◌, List, [], ◌∷◌, ◌++◌, length, map, take, find, sum_by, count_by, slice_get, codes, bytes_eq, Option, Some, None, is_none, option_map}
 use Rattle.std.specs.List.{list_any}
 use Rattle.ghost_model.specs.refusals.Tokens.{is_between, number_of}
 use Rattle.ghost_model.specs.core.Query.{Field}
