@@ -11,8 +11,8 @@ use Rattle.std.proofs.Math.Seq.{take-length}
 use Rattle.ghost_model.specs.core.Schema.{Schema, columns_or_none, columns_of}
 use Rattle.ghost_model.specs.core.Channel.{Catalog}
 use Rattle.ghost_model.specs.forms.Runs.{Run, run_pages}
-use Rattle.ghost_model.specs.forms.Layout.{below, is_hidden, hidden_columns, levels_of, above_of, count_of, Structure, ColumnFile, SubtreeTable, ClimbingIndex, IdIndex, is_same, structures, level_files, files_of, files_pages, structure_pages, public_pages, first_page, run_of, static_files, files_end, static_end, half_pages, spool_areas, spool_end}
-use Rattle.ghost_model.specs.laws.ShortWords.{structures_of, column_count}
+use Rattle.ghost_model.specs.forms.Layout.{below, is_hidden, hidden_columns, levels_of, above_of, count_of, Structure, ColumnFile, SubtreeTable, ClimbingIndex, IdIndex, is_same, structures, level_files, files_of, files_pages, structure_pages, public_pages, first_page, run_of, files_end, static_end, half_pages, spool_end}
+use Rattle.ghost_model.specs.laws.ShortWords.{static_files, spool_areas, structures_of, column_count}
 use Rattle.ghost_model.specs.laws.LayoutSums.{levels_pages, directory_width, id_directory_width, directory_pages, id_directory_pages, index_begin, id_index_begin, table_begin}
 use Rattle.ghost_model.specs.laws.LayoutSums as sums
 use Rattle.ghost_model.specs.laws.LayoutLaws.{LieFrom, Follow, block_room, FollowOneAnother, LieAsSummed}

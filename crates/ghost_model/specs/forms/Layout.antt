@@ -2,7 +2,7 @@
 -- follow one another in the order of `structures`, each on pages of its own. The static part ends at a block. Then come
 -- the two halves of the spool, in each an area for each table that has a visible column, and then six scratch areas of one
 -- size; each of these areas is of whole blocks. A file or an area is a run: a first page, and so many records of one width.
-use Rattle.std.specs.Prelude.{ℕ, ◌+◌, ◌-◌, ◌*◌, ◌/◌, max, Bool, false, not, ◌&&◌, ◌==◌, List, [], ◌∷◌, ◌++◌, length, take, drop, map, filter, filter_map, flat_map, fold, sum_by, get_or, if◌then◌else◌}
+use Rattle.std.specs.Prelude.{ℕ, ◌+◌, ◌-◌, ◌*◌, ◌/◌, max, Bool, false, ◌&&◌, ◌==◌, List, [], ◌∷◌, ◌++◌, length, take, drop, map, filter, filter_map, flat_map, fold, sum_by, get_or, if◌then◌else◌}
 use Rattle.std.specs.List.{list_any, range_with_len, before_first}
 use Rattle.std.specs.Option.{option_map_or}
 use Rattle.ghost_model.specs.core.Schema.{Schema, Column, columns_of, column_at, is_empty, is_visible, ancestor}
@@ -101,10 +101,6 @@ run_of cat structure place = record {
   width = (get_or (files_of cat structure) place (0, 0)).1;
 }
 
-abbrev pub static_files : Catalog → List Run
-static_files cat =
-    flat_map (λ structure. map (run_of cat structure) (below (length (files_of cat structure)))) (structures cat.schema)
-
 -- The static files by kind. The column is a hidden one, the table of a subtree key table has one below it, that of an id
 -- index one above it; others are no file. Levels are numbered upwards from 0, in an id index from its table's parent.
 pub data File : Type 0 where
@@ -159,12 +155,6 @@ spool_area cat half table = record {
   width = spool_width cat.schema table;
 }
 
-abbrev pub has_spool : Schema → (table : ℕ) → Bool
-has_spool schema table = not (is_empty (visible_columns schema table))
-
-abbrev pub spool_areas : Catalog → (half : ℕ) → List Run
-spool_areas cat half = map (spool_area cat half) (filter (has_spool cat.schema) (tables_of cat.schema))
-
 abbrev pub spool_end : Catalog → ℕ
 spool_end cat = static_end cat + 2 * half_pages cat
 
@@ -178,9 +168,6 @@ scratch_pages cat = in_blocks (pages_of (largest_count cat) 4)
 abbrev pub scratch_area : Catalog → (area : ℕ) → Run
 scratch_area cat area =
     record { first = spool_end cat + area * scratch_pages cat; count = largest_count cat; width = 4 }
-
-abbrev pub scratch_areas : Catalog → List Run
-scratch_areas cat = map (scratch_area cat) (below 6)
 
 -- the pages that a device must have
 abbrev pub need : Catalog → ℕ

@@ -27,13 +27,13 @@ abbrev pub block_room : Run → ℕ
 block_room run = Layout.in_blocks (run_pages run)
 
 pub record FollowOneAnother (cat : Catalog) : Type 0 where
-  pub files : Follow run_pages Layout.public_pages (Layout.static_files cat) (Layout.files_end cat)
+  pub files : Follow run_pages Layout.public_pages (short.static_files cat) (Layout.files_end cat)
   pub rounded : Layout.files_end cat ≤ Layout.static_end cat
   pub first_half :
-      Follow block_room (Layout.static_end cat) (Layout.spool_areas cat 0) (Layout.static_end cat + Layout.half_pages cat)
+      Follow block_room (Layout.static_end cat) (short.spool_areas cat 0) (Layout.static_end cat + Layout.half_pages cat)
   pub second_half :
-      Follow block_room (Layout.static_end cat + Layout.half_pages cat) (Layout.spool_areas cat 1) (Layout.spool_end cat)
-  pub scratch : Follow block_room (Layout.spool_end cat) (Layout.scratch_areas cat) (Layout.need cat)
+      Follow block_room (Layout.static_end cat + Layout.half_pages cat) (short.spool_areas cat 1) (Layout.spool_end cat)
+  pub scratch : Follow block_room (Layout.spool_end cat) (short.scratch_areas cat) (Layout.need cat)
 
 abbrev pub FilesFollow : Type 0
 FilesFollow = (cat : Catalog) → FollowOneAnother cat

@@ -6,7 +6,7 @@ use Rattle.std.specs.List.{list_any, zip, enumerate_from}
 use Rattle.std.specs.Option.{option_map_or}
 use Rattle.ghost_model.specs.refusals.QueryMeaning.{literal_fails, is_other_kind, is_too_large, resolved, table_names, column_name, columns_in}
 use Rattle.ghost_model.specs.refusals.QueryGrammar.{QueryText}
-use Rattle.ghost_model.specs.core.Schema.{Schema, Column, columns_of, places_where, first_of}
+use Rattle.ghost_model.specs.core.Schema.{Schema, Column, columns_of, places_where, first_of, is_empty}
 use Rattle.ghost_model.specs.core.Values.{Value, Row, Rows, Database}
 use Rattle.ghost_model.specs.core.Query.{Query, Field, Operator, Condition, is_among}
 use Rattle.ghost_model.specs.core.Channel.{Catalog, Test, Frame, Move, Answer, Entry, Journal, Ask}
@@ -20,7 +20,7 @@ use Rattle.ghost_model.specs.core.Host.{Holding, Stand, said_with_refusals, bad_
 use Rattle.ghost_model.specs.core.Replies.{replies, answer_from}
 use Rattle.ghost_model.specs.forms.Runs.{Run, pages_of, number_in}
 use Rattle.ghost_model.specs.forms.Catalog.{catalog_bytes}
-use Rattle.ghost_model.specs.forms.Layout.{Cells, Subtrees, IndexHeader, IndexDirectory, IndexLevel, IdDirectory, IdLevel, run_of_file, Structure, ColumnFile, SubtreeTable, ClimbingIndex, IdIndex, hidden_columns}
+use Rattle.ghost_model.specs.forms.Layout.{Cells, Subtrees, IndexHeader, IndexDirectory, IndexLevel, IdDirectory, IdLevel, run_of_file, Structure, ColumnFile, SubtreeTable, ClimbingIndex, IdIndex, hidden_columns, below, tables_of, visible_columns, files_of, run_of, structures, spool_area, scratch_area}
 use Rattle.ghost_model.specs.forms.QueryWork.{bits, values_of, count_values, rows_leading}
 use Rattle.ghost_model.specs.refusals.Rules.{broken_if}
 use Rattle.ghost_model.specs.refusals.SchemaGrammar.{TableText, SchemaText}
@@ -193,3 +193,17 @@ column_named schema table name = first_of (places_where (λ column. bytes_eq col
 abbrev pub is_unknown : SchemaText → Field → Bool
 is_unknown tables field =
     refers_nowhere tables (slice_get (columns_at (slice_get tables field.table)) field.column)
+
+-- all static files in the order of their pages, and the areas of the spool and of scratch
+abbrev pub static_files : Catalog → List Run
+static_files cat =
+    flat_map (λ structure. map (run_of cat structure) (below (length (files_of cat structure)))) (structures cat.schema)
+
+abbrev pub has_spool : Schema → (table : ℕ) → Bool
+has_spool schema table = not (is_empty (visible_columns schema table))
+
+abbrev pub spool_areas : Catalog → (half : ℕ) → List Run
+spool_areas cat half = map (spool_area cat half) (filter (has_spool cat.schema) (tables_of cat.schema))
+
+abbrev pub scratch_areas : Catalog → List Run
+scratch_areas cat = map (scratch_area cat) (below 6)
