@@ -5,7 +5,8 @@ use Rattle.std.proofs.lemmas.Bool.{and_parts, eqb-true, le-leb, lt-ltb, ltb-fals
 use Rattle.std.proofs.lemmas.Option.{slice_get_within}
 use Rattle.ghost_model.specs.core.Channel.{Catalog}
 use Rattle.ghost_model.specs.core.Query.{Query, Condition, Compare, Join}
-use Rattle.ghost_model.specs.forms.Layout.{above_of, below, id_directory, id_level, index_directory, index_header, index_level, is_below as lies_below, is_hidden, largest_count, levels_of, need, spool_end}
+use Rattle.ghost_model.specs.forms.Layout.{above_of, below, is_below as lies_below, is_hidden, largest_count, levels_of, need, spool_end}
+use Rattle.ghost_model.specs.laws.ShortWords.{id_directory, id_level, index_directory, index_header, index_level}
 use Rattle.ghost_model.specs.forms.Runs.{Run, run_end}
 use Rattle.ghost_model.specs.laws.LayoutLaws.{RecordsStandWithin}
 use Rattle.ghost_base.specs.Runs.{run_of}

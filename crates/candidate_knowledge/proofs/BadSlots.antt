@@ -5,7 +5,7 @@ use Rattle.ghost_model.specs.core.Channel.{Catalog}
 use Rattle.ghost_model.specs.core.Query.{Query}
 use Rattle.ghost_model.specs.forms.Runs.{number_in}
 use Rattle.ghost_model.specs.laws.LayoutLaws.{FilesLieAsSummed}
-use Rattle.ghost_model.specs.forms.Slots.{File}
+use Rattle.ghost_model.specs.forms.Layout.{File}
 use Rattle.climbing_index.specs.Laws.{IsOf}
 use Rattle.hidden_columns.specs.Laws.{FilesAreOfColumns}
 use Rattle.subtree_keys.specs.Laws.{TablesAreOfSlots}

@@ -9,9 +9,10 @@ use Rattle.std.proofs.lemmas.Option.{slice_get_within}
 use Rattle.ghost_model.specs.core.Channel.{Catalog}
 use Rattle.ghost_model.specs.core.Query.{Query}
 use Rattle.ghost_model.specs.laws.LayoutLaws.{FilesLieAsSummed, LieAsSummed}
-use Rattle.ghost_model.specs.forms.Layout.{above_of, count_of, descendants_of, id_level, index_level, levels_of, subtree_table}
+use Rattle.ghost_model.specs.forms.Layout.{above_of, count_of, descendants_of, levels_of, File, Cells, Subtrees, IndexHeader, IndexDirectory, IndexLevel, IdDirectory, IdLevel}
+use Rattle.ghost_model.specs.laws.ShortWords.{id_level, index_level, subtree_table}
 use Rattle.ghost_model.specs.forms.Runs.{Run, found_in, id_at, number_in, page_of, record_at, slot_of}
-use Rattle.ghost_model.specs.forms.Slots.{File, Cells, Subtrees, IndexHeader, IndexDirectory, IndexLevel, IdDirectory, IdLevel, IsDamagedIn, are_rows, is_row}
+use Rattle.ghost_model.specs.forms.Slots.{IsDamagedIn, are_rows, is_row}
 use Rattle.ghost_base.specs.Runs.{run_of}
 use Rattle.flash_pages.specs.declared.fault.PageFault.TheVariants.{Damaged}
 use Rattle.climbing_index.specs.declared.directory.Directory.{Directory}

@@ -10,7 +10,8 @@ use Rattle.std.proofs.lemmas.List.{drop-drop}
 use Rattle.ghost_model.specs.laws.RunLaws.{NumbersAreRead}
 use Rattle.ghost_model.specs.forms.Runs.{number_cell}
 use Rattle.ghost_model.specs.forms.Flash.{list_place}
-use Rattle.ghost_model.specs.forms.Slots.{begin, follow, first_listed, list_end}
+use Rattle.ghost_model.specs.forms.Slots.{begin, follow, list_end}
+use Rattle.ghost_model.specs.laws.ShortWords.{first_listed}
 use Rattle.ghost_base.specs.CellLaws.{CellOrderIsValueOrder}
 use Rattle.climbing_index.proofs.ListPlaces.{after_both, at_place, ends, first_in, part, places, second_in}
 use Rattle.entry_lists.proofs.Ascending.{Ascends}

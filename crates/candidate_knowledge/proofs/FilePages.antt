@@ -4,9 +4,11 @@ use Rattle.std.proofs.lemmas.Bool.{and_parts, ltb-true}
 use Rattle.ghost_model.specs.core.Schema.{is_empty}
 use Rattle.ghost_model.specs.core.Channel.{Catalog}
 use Rattle.ghost_model.specs.forms.Runs.{Run, page_of, run_end, run_pages}
-use Rattle.ghost_model.specs.forms.Layout.{static_end, files_end, is_hidden, levels_of, above_of, descendants_of, subtree_table}
+use Rattle.ghost_model.specs.forms.Layout.{static_end, files_end, is_hidden, levels_of, above_of, descendants_of, File, run_of_file}
+use Rattle.ghost_model.specs.laws.ShortWords.{subtree_table}
+use Rattle.ghost_model.specs.forms.Layout as layout
 use Rattle.ghost_model.specs.forms.Slots as slots
-use Rattle.ghost_model.specs.forms.Slots.{File, has_file, in_slot, run_of_file, slots_in}
+use Rattle.ghost_model.specs.forms.Slots.{has_file, in_slot, slots_in}
 use Rattle.ghost_model.specs.laws.SchemaTrees.{IsTree}
 use Rattle.ghost_model.specs.laws.LayoutLaws.{AreNarrow, LieAsSummed, LieInOrder, RecordsStandWithin}
 use Rattle.ghost_model.proofs.LayoutLemmas.Small.{some_in}
@@ -41,13 +43,13 @@ module _ (cat : Catalog) (tree : IsTree cat.schema) (narrow : AreNarrow cat) (la
       omega (arith, pages, first, next, later, end)
 
   is_static : (file : File) → has_file cat.schema file ≡ true → IsStatic cat file
-  is_static (slots.Cells table column) has = record {
+  is_static (layout.Cells table column) has = record {
     some = narrow.least table column has;
     fits = omega (arith, narrow.most table column);
     end = order.within table column has;
     room = λ page. omega arith;
   }
-  is_static (slots.Subtrees table) has =
+  is_static (layout.Subtrees table) has =
       let below = not_so (is_empty (descendants_of cat.schema table)) has in
       record {
         some = omega (arith, some_in (descendants_of cat.schema table) below);
@@ -55,19 +57,19 @@ module _ (cat : Catalog) (tree : IsTree cat.schema) (narrow : AreNarrow cat) (la
         end = subtree_ends table (high_is_table cat.schema table below) below;
         room = λ page. omega arith;
       }
-  is_static (slots.IndexHeader table column) has = record {
+  is_static (layout.IndexHeader table column) has = record {
     some = omega arith;
     fits = omega arith;
     end = header_ends cat laid order table column has;
     room = λ page. omega arith;
   }
-  is_static (slots.IndexDirectory table column) has = record {
+  is_static (layout.IndexDirectory table column) has = record {
     some = omega (arith, narrow.least table column has);
     fits = omega (arith, narrow.directory table column);
     end = directory_ends cat laid order table column has;
     room = λ page. omega arith;
   }
-  is_static (slots.IndexLevel table column level) has =
+  is_static (layout.IndexLevel table column level) has =
       let both = and_parts (is_hidden cat.schema table column) (nat_lt level (length (levels_of cat.schema table))) has in
       let low = ltb-true level (length (levels_of cat.schema table)) both.1 in
       let is = laid.index_level table column level both.0 low in
@@ -79,7 +81,7 @@ module _ (cat : Catalog) (tree : IsTree cat.schema) (narrow : AreNarrow cat) (la
         end = level_ends cat laid order table column level both.0 low;
         room = λ page. omega (arith, count);
       }
-  is_static (slots.IdDirectory table) has =
+  is_static (layout.IdDirectory table) has =
       let above = not_so (is_empty (above_of cat.schema table)) has in
       let there = low_is_table cat.schema tree table above in
       record {
@@ -88,7 +90,7 @@ module _ (cat : Catalog) (tree : IsTree cat.schema) (narrow : AreNarrow cat) (la
         end = id_directory_ends cat laid order table there above;
         room = λ page. omega arith;
       }
-  is_static (slots.IdLevel table level) has =
+  is_static (layout.IdLevel table level) has =
       let low = ltb-true level (length (above_of cat.schema table)) has in
       let above = above_some (above_of cat.schema table) level low in
       let there = low_is_table cat.schema tree table above in

@@ -7,8 +7,8 @@ use Rattle.std.proofs.lemmas.Option.{slice_get_within}
 use Rattle.ghost_model.specs.core.Schema.{Schema, is_empty}
 use Rattle.ghost_model.specs.core.Channel.{Catalog}
 use Rattle.ghost_model.specs.core.Query.{Query, Condition, Compare, Join}
-use Rattle.ghost_model.specs.forms.Layout.{above_of, below, id_directory, id_level, index_directory, index_header, index_level, is_below as lies_below, is_hidden, levels_of, need, spool_end}
-use Rattle.ghost_model.specs.forms.Slots.{IndexHeader, IndexDirectory, IndexLevel, IdDirectory, IdLevel}
+use Rattle.ghost_model.specs.forms.Layout.{above_of, below, is_below as lies_below, is_hidden, levels_of, need, spool_end, IndexHeader, IndexDirectory, IndexLevel, IdDirectory, IdLevel}
+use Rattle.ghost_model.specs.laws.ShortWords.{id_directory, id_level, index_directory, index_header, index_level}
 use Rattle.visible_spool.specs.Areas.{half_begin, half_end}
 use Rattle.entry_lists.specs.Entries.{is_in}
 use Rattle.candidate_knowledge.specs.Known.{IsLevelOf, IsListFile, compares, is_comparison_of, seeks_ids}

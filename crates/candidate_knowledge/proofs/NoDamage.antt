@@ -21,9 +21,10 @@ use Rattle.ghost_model.specs.laws.ListLaws.{ListsPartition, IdListsPartition}
 use Rattle.ghost_model.specs.laws.FlashLaws.{CellsFit}
 use Rattle.ghost_model.specs.laws.RunLaws.{NumbersAreRead}
 use Rattle.ghost_model.specs.forms.Runs.{number_in, number_cell, record_at}
-use Rattle.ghost_model.specs.forms.Layout.{is_hidden, width_at, count_of, levels_of, above_of, descendants_of, subtree_table, column_file}
+use Rattle.ghost_model.specs.forms.Layout.{is_hidden, width_at, count_of, levels_of, above_of, descendants_of, File, Cells, Subtrees, IndexHeader, IndexDirectory, IndexLevel, IdDirectory, IdLevel}
+use Rattle.ghost_model.specs.laws.ShortWords.{subtree_table, column_file}
 use Rattle.ghost_model.specs.forms.Flash.{HoldsFiles, cell_led_to, directory_record, hidden_cells, id_lists, ids, leads_to, value_lists}
-use Rattle.ghost_model.specs.forms.Slots.{File, Cells, Subtrees, IndexHeader, IndexDirectory, IndexLevel, IdDirectory, IdLevel, IsDamagedSlot, IsOutOfOrder, are_rows, begin, child_rows, follow, has_file, in_slot, may_stand, slots_in, spelled}
+use Rattle.ghost_model.specs.forms.Slots.{IsDamagedSlot, IsOutOfOrder, are_rows, begin, child_rows, follow, has_file, in_slot, may_stand, slots_in, spelled}
 use Rattle.ghost_base.specs.CellLaws.{CellOrderIsValueOrder}
 use Rattle.climbing_index.specs.Holding.{HoldsIndexWhole, HoldsIdIndexWhole, values_at, ids_at}
 use Rattle.climbing_index.specs.Laws.{IsOf}

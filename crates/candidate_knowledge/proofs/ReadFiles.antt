@@ -3,8 +3,7 @@ use Rattle.std.proofs.Common.{◌≡◌, refl, inl, inr, ℕ, List, Bool, true}
 use Rattle.ghost_model.specs.core.Values.{Database}
 use Rattle.ghost_model.specs.core.Channel.{Catalog}
 use Rattle.ghost_model.specs.core.Query.{Query}
-use Rattle.ghost_model.specs.forms.Layout.{is_below}
-use Rattle.ghost_model.specs.forms.Slots.{File, Cells, Subtrees, IndexHeader, IndexDirectory, IndexLevel, IdDirectory, IdLevel}
+use Rattle.ghost_model.specs.forms.Layout.{is_below, File, Cells, Subtrees, IndexHeader, IndexDirectory, IndexLevel, IdDirectory, IdLevel}
 use Rattle.condition_lists.specs.Terms.{is_compared}
 use Rattle.candidate_knowledge.specs.Known.{IsBadSlotIn, IsListFile, IsReadByForms, IsReadByIndexes}
 use Rattle.candidate_knowledge.specs.Found.{IsFilePage, IsPageIn, InFile, InReplies, InScratch, WasFoundIn}

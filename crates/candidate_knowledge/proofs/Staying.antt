@@ -12,8 +12,9 @@ use Rattle.ghost_model.specs.laws.ListLaws.{ListsPartition, IdListsPartition}
 use Rattle.ghost_model.specs.laws.FlashLaws.{HoldingsAreKept}
 use Rattle.ghost_model.specs.laws.RunLaws.{NumbersAreRead}
 use Rattle.ghost_model.specs.forms.Runs.{Run, number_in, record_at, found_in}
-use Rattle.ghost_model.specs.forms.Layout.{is_hidden, width_at, count_of, levels_of, above_of, descendants_of, files_end, static_end}
-use Rattle.ghost_model.specs.forms.Slots.{File, Cells, Subtrees, IndexHeader, IndexDirectory, IndexLevel, IdDirectory, IdLevel, AreInOneList, IsBound, IsDamagedIn, before_slot, first_listed, has_file, in_slot, list_end, may_follow, may_stand, run_of_file, slots_in}
+use Rattle.ghost_model.specs.forms.Layout.{is_hidden, width_at, count_of, levels_of, above_of, descendants_of, files_end, static_end, File, Cells, Subtrees, IndexHeader, IndexDirectory, IndexLevel, IdDirectory, IdLevel, run_of_file}
+use Rattle.ghost_model.specs.forms.Slots.{AreInOneList, IsBound, IsDamagedIn, before_slot, has_file, in_slot, list_end, may_follow, may_stand, slots_in}
+use Rattle.ghost_model.specs.laws.ShortWords.{first_listed}
 use Rattle.climbing_index.specs.declared.index.ClimbingIndex.{ClimbingIndex}
 use Rattle.climbing_index.specs.Indexes.{IsIndexOf}
 use Rattle.climbing_index.specs.Searches.{header_count}

@@ -6,8 +6,9 @@ use Rattle.std.specs.Option.{option_map_or}
 use Rattle.ghost_model.specs.core.Schema.{Schema}
 use Rattle.ghost_model.specs.core.Channel.{Catalog}
 use Rattle.ghost_model.specs.core.Query.{Query, Condition, Compare, Join}
-use Rattle.ghost_model.specs.forms.Layout.{above_of, below, id_directory, id_level, index_directory, index_header, index_level, is_below, is_hidden, levels_of, need, spool_end}
-use Rattle.ghost_model.specs.forms.Slots.{File, has_file, run_of_file}
+use Rattle.ghost_model.specs.forms.Layout.{above_of, below, is_below, is_hidden, levels_of, need, spool_end, File, run_of_file}
+use Rattle.ghost_model.specs.laws.ShortWords.{id_directory, id_level, index_directory, index_header, index_level}
+use Rattle.ghost_model.specs.forms.Slots.{has_file}
 use Rattle.edge_traits.specs.Devices.{Device}
 use Rattle.visible_spool.specs.Areas.{half_begin, half_end}
 use Rattle.entry_lists.specs.Entries.{is_in}

@@ -3,11 +3,12 @@ use Rattle.std.proofs.Common.{◌≡◌, ◌∙◌, ℕ, zero, suc, ◌+◌, ◌
 use Rattle.std.specs.List.{list_any}
 use Rattle.std.proofs.lemmas.Bool.{eqb-true}
 use Rattle.std.proofs.lemmas.Bool.Decides.{nat_tests}
-use Rattle.ghost_model.specs.core.Schema.{Schema, Column, columns_of, column_at, is_shown, is_visible, is_empty, places_from}
+use Rattle.ghost_model.specs.core.Schema.{Schema, Column, columns_of, column_at, is_shown, is_visible, is_empty, places_from, places_of}
 use Rattle.ghost_model.specs.core.Channel.{Ask, Test}
 use Rattle.ghost_model.specs.core.Values.{Value}
 use Rattle.ghost_model.specs.core.Query.{Query, Field, Condition, Compare, Join, Operator}
-use Rattle.ghost_model.specs.core.Asks.{ask_for, asks_of, is_needed, is_from, is_wanted, is_field, places, test_of}
+use Rattle.ghost_model.specs.core.Asks.{ask_for, asks_of, is_needed, is_wanted, test_of}
+use Rattle.ghost_model.specs.laws.ShortWords.{is_field, is_from}
 use Rattle.ghost_model.specs.core.Replies.{Reply, reply_about}
 use Rattle.ghost_model.proofs.MeaningLemmas.OneRow.{Among, among-filter, from_filter, from_map, in_table, both_true, neither_true}
 use Rattle.ghost_model.proofs.MeaningLemmas.Leading.{place_within}
@@ -63,13 +64,13 @@ unneeded : (schema : Schema) (asked : Query) (table : ℕ) → is_asked schema a
 unneeded schema asked table none =
     let both = neither_true (list_any (is_shown_of schema table) asked.select) (list_any (is_compared_of schema table) asked.conditions) none in
     ap₂ (λ columns tests. not (is_empty columns && is_empty tests))
-    (none_of (is_wanted schema asked.select table) (places (columns_of schema table)) (no_columns schema asked.select table both.0))
+    (none_of (is_wanted schema asked.select table) (places_of (columns_of schema table)) (no_columns schema asked.select table both.0))
     (no_tests schema asked.conditions table both.1)
 
 pub asked_by : (schema : Schema) (asked : Query) (ask : Ask) → Among ask (asks_of schema asked) → is_asked schema asked ask.table ≡ true
 asked_by schema asked ask among =
-    let needed = from_filter is_needed ask (map (ask_for schema asked) (filter (is_from asked) (places schema))) among in
-    let made = from_map (ask_for schema asked) ask (filter (is_from asked) (places schema)) needed.0 in
+    let needed = from_filter is_needed ask (map (ask_for schema asked) (filter (is_from asked) (places_of schema))) among in
+    let made = from_map (ask_for schema asked) ask (filter (is_from asked) (places_of schema)) needed.0 in
     let table_is : made.0 ≡ ask.table = ap (λ (a : Ask). a.table) made.2 in
     by (is_asked schema asked ask.table) refl (ap (λ t. is_needed (ask_for schema asked t)) (sym table_is) ∙ ap is_needed made.2 ∙ needed.1)
   where
@@ -107,10 +108,10 @@ place_stands at (suc place) (x ∷ xs) h =
     let e : at + 1 + place ≡ at + suc place = omega arith in
     inr (subst (λ n. Among n (places_from (λ _. true) (at + 1) xs)) e (place_stands (at + 1) place xs (omega (arith, h))))
 
-stands_first : {X : Type 0} (place : ℕ) (xs : List X) → place < length xs → Among place (places xs)
+stands_first : {X : Type 0} (place : ℕ) (xs : List X) → place < length xs → Among place (places_of xs)
 stands_first place xs h =
     let e : 0 + place ≡ place = omega arith in
-    subst (λ n. Among n (places xs)) e (place_stands 0 place xs h)
+    subst (λ n. Among n (places_of xs)) e (place_stands 0 place xs h)
 
 -- a column that is asked of a table is one of it
 abbrev HasShown : Schema → List Field → (table : ℕ) → Type 0
@@ -219,7 +220,7 @@ asked_needed schema asked table e = by (list_any (is_shown_of schema table) aske
           there = table_there schema table found.0 found.1;
           needed =
               some_column found.0 (ask_for schema asked table).columns (is_empty (ask_for schema asked table).tests)
-              (among-filter (is_wanted schema asked.select table) found.0 (places (columns_of schema table))
+              (among-filter (is_wanted schema asked.select table) found.0 (places_of (columns_of schema table))
               (stands_first found.0 (columns_of schema table) (place_within (columns_of schema table) found.0 declared.0 declared.1))
               (ap₂ (λ a b. a && b) found.1 found.2));
         }
@@ -239,9 +240,9 @@ pub ask_stands : (schema : Schema) (asked : Query) (table : ℕ) → is_from ask
     → Among (ask_for schema asked table) (asks_of schema asked)
 ask_stands schema asked table from is =
     let needed = asked_needed schema asked table is in
-    among-filter is_needed (ask_for schema asked table) (map (ask_for schema asked) (filter (is_from asked) (places schema)))
-    (to_map (ask_for schema asked) table (filter (is_from asked) (places schema))
-    (among-filter (is_from asked) table (places schema) (stands_first table schema needed.there) from))
+    among-filter is_needed (ask_for schema asked table) (map (ask_for schema asked) (filter (is_from asked) (places_of schema)))
+    (to_map (ask_for schema asked) table (filter (is_from asked) (places_of schema))
+    (among-filter (is_from asked) table (places_of schema) (stands_first table schema needed.there) from))
     needed.needed
 
 found_by : (target : Ask) (reply : Reply) (later : List Reply) (b : Bool) → nat_eq reply.ask.table target.table ≡ b
@@ -287,7 +288,7 @@ pub replies_are_to_asks : WholeRepliesAreToAsks
 replies_are_to_asks schema asked given whole table reply e =
     let is = about table given reply e in
     let ask = subst (λ asks. Among reply.ask asks) whole.asks (mapped given reply is.among) in
-    let needed = from_filter is_needed reply.ask (map (ask_for schema asked) (filter (is_from asked) (places schema))) ask in
-    let made = from_map (ask_for schema asked) reply.ask (filter (is_from asked) (places schema)) needed.0 in
+    let needed = from_filter is_needed reply.ask (map (ask_for schema asked) (filter (is_from asked) (places_of schema))) ask in
+    let made = from_map (ask_for schema asked) reply.ask (filter (is_from asked) (places_of schema)) needed.0 in
     let at : made.0 ≡ table = ap (λ (one : Ask). one.table) made.2 ∙ is.of in
     sym made.2 ∙ ap (ask_for schema asked) at

@@ -6,13 +6,14 @@ use Rattle.std.proofs.lemmas.Bool.{eqb-true, eq-eqb}
 use Rattle.std.proofs.lemmas.List.{length-map}
 use Rattle.std.proofs.lemmas.List.Filters.{sum_by-filter_both}
 use Rattle.std.proofs.lemmas.List.Sums.{sum_by-cons}
-use Rattle.ghost_model.specs.core.Schema.{Schema, is_visible}
+use Rattle.ghost_model.specs.core.Schema.{Schema, is_visible, places_of}
 use Rattle.ghost_model.specs.core.Values.{Value, Row, Database}
 use Rattle.ghost_model.specs.core.Channel.{Catalog, Ask}
 use Rattle.ghost_model.specs.core.Database.{leads, row_count, row_of, rows_of}
 use Rattle.ghost_model.specs.core.Query.{Query, Field, Condition, Compare, Join, is_among, top_of}
+use Rattle.ghost_model.specs.laws.ShortWords as short
 use Rattle.ghost_model.specs.core.Asks as asks
-use Rattle.ghost_model.specs.core.Asks.{ask_for, asks_of, is_needed, places}
+use Rattle.ghost_model.specs.core.Asks.{ask_for, asks_of, is_needed}
 use Rattle.ghost_model.specs.core.Meaning.{answer, no_value}
 use Rattle.ghost_model.specs.core.Replies.{Reply, reply_about, row_replied, hidden_value, known_value, stands_in, answer_from}
 use Rattle.ghost_model.specs.core.Split.{RowValues, Hidden, public_of, hidden_of, value_at}
@@ -442,8 +443,8 @@ whole_about schema database asked table (first ∷ asks) each among =
 
 ask_is : (schema : Schema) (asked : Query) (ask : Ask) → Among ask (asks_of schema asked) → ask ≡ ask_for schema asked ask.table
 ask_is schema asked ask among =
-    let needed = from_filter is_needed ask (map (ask_for schema asked) (filter (asks.is_from asked) (places schema))) among in
-    let made = from_map (ask_for schema asked) ask (filter (asks.is_from asked) (places schema)) needed.0 in
+    let needed = from_filter is_needed ask (map (ask_for schema asked) (filter (short.is_from asked) (places_of schema))) among in
+    let made = from_map (ask_for schema asked) ask (filter (short.is_from asked) (places_of schema)) needed.0 in
     let at : made.0 ≡ ask.table = ap (λ (one : Ask). one.table) made.2 in
     sym made.2 ∙ ap (ask_for schema asked) at
 

@@ -17,7 +17,8 @@ use Rattle.ghost_model.specs.laws.MeaningLaws.{IsAtOrBelow}
 use Rattle.ghost_model.specs.laws.FlashLaws.{RowsLeadByHiddenValues}
 use Rattle.ghost_model.specs.laws.LayoutLaws.{RecordsStandWithin, StandWithin, LevelsAreAncestors}
 use Rattle.ghost_model.specs.forms.Runs.{Run, run_pages, page_of}
-use Rattle.ghost_model.specs.forms.Layout.{levels_of, above_of, is_below, tables_of, descendants_of, count_of, subtree_table, static_end}
+use Rattle.ghost_model.specs.forms.Layout.{levels_of, above_of, is_below, tables_of, descendants_of, count_of, static_end}
+use Rattle.ghost_model.specs.laws.ShortWords.{subtree_table}
 use Rattle.ghost_model.specs.forms.Flash.{leads_to}
 use Rattle.flash_layout.specs.Limits.{HasLayout}
 use Rattle.arrayvec.specs.ArrayVec.{ArrayVec}

@@ -6,7 +6,8 @@ use Rattle.std.specs.List.{list_all}
 use Rattle.std.specs.Cmp.{second_so}
 use Rattle.ghost_model.specs.core.Schema.{Schema, is_visible}
 use Rattle.ghost_model.specs.core.Channel as channel
-use Rattle.ghost_model.specs.core.Asks.{test_bytes, most_tests, ascend_from, is_proper_ask}
+use Rattle.ghost_model.specs.core.Asks.{test_bytes, ascend_from, is_proper_ask}
+use Rattle.ghost_model.specs.laws.ShortWords.{most_tests}
 use Rattle.channel_codec.specs.AskViews.{has_kind, test_view, ask_view}
 use Rattle.channel_codec.specs.declared.ask.Test.{Test}
 use Rattle.channel_codec.specs.declared.ask.Ask.{Ask}

@@ -2,6 +2,7 @@
 
 ghost use Rattle.std.specs.Prelude.{◌≡◌, ◌≤◌, ◌<◌, true, length, slice_index};
 ghost use Rattle.std.specs.Int.{from_be_bytes, w16, w32};
+ghost use Rattle.ghost_model.specs.laws.ShortWords as short;
 ghost use Rattle.ghost_model.specs.forms.Frames as frames;
 ghost use Rattle.channel_codec.specs.Views.{frame_view, got_view};
 
@@ -53,7 +54,7 @@ pub fn serial_in(bytes: &[u8]) -> u32
 /// The number that the first four bytes spell.
 pub fn number_in(bytes: &[u8]) -> u32
     requires { 4 ≤ length bytes.now }
-    ensures { result ≡ frames.payload_number bytes.now }
+    ensures { result ≡ short.payload_number bytes.now }
 {
     u32::from_be_bytes([bytes[0], bytes[1], bytes[2], bytes[3]])
 }

@@ -4,10 +4,9 @@ use Rattle.std.proofs.lemmas.Grind.{flat_map-append}
 use Rattle.std.specs.Prelude.{if◌then◌else◌, not, nat_lt}
 use Rattle.ghost_model.specs.core.Channel.{Catalog, Frame, HelloFrame, AskFrame, MoreFrame, ByeFrame, WelcomeFrame, RowsFrame, DoneFrame, SorryFrame, Move, Dial, Listen, Accept, Send, Take, Close, Answer, Piece, End, Entry, Journal}
 use Rattle.ghost_model.specs.core.Asks.{NumberedAsk}
-use Rattle.ghost_model.specs.forms.Frames.{AreBytes}
+use Rattle.ghost_model.specs.forms.Frames.{AreBytes, frame_in, size_in}
 use Rattle.ghost_model.specs.core.Moves.{taken, piece_of}
 use Rattle.ghost_model.proofs.ChannelLemmas.{bytes_snoc}
-use Rattle.ghost_model.specs.forms.Frames.{frame_in, size_in}
 use Rattle.ghost_model.specs.core.NextMove.{Heard, Standing, Awaits, AwaitsCatalog, AwaitsReply, AwaitsNothing, Verdict, Lacking, Complete, Invalid, GoesOn, IsFinished, standing_after, heard, hear_all, heard_as, after_frame, verdict, header_fits, payload_fits, next_with, is_close}
 use Rattle.channel_pump.specs.Turning.{event_of, event_at, event_after}
 use Rattle.channel_pump.proofs.CuttingLemmas.{cut}

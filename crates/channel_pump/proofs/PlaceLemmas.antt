@@ -2,7 +2,7 @@
 use Rattle.std.proofs.Common.{◌≡◌, ℕ, ◌+◌, ◌-◌, Bool, not, ◌&&◌, ◌==◌, nat_lt, List, [], ◌∷◌, length, if◌then◌else◌, refl, ap, ◌∙◌}
 use Rattle.ghost_model.specs.core.Schema as schema
 use Rattle.ghost_model.specs.core.Channel as channel
-use Rattle.ghost_model.specs.core.Channel.{Catalog, row_count_in}
+use Rattle.ghost_model.specs.core.Channel.{Catalog, count_of}
 use Rattle.ghost_model.specs.core.Asks.{NumberedAsk, rows_in}
 use Rattle.ghost_model.specs.forms.Frames as frames
 use Rattle.ghost_model.specs.core.NextMove as next
@@ -45,7 +45,7 @@ form_fits_is : (catalog : Catalog) (form : Form) (asked : NumberedAsk) (count la
     → form_fits form count last frame ≡ next.reply_fits catalog asked.ask count last frame
 form_fits_is catalog form asked count last (channel.RowsFrame _ payload) h =
     ap (λ (n : ℕ). next.rows_fit n last (form_kinds form) (rows_with (form_kinds form) payload)) h.rows
-    ∙ ap (λ (kinds : List schema.Kind). next.rows_fit (row_count_in catalog asked.ask.table) last kinds (rows_with kinds payload)) h.kinds
+    ∙ ap (λ (kinds : List schema.Kind). next.rows_fit (count_of catalog asked.ask.table) last kinds (rows_with kinds payload)) h.kinds
 form_fits_is catalog form asked count last (channel.DoneFrame _ total) h = refl
 form_fits_is catalog form asked count last (channel.SorryFrame _ code) h = refl
 form_fits_is catalog form asked count last (channel.HelloFrame _) h = refl

@@ -3,7 +3,7 @@
 use Rattle.std.specs.Prelude.{◌≡◌, ℕ, ◌+◌, ◌≤◌, ◌/◌, List, [], ◌∷◌, length, map, sum}
 use Rattle.ghost_model.specs.core.Schema as schema
 use Rattle.ghost_model.specs.forms.Cells.{cell_width}
-use Rattle.ghost_model.specs.core.Channel.{Catalog, row_count_in}
+use Rattle.ghost_model.specs.core.Channel.{Catalog, count_of}
 use Rattle.ghost_model.specs.core.Asks.{NumberedAsk, RowCells, ask_payload, kinds_of, rows_from}
 use Rattle.channel_pump.specs.Forms.{Form}
 
@@ -15,7 +15,7 @@ pub record IsAskForm (catalog : Catalog) (form : Form) (asked : NumberedAsk) : T
   pub text : form.text ≡ asked.text
   pub payload : form.payload ≡ ask_payload catalog.schema asked.ask
   pub kinds : form_kinds form ≡ kinds_of catalog.schema asked.ask
-  pub rows : form.rows ≡ row_count_in catalog asked.ask.table
+  pub rows : form.rows ≡ count_of catalog asked.ask.table
   pub in_script : form.text ≤ 64
   pub ask : form.ask ≡ asked.ask
 

@@ -2,7 +2,7 @@
 use Rattle.std.specs.Prelude.{◌≡◌, ◌≤◌, ℕ, true, List, [], ◌∷◌, length, map, IsTrue}
 use Rattle.std.specs.List.{list_all}
 use Rattle.ghost_model.specs.core.Schema.{Schema, Kind}
-use Rattle.ghost_model.specs.core.Channel.{Catalog, row_count_in}
+use Rattle.ghost_model.specs.core.Channel.{Catalog, count_of}
 use Rattle.ghost_model.specs.core.Asks.{NumberedAsk, ask_payload, kinds_of}
 use Rattle.script_asks.specs.Left.{are_proper}
 use Rattle.channel_pump.specs.Forms.{Form}
@@ -13,7 +13,7 @@ form_asked catalog asked = record {
   text = asked.text;
   payload = ask_payload catalog.schema asked.ask;
   kinds = kinds_of catalog.schema asked.ask;
-  rows = row_count_in catalog asked.ask.table;
+  rows = count_of catalog asked.ask.table;
   ask = asked.ask;
 }
 

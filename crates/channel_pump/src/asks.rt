@@ -4,7 +4,7 @@ ghost use Rattle.std.specs.Prelude.{◌≡◌, ◌≤◌, ◌==◌, ◌*◌, tru
 ghost use Rattle.std.specs.List.{list_all, list_any};
 ghost use Rattle.ghost_model.specs.core.Asks as asked;
 ghost use Rattle.ghost_model.specs.core.Schema.{is_empty};
-ghost use Rattle.ghost_model.specs.core.Channel.{row_count_in as table_rows};
+ghost use Rattle.ghost_model.specs.core.Channel.{count_of as table_rows};
 ghost use Rattle.ghost_model.specs.core.Texts.{texts_of};
 ghost use Rattle.ghost_base.specs.Views.{kind_of};
 ghost use Rattle.channel_codec.specs.AskViews.{ask_view};

@@ -1,6 +1,7 @@
 //! What the bytes of the frame at hand amount to.
 
 ghost use Rattle.std.specs.Prelude.{◌≡◌, ◌+◌, ◌≤◌, ◌&&◌, ◌==◌, true, length, drop, is_some, IfSome, slice_index, IsTrue, map};
+ghost use Rattle.ghost_model.specs.laws.ShortWords as short;
 ghost use Rattle.ghost_model.specs.forms.Frames as frames;
 ghost use Rattle.ghost_model.specs.core.NextMove as next;
 ghost use Rattle.ghost_base.specs.Views.{kind_of};
@@ -71,7 +72,7 @@ fn reply_header(form: &AskForm, serial: u32, header: &[u8]) -> bool
 /// Whether a payload welcomes a part of these missing bytes.
 fn welcomes(missing: &Missing, payload: &[u8]) -> bool
     requires { 1 ≤ length payload.now }
-    ensures { result ≡ next.welcome_fits missing.now (slice_index payload.now 0) (drop 1 payload.now) }
+    ensures { result ≡ short.welcome_fits missing.now (slice_index payload.now 0) (drop 1 payload.now) }
 {
     let (_last, part) = payload.split_at(1);
     let last = if part.len() == missing.len() { 1 } else { 0 };

@@ -6,8 +6,8 @@ use Rattle.ghost_model.specs.core.Channel.{Catalog}
 use Rattle.ghost_model.specs.laws.LayoutLaws.{FilesLieAsSummed, LayoutIsSmall}
 use Rattle.ghost_model.specs.laws.RunLaws.{NumbersAreRead}
 use Rattle.ghost_model.specs.forms.Runs.{Run, record_at, number_in, page_of, slot_of, found_in}
-use Rattle.ghost_model.specs.forms.Layout.{is_hidden, count_of, above_of}
-use Rattle.ghost_model.specs.forms.Slots.{IndexHeader, IndexDirectory, IdDirectory, IsDamagedSlot}
+use Rattle.ghost_model.specs.forms.Layout.{is_hidden, count_of, above_of, IndexHeader, IndexDirectory, IdDirectory}
+use Rattle.ghost_model.specs.forms.Slots.{IsDamagedSlot}
 use Rattle.ghost_base.specs.Runs.{run_of}
 use Rattle.flash_pages.specs.declared.fault.PageFault.TheVariants.{Damaged}
 use Rattle.climbing_index.specs.declared.index.ClimbingIndex.{ClimbingIndex}

@@ -8,6 +8,7 @@ use Rattle.std.proofs.Math.Seq.{take-append_seam}
 use Rattle.std.proofs.lemmas.Map.Keys.{Less-from_sorted}
 use Rattle.std.proofs.lemmas.List.Elements.{Contains-get_or}
 use Rattle.std.proofs.lemmas.Option.{slice_get-get_or}
+use Rattle.ghost_model.specs.forms.Layout as layout
 use Rattle.ghost_model.specs.core.Schema as schema
 use Rattle.ghost_model.specs.core.Channel.{Catalog}
 use Rattle.ghost_model.specs.core.Asks.{kind_at}
@@ -17,7 +18,8 @@ use Rattle.ghost_model.specs.laws.LayoutLaws.{LieAsSummed, AreFew, LayoutIsSmall
 use Rattle.ghost_model.specs.laws.FlashLaws.{CellsFit, HiddenCellsFit}
 use Rattle.ghost_model.specs.laws.RunLaws.{NumbersAreRead}
 use Rattle.ghost_model.specs.forms.Runs.{record_at, number_in}
-use Rattle.ghost_model.specs.forms.Layout.{is_hidden, width_at, count_of, levels_of, above_of, index_directory, index_level, id_level}
+use Rattle.ghost_model.specs.forms.Layout.{is_hidden, width_at, count_of, levels_of, above_of}
+use Rattle.ghost_model.specs.laws.ShortWords.{index_directory, index_level, id_level}
 use Rattle.ghost_model.specs.forms.Flash.{hidden_cells, directory_record, value_lists}
 use Rattle.ghost_model.specs.forms.Slots as slots
 use Rattle.ghost_base.specs.Views.{kind_of}
@@ -68,7 +70,7 @@ same_places cat (level ∷ levels) (table ∷ tables) size counts bytes =
 
 -- and those of an id index
 pub same_id_entry : (cat : Catalog) → LieAsSummed cat → (table : ℕ) → table < length cat.schema → (index : IdIndex) → IsIdIndexOf cat table index
-    → (bytes : List ℕ) → entry_stands index.directory bytes ≡ slots.may_stand cat (slots.IdDirectory table) bytes
+    → (bytes : List ℕ) → entry_stands index.directory bytes ≡ slots.may_stand cat (layout.IdDirectory table) bytes
 same_id_entry cat laid table there index is bytes =
     let levels = index.directory.levels.items in
     let count = length (above_of cat.schema table) in
@@ -82,7 +84,7 @@ same_id_entry cat laid table there index is bytes =
 
 module _ (cat : Catalog) (laid : LieAsSummed cat) (table column : ℕ) (hidden_is : is_hidden cat.schema table column ≡ true)
     (index : ClimbingIndex) (is : IsIndexOf cat table column index) where
-  pub same_entry : (bytes : List ℕ) → entry_stands index.directory bytes ≡ slots.may_stand cat (slots.IndexDirectory table column) bytes
+  pub same_entry : (bytes : List ℕ) → entry_stands index.directory bytes ≡ slots.may_stand cat (layout.IndexDirectory table column) bytes
   same_entry bytes =
       let levels = index.directory.levels.items in
       let count = length (levels_of cat.schema table) in

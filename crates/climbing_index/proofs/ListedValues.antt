@@ -14,10 +14,12 @@ use Rattle.ghost_model.specs.laws.ListLaws.{ListsPartition, IdListsPartition}
 use Rattle.ghost_model.specs.laws.FlashLaws.{CellsFit, HiddenCellsFit, HiddenPartsGoWithCatalogs}
 use Rattle.ghost_model.specs.laws.RunLaws.{NumbersAreRead}
 use Rattle.ghost_model.specs.forms.Runs.{Run, record_at, number_in, number_cell, id_at, ids_from}
+use Rattle.ghost_model.specs.laws.ShortWords as short
 use Rattle.ghost_model.specs.forms.Layout as layout
-use Rattle.ghost_model.specs.forms.Layout.{is_hidden, width_at, count_of, levels_of, above_of, below, index_level, id_level}
+use Rattle.ghost_model.specs.forms.Layout.{is_hidden, width_at, count_of, levels_of, above_of, below, File, IndexDirectory, IdDirectory}
+use Rattle.ghost_model.specs.laws.ShortWords.{index_level, id_level, first_listed}
 use Rattle.ghost_model.specs.forms.Flash.{directory_record, list_place, value_lists, id_lists}
-use Rattle.ghost_model.specs.forms.Slots.{File, IndexDirectory, IdDirectory, in_slot, may_stand, is_row, first_listed}
+use Rattle.ghost_model.specs.forms.Slots.{in_slot, may_stand, is_row}
 use Rattle.ghost_base.specs.Runs.{run_of}
 use Rattle.ghost_base.specs.declared.runs.ListRef.{ListRef}
 use Rattle.climbing_index.specs.declared.directory.LevelFile.{LevelFile}
@@ -144,7 +146,7 @@ module _ (cat : Catalog) (database : Database) (of : IsOf cat database) (levels 
     bytes_are =
         ap (λ r. record_at page r entry) is.run_is
         ∙ its_record page cat (IndexDirectory table column) entry _ (holds.entries entry there)
-        (sym (same_entry cat laid table column h index is (record_at page (layout.index_directory cat table column) entry))
+        (sym (same_entry cat laid table column h index is (record_at page (short.index_directory cat table column) entry))
         ∙ (sym (ap (λ r. entry_stands index.directory (record_at page r entry)) is.run_is) ∙ given.listed.stands))
 
     placed : IsPlaced list (values_at cat hidden table column values level) entry
@@ -181,7 +183,7 @@ module _ (cat : Catalog) (database : Database) (of : IsOf cat database) (levels 
     id_bytes_are =
         ap (λ r. record_at page r entry) is.run_is
         ∙ its_record page cat (IdDirectory table) entry _ (holds.entries entry there)
-        (sym (same_id_entry cat laid table inside index is (record_at page (layout.id_directory cat table) entry))
+        (sym (same_id_entry cat laid table inside index is (record_at page (short.id_directory cat table) entry))
         ∙ (sym (ap (λ r. entry_stands index.directory (record_at page r entry)) is.run_is) ∙ given.listed.stands))
 
     id_placed : IsPlaced list (ids_at cat hidden table level) entry

@@ -4,7 +4,8 @@ use Rattle.std.proofs.lemmas.List.Sums.{sum_by_more, sum_by-take-le}
 use Rattle.ghost_model.specs.core.Schema.{is_empty}
 use Rattle.ghost_model.specs.core.Channel.{Catalog}
 use Rattle.ghost_model.specs.forms.Runs.{Run, run_end}
-use Rattle.ghost_model.specs.forms.Layout.{is_hidden, levels_of, above_of, column_count, index_header, index_directory, index_level, id_directory, id_level, files_end, need}
+use Rattle.ghost_model.specs.forms.Layout.{is_hidden, levels_of, above_of, files_end, need}
+use Rattle.ghost_model.specs.laws.ShortWords.{column_count, index_header, index_directory, index_level, id_directory, id_level}
 use Rattle.ghost_model.specs.laws.LayoutSums as sums
 use Rattle.ghost_model.specs.laws.LayoutLaws.{LieAsSummed, LieInOrder, RecordsStandWithin, StandWithin}
 use Rattle.ghost_model.proofs.LayoutLemmas.Order.{sums_rise}

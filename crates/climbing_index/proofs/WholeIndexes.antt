@@ -23,9 +23,9 @@ use Rattle.ghost_model.specs.laws.ListLaws.{ListsPartition, IdListsPartition}
 use Rattle.ghost_model.specs.laws.FlashLaws.{CellsFit, HiddenValuesOfDatabases, HiddenCellsFit, HiddenPartsGoWithCatalogs}
 use Rattle.ghost_model.specs.laws.RunLaws.{NumbersAreRead}
 use Rattle.ghost_model.specs.forms.Runs.{record_at, number_in, number_cell}
-use Rattle.ghost_model.specs.forms.Layout.{is_hidden, width_at, count_of, levels_of, above_of}
+use Rattle.ghost_model.specs.forms.Layout.{is_hidden, width_at, count_of, levels_of, above_of, IndexHeader, IndexDirectory, IndexLevel, IdDirectory, IdLevel}
 use Rattle.ghost_model.specs.forms.Flash.{HoldsIndex, HoldsIdIndexes, AreValues, hidden_cells, directory_record, value_lists, id_lists, ids}
-use Rattle.ghost_model.specs.forms.Slots.{IndexHeader, IndexDirectory, IndexLevel, IdDirectory, IdLevel, in_slot, may_stand, is_row, are_places}
+use Rattle.ghost_model.specs.forms.Slots.{in_slot, may_stand, is_row, are_places}
 use Rattle.ghost_model.proofs.MeaningLemmas.Leading.{get_within}
 use Rattle.ghost_model.proofs.FlashLemmas.Values.{count_there}
 use Rattle.climbing_index.specs.Holding.{HasRecord, HoldsIndexWhole, HoldsIdIndexWhole, values_at, ids_at}

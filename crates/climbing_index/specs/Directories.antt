@@ -4,7 +4,8 @@ use Rattle.ghost_model.specs.forms.Cells.{cell_width}
 use Rattle.ghost_model.specs.readings.CellReading.{decode_cell}
 use Rattle.ghost_model.specs.forms.Runs as runs
 use Rattle.ghost_model.specs.forms.Runs.{record_at, page_of, slot_of, found_in, number_in}
-use Rattle.ghost_model.specs.forms.Slots.{first_listed, list_end}
+use Rattle.ghost_model.specs.forms.Slots.{list_end}
+use Rattle.ghost_model.specs.laws.ShortWords.{first_listed}
 use Rattle.edge_traits.specs.Devices.{Device}
 use Rattle.ghost_base.specs.Runs.{run_of}
 use Rattle.ghost_base.specs.Views.{kind_of}

@@ -4,10 +4,10 @@ use Rattle.std.specs.Prelude.{◌≡◌, ◌⊎◌, ℕ, ◌<◌, ◌≤◌, tru
 use Rattle.std.specs.List.{concat}
 use Rattle.ghost_model.specs.core.Channel.{Catalog}
 use Rattle.ghost_model.specs.core.Split.{Hidden}
-use Rattle.ghost_model.specs.forms.Layout.{count_of, levels_of, above_of}
+use Rattle.ghost_model.specs.forms.Layout.{count_of, levels_of, above_of, File, IndexHeader, IndexDirectory, IndexLevel, IdDirectory, IdLevel}
 use Rattle.ghost_model.specs.forms.Runs.{number_cell}
 use Rattle.ghost_model.specs.forms.Flash.{AreValues, hidden_cells, directory_record, value_lists, id_lists}
-use Rattle.ghost_model.specs.forms.Slots.{File, IndexHeader, IndexDirectory, IndexLevel, IdDirectory, IdLevel, in_slot, may_stand}
+use Rattle.ghost_model.specs.forms.Slots.{in_slot, may_stand}
 
 -- the slot has this record, which may stand there
 pub record HasRecord (page : ℕ → List ℕ) (cat : Catalog) (file : File) (place : ℕ) (bytes : List ℕ) : Type 0 where

@@ -2,7 +2,8 @@
 use Rattle.std.specs.Prelude.{◌≡◌, ℕ, length, map, Some, None, option_map}
 use Rattle.ghost_model.specs.core.Channel.{Catalog}
 use Rattle.ghost_model.specs.core.Asks.{kind_at}
-use Rattle.ghost_model.specs.forms.Layout.{below, width_at, levels_of, above_of, index_header, index_directory, index_level, id_directory, id_level}
+use Rattle.ghost_model.specs.forms.Layout.{below, width_at, levels_of, above_of}
+use Rattle.ghost_model.specs.laws.ShortWords.{index_header, index_directory, index_level, id_directory, id_level}
 use Rattle.edge_traits.specs.Devices.{Device}
 use Rattle.ghost_base.specs.Runs.{run_of}
 use Rattle.ghost_base.specs.Views.{kind_of}

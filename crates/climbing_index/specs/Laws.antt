@@ -9,7 +9,8 @@ use Rattle.ghost_model.specs.core.Split.{Hidden, hidden_of}
 use Rattle.ghost_model.specs.laws.LayoutLaws.{IsLimited}
 use Rattle.ghost_model.specs.forms.Layout.{is_hidden, count_of, levels_of, above_of}
 use Rattle.ghost_model.specs.forms.Runs.{id_at, ids_from}
-use Rattle.ghost_model.specs.forms.Flash.{GoesWith, HoldsIndex, HoldsIdIndexes}
+use Rattle.ghost_model.specs.forms.Flash.{HoldsIndex, HoldsIdIndexes}
+use Rattle.ghost_model.specs.laws.FlashLaws.{GoesWith}
 use Rattle.ghost_model.specs.forms.Slots.{IsDamagedSlot, is_row}
 use Rattle.ghost_base.specs.Runs.{run_of}
 use Rattle.ghost_base.specs.declared.runs.ListRef.{ListRef}

@@ -4,12 +4,11 @@ use Rattle.std.specs.Prelude.{◌≢◌, ◌||◌, unwrap_or}
 use Rattle.std.specs.List.{list_all}
 use Rattle.std.specs.Option.{option_map_or}
 use Rattle.std.proofs.lemmas.Bool.{eqb-true}
-use Rattle.ghost_model.specs.core.Schema.{Schema}
+use Rattle.ghost_model.specs.core.Schema.{Schema, is_visible}
 use Rattle.ghost_model.specs.core.Values.{Database}
 use Rattle.ghost_model.specs.core.Channel.{Catalog}
 use Rattle.ghost_model.specs.core.Database.{leads}
 use Rattle.ghost_model.specs.core.Meaning.{compares, no_value}
-use Rattle.ghost_model.specs.core.Schema.{is_visible}
 use Rattle.ghost_model.specs.core.Query.{Query, Condition, Compare, Join, is_among, top_of}
 use Rattle.ghost_model.specs.core.Replies as replies
 use Rattle.ghost_model.specs.core.Replies.{known_value, reply_about}

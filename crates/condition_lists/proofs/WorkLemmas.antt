@@ -6,12 +6,13 @@ use Rattle.std.specs.List.{range_with_len, list_any}
 use Rattle.std.proofs.lemmas.Bool.{eqb-true}
 use Rattle.std.proofs.lemmas.Cmp.{nat_eq_equiv}
 use Rattle.std.proofs.lemmas.List.Sums.{length-filter, sum_by-cons, sum_by-append}
-use Rattle.ghost_model.specs.core.Schema.{Schema, is_empty, is_visible, places_from}
+use Rattle.ghost_model.specs.core.Schema.{Schema, is_empty, is_visible, places_from, places_of}
 use Rattle.ghost_model.specs.core.Values.{Value, Number, Rows, Database}
 use Rattle.ghost_model.specs.core.Channel.{Catalog, Ask}
 use Rattle.ghost_model.specs.core.Database.{holds, leads, rows_of, value_at_row}
 use Rattle.ghost_model.specs.core.Meaning.{compares}
-use Rattle.ghost_model.specs.core.Asks.{asks_of, ask_for, is_needed, is_from, places, tests_of}
+use Rattle.ghost_model.specs.core.Asks.{asks_of, ask_for, is_needed}
+use Rattle.ghost_model.specs.laws.ShortWords.{tests_of, is_from, values_met, rows_met, search_work}
 use Rattle.ghost_model.specs.core.Query.{Query, Operator, Condition, Compare, Join}
 use Rattle.ghost_model.specs.core.Replies as replies
 use Rattle.ghost_model.specs.core.Replies.{reply_about, row_replied}
@@ -37,7 +38,7 @@ use Rattle.condition_lists.specs.declared.term.Term.TheVariants.{Ranges, Entries
 use Rattle.condition_lists.specs.Bounds.{lies_within}
 use Rattle.condition_lists.specs.Terms.{AreEntriesOf, AreIdentifiersOf, IsTermOf, IsReplyTermOf, AreTermsOf, IsIdIndexAt, is_in_one, is_compared}
 use Rattle.condition_lists.specs.Laws.{IsOver}
-use Rattle.ghost_model.specs.forms.QueryWork.{union_work, search_work, values_of, count_values, values_met, rows_met, rows_leading, values_work, condition_work, honest_rows, reply_work}
+use Rattle.ghost_model.specs.forms.QueryWork.{union_work, values_of, count_values, rows_leading, values_work, condition_work, honest_rows, reply_work}
 use Rattle.condition_lists.specs.Costs.{rows_meeting, values_within, replied_count, term_cost}
 use Rattle.condition_lists.specs.CostLaws.{WorkGrows}
 use Rattle.condition_lists.proofs.CountLemmas.{ranges_once, among_map, counted, at_most, same_count}
@@ -390,16 +391,16 @@ module _ (schema : Schema) (database : Database) (asked : Query) (top : ℕ) whe
       inr (subst (λ n. Among n (places_from (λ _. true) (at + 1) xs)) moved (place_stands (at + 1) place xs (omega (arith, low))))
 
   -- a compared table of FROM is asked
-  pub asked_table : (table : ℕ) → Among table asked.from → table < length schema → Among table (filter (is_from asked) (places schema))
+  pub asked_table : (table : ℕ) → Among table asked.from → table < length schema → Among table (filter (is_from asked) (places_of schema))
   asked_table table among low =
-      among-filter (is_from asked) table (places schema) (subst (λ n. Among n (places schema)) (let e : 0 + table ≡ table = omega arith in e) (place_stands 0 table schema low)) (among_is table asked.from among)
+      among-filter (is_from asked) table (places_of schema) (subst (λ n. Among n (places_of schema)) (let e : 0 + table ≡ table = omega arith in e) (place_stands 0 table schema low)) (among_is table asked.from among)
 
   pub its_ask : (table : ℕ) → Among table asked.from → table < length schema → is_compared schema asked table ≡ true
       → Among (ask_for schema asked table) (asks_of schema asked) × (is_empty (ask_for schema asked table).tests ≡ false)
   its_ask table among low compared =
       let tests = compared_tests table asked.conditions compared in (
-        among-filter is_needed (ask_for schema asked table) (map (ask_for schema asked) (filter (is_from asked) (places schema)))
-            (among_map (ask_for schema asked) table (filter (is_from asked) (places schema)) (asked_table table among low))
+        among-filter is_needed (ask_for schema asked table) (map (ask_for schema asked) (filter (is_from asked) (places_of schema)))
+            (among_map (ask_for schema asked) table (filter (is_from asked) (places_of schema)) (asked_table table among low))
             (ap (λ b. not (is_empty (ask_for schema asked table).columns && b)) tests ∙ not_both (is_empty (ask_for schema asked table).columns)),
         tests,
       )
@@ -411,8 +412,8 @@ module _ (schema : Schema) (database : Database) (asked : Query) (top : ℕ) whe
   pub tables_work : (tables : List ℕ) → Distinct tables → ((table : ℕ) → Among table tables → Among table asked.from × (table < length schema))
       → sum_by work_of tables ≤ sum_by (reply_work schema database top) (asks_of schema asked)
   tables_work tables once each =
-      let most = sum_within work_of tables (filter (is_from asked) (places schema)) once (λ table among. asked_table table (each table among).0 (each table among).1) in
-      let same = asks_work (filter (is_from asked) (places schema)) in
+      let most = sum_within work_of tables (filter (is_from asked) (places_of schema)) once (λ table among. asked_table table (each table among).0 (each table among).1) in
+      let same = asks_work (filter (is_from asked) (places_of schema)) in
       omega (arith, most, same)
 
 pub conditions_work : (work : Condition → ℕ) (p : Condition → Bool) (conditions : List Condition) → sum_by work (filter p conditions) ≤ sum_by work conditions

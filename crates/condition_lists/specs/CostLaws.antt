@@ -29,7 +29,8 @@ use Rattle.condition_lists.specs.Bounds.{AreOfKind}
 use Rattle.condition_lists.specs.Terms.{AreIdsOf, AreTermsBy, IsIndexAt, IsIdIndexAt, IsBehind, IsTermOf, IsReplyTermOf}
 use Rattle.condition_lists.specs.Laws.{IsOver, IsMet, AreGroupsOf, AreReplied, lists_in, replied_ids}
 use Rattle.condition_lists.specs.Costs.{rows_meeting, values_within, replied_count, term_cost}
-use Rattle.ghost_model.specs.forms.QueryWork.{bits, union_work, search_work, values_of, count_values, condition_work, reply_work, row_work, work}
+use Rattle.ghost_model.specs.forms.QueryWork.{bits, union_work, values_of, count_values, condition_work, reply_work, row_work, work}
+use Rattle.ghost_model.specs.laws.ShortWords.{search_work}
 
 -- more lists, or more identifiers in them, are no less work
 pub record WorkGrows : Type 0 where

@@ -14,7 +14,8 @@ use Rattle.condition_lists.specs.declared.term.Term.{Term}
 use Rattle.condition_lists.specs.declared.term.Term.TheVariants.{Ranges, Entries, Identifiers, TopReply, Reply}
 use Rattle.condition_lists.specs.Bounds.{lies_within}
 use Rattle.condition_lists.specs.Terms.{meets}
-use Rattle.ghost_model.specs.forms.QueryWork.{union_work, search_work, values_of, count_values}
+use Rattle.ghost_model.specs.forms.QueryWork.{union_work, values_of, count_values}
+use Rattle.ghost_model.specs.laws.ShortWords.{search_work}
 
 -- how many rows of the top table meet a term
 abbrev pub rows_meeting : Catalog → Database → List replies.Reply → (top : ℕ) → Term → ℕ

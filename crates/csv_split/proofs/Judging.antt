@@ -2,7 +2,8 @@
 use Rattle.std.proofs.Common.{◌≡◌, Bool, true, false, List, [], ◌++◌, Option, Some, None, Result, Ok, Err, sym, ap, subst}
 use Rattle.ghost_model.specs.refusals.LoadFaults as faults
 use Rattle.csv_split.specs.declared.faults.LoadFault.{LoadFault}
-use Rattle.ghost_model.specs.refusals.LoadFaults.{IsFirst, Judges, TellsFirst, unless}
+use Rattle.ghost_model.specs.refusals.LoadFaults.{unless}
+use Rattle.ghost_model.specs.laws.LoadLaws.{IsFirst, Judges, TellsFirst}
 
 -- the first fault of a part is that of the whole that begins with it
 pub first_more : (told : Option faults.LoadFault) (part later : List faults.LoadFault) → TellsFirst told part → TellsFirst told (part ++ later)

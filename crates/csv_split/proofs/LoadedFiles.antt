@@ -2,7 +2,8 @@
 use Rattle.std.proofs.Common.{◌≡◌, ◌≤◌, ◌<◌, ◌+◌, ◌∙◌, ℕ, List, [], ◌∷◌, ◌++◌, length, drop, get_or, sym, ap, ap₂, refl, append_assoc, append-nil, Option, Result, Ok, Err, IfOk, MatchResult}
 use Rattle.std.proofs.lemmas.List.{drop_all}
 use Rattle.std.proofs.lemmas.Option.{slice_get-get_or}
-use Rattle.ghost_model.specs.refusals.LoadFaults.{Judges, LoadFault, file_faults, files_faults}
+use Rattle.ghost_model.specs.refusals.LoadFaults.{LoadFault, file_faults, files_faults}
+use Rattle.ghost_model.specs.laws.LoadLaws.{Judges}
 use Rattle.ghost_model.specs.core.Schema as schema
 use Rattle.ghost_model.specs.core.Values.{Rows, Database}
 use Rattle.ghost_model.specs.core.Database.{database_of, rows_spelled}

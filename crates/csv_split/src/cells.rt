@@ -1,6 +1,7 @@
 //! The cells of one column of a table.
 
 ghost use Rattle.std.specs.Prelude.{◌≡◌, ◌<◌, ◌≤◌, ◌^◌, ◌++◌, ◌∷◌, [], length, map, slice_get, option_map, OnOk, Err};
+ghost use Rattle.ghost_model.specs.laws.LoadLaws as load_laws;
 ghost use Rattle.ghost_model.specs.core.Schema as schema;
 ghost use Rattle.ghost_model.specs.core.Values.{Number, Text};
 ghost use Rattle.ghost_model.specs.forms.Cells as cells;
@@ -62,7 +63,7 @@ impl Cells {
     /// Puts the value that a field spells at the end, unless the field breaks the rule of the column's kind.
     pub fn take(&mut self, at: Place, field: &[u8]) -> Result<(), LoadFault>
         requires room { length (values_in self.old) < 2 ^ 32 }
-        ensures judged { faults.Judges told result (faults.value_faults (place_of at) (kind_in self.old) field.now) }
+        ensures judged { load_laws.Judges told result (faults.value_faults (place_of at) (kind_in self.old) field.now) }
         ensures memory { result ≡ Err LoadFault.NoMemory → faults.value_faults (place_of at) (kind_in self.old) field.now ≡ [] }
         ensures values { OnOk result (values_in self.new ≡ values_in self.old ++ database.value_of_field (kind_in self.old) field.now ∷ []) }
         ensures kind { kind_in self.new ≡ kind_in self.old }
@@ -76,7 +77,7 @@ impl Cells {
 
 /// Puts the integer that a field spells at the end.
 fn take_number(numbers: &mut Vec<i64>, at: Place, field: &[u8]) -> Result<(), LoadFault>
-    ensures judged { faults.Judges told result (faults.value_faults (place_of at) schema.Integer field.now) }
+    ensures judged { load_laws.Judges told result (faults.value_faults (place_of at) schema.Integer field.now) }
     ensures memory { result ≡ Err LoadFault.NoMemory → faults.value_faults (place_of at) schema.Integer field.now ≡ [] }
     ensures values { OnOk result (map Number numbers.new.items ≡ map Number numbers.old.items ++ database.value_of_field schema.Integer field.now ∷ []) }
 {
@@ -92,7 +93,7 @@ fn take_number(numbers: &mut Vec<i64>, at: Place, field: &[u8]) -> Result<(), Lo
 /// Puts the text that a field is at the end.
 fn take_text(texts: &mut Texts, at: Place, field: &[u8]) -> Result<(), LoadFault>
     requires room { length texts.old.texts < 2 ^ 32 }
-    ensures judged { faults.Judges told result (faults.value_faults (place_of at) (schema.Chars texts.old.width) field.now) }
+    ensures judged { load_laws.Judges told result (faults.value_faults (place_of at) (schema.Chars texts.old.width) field.now) }
     ensures memory { result ≡ Err LoadFault.NoMemory → faults.value_faults (place_of at) (schema.Chars texts.old.width) field.now ≡ [] }
     ensures values { OnOk result (map Text texts.new.texts ≡ map Text texts.old.texts ++ Text field.now ∷ []) }
     ensures width { texts.new.width ≡ texts.old.width }

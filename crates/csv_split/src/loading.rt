@@ -1,6 +1,7 @@
 //! The tables of a schema, from their files.
 
 ghost use Rattle.std.specs.Prelude.{◌≡◌, ◌<◌, ◌++◌, ◌∷◌, List, [], length, map, Err, IfErr, IfOk, OnOk, MatchResult, Some, None};
+ghost use Rattle.ghost_model.specs.laws.LoadLaws as load_laws;
 ghost use Rattle.ghost_model.specs.core.Database as database;
 ghost use Rattle.ghost_model.specs.refusals.LoadFaults as faults;
 ghost use Rattle.ghost_model.specs.core.Schema as schemas;
@@ -26,7 +27,7 @@ pub fn read_table(
     file: &[u8],
 ) -> Result<Table, LoadFault>
     requires { table < length schema.now }
-    ensures judged { faults.Judges told result (faults.file_faults table (schemas.columns_of schema.now table) file.now) }
+    ensures judged { load_laws.Judges told result (faults.file_faults table (schemas.columns_of schema.now table) file.now) }
     ensures rows { IfOk result (λ read. read ≡ database.rows_spelled (schemas.columns_of schema.now table) file.now) }
 {
     let declared = declared_columns(schema, table);
@@ -54,7 +55,7 @@ pub fn read_tables(alloc: Global, schema: &Schema, files: &[Vec<u8>]) -> Result<
 fn put_table(tables: &mut Tables, read: Result<Table, LoadFault>) -> Result<(), LoadFault>
     ensures same { (fault : LoadFault) → read ≡ Err fault → result ≡ Err fault }
     ensures memory { IfErr result (λ fault. IfOk read (λ _. fault ≡ LoadFault.NoMemory)) }
-    ensures first { (found : List faults.LoadFault) → faults.Judges told read found → IfErr result (λ fault. faults.TellsFirst (told fault) found) }
+    ensures first { (found : List faults.LoadFault) → load_laws.Judges told read found → IfErr result (λ fault. load_laws.TellsFirst (told fault) found) }
     ensures tables { OnOk result (MatchResult read (λ table. tables.new ≡ tables.old ++ table ∷ []) (λ _. ⊥)) }
 {
     let table = read?;
@@ -67,7 +68,7 @@ fn put_table(tables: &mut Tables, read: Result<Table, LoadFault>) -> Result<(), 
 /// The tables that files spell, their foreign keys not being looked at.
 fn read_files(alloc: Global, schema: &Schema, files: &[Vec<u8>]) -> Result<Tables, LoadFault>
     requires { length files.now ≡ length schema.now }
-    ensures judged { faults.Judges told result (faults.files_faults 0 schema.now (map (λ file. file.items) files.now)) }
+    ensures judged { load_laws.Judges told result (faults.files_faults 0 schema.now (map (λ file. file.items) files.now)) }
     ensures tables { IfOk result (λ tables. tables ≡ database.database_of schema.now (map (λ file. file.items) files.now)) }
 {
     let mut tables = Tables::new(alloc);

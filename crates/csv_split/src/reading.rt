@@ -2,6 +2,7 @@
 
 ghost use Rattle.std.specs.Prelude.{◌≡◌, ◌≤◌, ◌⊎◌, ◌&&◌, [], map, drop, Err, IfOk, IfErr, OnOk};
 ghost use Rattle.csv.specs.Records.{fields_of};
+ghost use Rattle.ghost_model.specs.laws.LoadLaws as load_laws;
 ghost use Rattle.ghost_model.specs.core.Database as database;
 ghost use Rattle.ghost_model.specs.refusals.LoadFaults as faults;
 ghost use Rattle.csv_split.specs.Faults.{told};
@@ -28,7 +29,7 @@ pub(crate) fn read_rows(
     file: &[u8],
 ) -> Result<Table, LoadFault>
     requires { AreColumns (columns_of declared.now) }
-    ensures judged { faults.Judges told result (faults.file_faults table (with_identifier (columns_of declared.now)) file.now) }
+    ensures judged { load_laws.Judges told result (faults.file_faults table (with_identifier (columns_of declared.now)) file.now) }
     ensures rows { IfOk result (λ read. read ≡ database.rows_spelled (with_identifier (columns_of declared.now)) file.now) }
 {
     if file.len() > MAX_CSV {
@@ -56,7 +57,7 @@ fn judge_header(
     row: &ByteRecord,
 ) -> Result<(), LoadFault>
     requires { AreColumns (columns_of declared.now) }
-    ensures judged { faults.Judges told result (faults.unless (found && faults.is_header (with_identifier (columns_of declared.now)) (fields_of row.now)) (faults.Header (faults.place table 1 0))) }
+    ensures judged { load_laws.Judges told result (faults.unless (found && faults.is_header (with_identifier (columns_of declared.now)) (fields_of row.now)) (faults.Header (faults.place table 1 0))) }
     ensures tells { NeverWants result }
 {
     if !found || !is_header(declared, row) {
@@ -77,7 +78,7 @@ fn take_header(
     row: &mut ByteRecord,
 ) -> Result<(), LoadFault>
     requires { AreColumns (columns_of declared.now) }
-    ensures judged { IfErr result (λ fault. faults.TellsFirst (told fault) (faults.record_faults table (with_identifier (columns_of declared.now)) records.old)) }
+    ensures judged { IfErr result (λ fault. load_laws.TellsFirst (told fault) (faults.record_faults table (with_identifier (columns_of declared.now)) records.old)) }
     ensures faults { OnOk result (faults.record_faults table (with_identifier (columns_of declared.now)) records.old ≡ faults.rows_faults table 1 (with_identifier (columns_of declared.now)) records.new) }
     ensures left { OnOk result (drop 1 records.old ≡ records.new) }
 {
@@ -113,7 +114,7 @@ fn take_rows(
     requires declared { AreColumns (columns_of declared.now) }
     requires kinds { AreOfKinds (columns_of declared.now) columns.old }
     requires none { HaveAll 0 (column_values columns.old) }
-    ensures judged { faults.Judges told result (faults.rows_faults table 1 (with_identifier (columns_of declared.now)) records.old) }
+    ensures judged { load_laws.Judges told result (faults.rows_faults table 1 (with_identifier (columns_of declared.now)) records.old) }
     ensures memory { result ≡ Err LoadFault.NoMemory → (records.new ≡ []) ⊎ WantsForRow table (columns_of declared.now) records.old records.new }
     ensures rows { IfOk result (λ count. rows_in count (column_values columns.new) ≡ map (database.row_spelled (with_identifier (columns_of declared.now))) records.old) }
     ensures few { IfOk result (λ count. count ≤ faults.most_rows) }

@@ -1,6 +1,8 @@
 //! Whether foreign keys are identifiers of rows.
 
 ghost use Rattle.std.specs.Prelude.{◌≡◌, ◌≤◌, ◌<◌, ◌+◌, length, map};
+ghost use Rattle.ghost_model.specs.laws.ShortWords as short;
+ghost use Rattle.ghost_model.specs.laws.LoadLaws as load_laws;
 ghost use Rattle.ghost_model.specs.core.Database as database;
 ghost use Rattle.ghost_model.specs.refusals.LoadFaults as faults;
 ghost use Rattle.ghost_base.specs.Views.{value_of};
@@ -17,7 +19,7 @@ use tree_schema::{Column, Schema};
 
 /// Tells the first foreign key, by table, record and column, that is the identifier of no row of its child table.
 pub fn check_references(schema: &Schema, tables: &Tables) -> Result<(), LoadFault>
-    ensures judged { faults.Judges told result (faults.reference_faults schema.now tables.now) }
+    ensures judged { load_laws.Judges told result (short.reference_faults schema.now tables.now) }
     ensures tells { NeverWants result }
 {
     for table in 0..schema.tables() {
@@ -29,7 +31,7 @@ pub fn check_references(schema: &Schema, tables: &Tables) -> Result<(), LoadFaul
 /// Tells the first foreign key of a table that is the identifier of no row.
 pub(crate) fn check_table(tables: &Tables, table: u8, columns: &[Column]) -> Result<(), LoadFault>
     requires { length columns.now ≤ 24 }
-    ensures judged { faults.Judges told result (faults.table_references tables.now table 2 (map column_of columns.now) (database.rows_of tables.now table)) }
+    ensures judged { load_laws.Judges told result (faults.table_references tables.now table 2 (map column_of columns.now) (database.rows_of tables.now table)) }
     ensures tells { NeverWants result }
 {
     for place in 0..tables.rows(table as usize) {
@@ -51,7 +53,7 @@ fn check_row(
     identifier: Id,
 ) -> Result<(), LoadFault>
     requires { length columns.now ≤ 24 }
-    ensures judged { faults.Judges told result (faults.row_reference_faults tables.now at.table at.rec 0 (map column_of columns.now) (row_or_none (database.row_of tables.now at.table identifier))) }
+    ensures judged { load_laws.Judges told result (faults.row_reference_faults tables.now at.table at.rec 0 (map column_of columns.now) (row_or_none (database.row_of tables.now at.table identifier))) }
     ensures tells { NeverWants result }
 {
     for (i, column) in columns.iter().enumerate() {
@@ -66,7 +68,7 @@ fn check_row(
 
 /// Tells a value that is the identifier of no row of the child table, where the column is a foreign key.
 fn check_key(tables: &Tables, at: Place, identifier: Id, child: Option<u8>) -> Result<(), LoadFault>
-    ensures judged { faults.Judges told result (key_faults_in tables.now (place_of at) child (database.value_at_row tables.now at.table identifier at.column)) }
+    ensures judged { load_laws.Judges told result (key_faults_in tables.now (place_of at) child (database.value_at_row tables.now at.table identifier at.column)) }
     ensures tells { NeverWants result }
 {
     let Some(child) = child else {

@@ -2,6 +2,7 @@
 
 ghost use Rattle.std.specs.Prelude.{◌≡◌, ◌≤◌, ◌+◌, ◌∷◌, [], length, map, drop, get_or, pos, OnOk, Err, IfErr};
 ghost use Rattle.csv.specs.Records.{fields_of};
+ghost use Rattle.ghost_model.specs.laws.LoadLaws as load_laws;
 ghost use Rattle.ghost_model.specs.core.Database as database;
 ghost use Rattle.ghost_model.specs.refusals.LoadFaults as faults;
 ghost use Rattle.ghost_model.specs.core.Values.{Number};
@@ -32,7 +33,7 @@ pub(crate) fn field_of(row: &ByteRecord, place: usize) -> &[u8]
 /// rows, the number of the fields, and the identifier.
 fn judge_row(table: u8, number: u32, declared: &[Column], row: &ByteRecord) -> Result<(), LoadFault>
     requires { number ≤ faults.most_rows + 1 }
-    ensures broken { IfErr result (λ fault. faults.TellsFirst (told fault) (faults.row_faults table number (with_identifier (columns_of declared.now)) (fields_of row.now))) }
+    ensures broken { IfErr result (λ fault. load_laws.TellsFirst (told fault) (faults.row_faults table number (with_identifier (columns_of declared.now)) (fields_of row.now))) }
     ensures kept { OnOk result (faults.row_faults table number (with_identifier (columns_of declared.now)) (fields_of row.now)
         ≡ faults.field_faults table (number + 1) 1 (columns_of declared.now) (drop 1 (fields_of row.now))) }
     ensures few { OnOk result (number ≤ faults.most_rows) }
@@ -69,7 +70,7 @@ pub(crate) fn take_row(
     requires few { length declared.now ≤ 23 }
     requires kinds { AreOfKinds (columns_of declared.now) columns.old }
     requires room { AtMost faults.most_rows (column_values columns.old) }
-    ensures judged { faults.Judges told result (faults.row_faults table number (with_identifier (columns_of declared.now)) (fields_of row.now)) }
+    ensures judged { load_laws.Judges told result (faults.row_faults table number (with_identifier (columns_of declared.now)) (fields_of row.now)) }
     ensures memory { result ≡ Err LoadFault.NoMemory → WantsForField table (number + 1) (columns_of declared.now) (fields_of row.now) }
     ensures memory_last { result ≡ Err LoadFault.NoMemory → faults.row_faults table number (with_identifier (columns_of declared.now)) (fields_of row.now)
         ≡ faults.field_faults table (number + 1) 1 (columns_of declared.now) (drop 1 (fields_of row.now)) }
@@ -98,7 +99,7 @@ fn take_fields(
     requires width { length (fields_of row.now) ≡ length declared.now + 1 }
     requires kinds { AreOfKinds (columns_of declared.now) columns.old }
     requires room { AtMost faults.most_rows (column_values columns.old) }
-    ensures judged { faults.Judges told result (faults.field_faults at.table at.rec 1 (columns_of declared.now) (drop 1 (fields_of row.now))) }
+    ensures judged { load_laws.Judges told result (faults.field_faults at.table at.rec 1 (columns_of declared.now) (drop 1 (fields_of row.now))) }
     ensures memory { result ≡ Err LoadFault.NoMemory → WantsForField at.table at.rec (columns_of declared.now) (fields_of row.now) }
     ensures values { OnOk result (column_values columns.new ≡ with_row (column_values columns.old) (database.row_spelled (columns_of declared.now) (drop 1 (fields_of row.now)))) }
     ensures kinds { AreOfKinds (columns_of declared.now) columns.new }

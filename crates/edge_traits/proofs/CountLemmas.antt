@@ -6,7 +6,8 @@ use Rattle.std.proofs.lemmas.List.{map-append}
 use Rattle.std.proofs.lemmas.List.Folds.{list_any-append}
 use Rattle.ghost_model.specs.core.Causes.{Rose, last_count}
 use Rattle.ghost_model.specs.core.Channel.{Entry, Journal}
-use Rattle.ghost_model.specs.core.Moves.{answer_of, answers}
+use Rattle.ghost_model.specs.core.Moves.{answers}
+use Rattle.ghost_model.specs.laws.ShortWords.{answer_of}
 use Rattle.edge_traits.specs.Counting.{is_failure, has_failed, FaultsTell, WentCounting}
 
 or_false : (b : Bool) → (b || false) ≡ b

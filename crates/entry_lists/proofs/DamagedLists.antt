@@ -7,8 +7,9 @@ use Rattle.std.proofs.lemmas.List.Elements.{Contains-append_cases}
 use Rattle.ghost_model.specs.core.Channel.{Catalog}
 use Rattle.ghost_model.specs.laws.LayoutLaws.{FilesLieAsSummed}
 use Rattle.ghost_model.specs.forms.Runs.{Run, page_of, slot_of, record_at, id_at, found_in, number_in}
-use Rattle.ghost_model.specs.forms.Layout.{count_of, levels_of, above_of, index_level, id_level}
-use Rattle.ghost_model.specs.forms.Slots.{IsDamagedSlot, IndexLevel, IdLevel, is_row}
+use Rattle.ghost_model.specs.forms.Layout.{count_of, levels_of, above_of, IndexLevel, IdLevel}
+use Rattle.ghost_model.specs.laws.ShortWords.{index_level, id_level}
+use Rattle.ghost_model.specs.forms.Slots.{IsDamagedSlot, is_row}
 use Rattle.ghost_base.specs.Runs.{run_of}
 use Rattle.climbing_index.specs.declared.directory.Directory.{Directory}
 use Rattle.climbing_index.specs.declared.index.IdIndex.{IdIndex}

@@ -10,7 +10,8 @@ use Rattle.ghost_model.specs.core.Channel.{Catalog}
 use Rattle.ghost_model.specs.forms.Layout.{count_of}
 use Rattle.ghost_model.specs.forms.Runs as runs
 use Rattle.ghost_model.specs.forms.Runs.{record_at, number_in, id_at, ids_from}
-use Rattle.ghost_model.specs.forms.Slots.{is_row, list_end, first_listed}
+use Rattle.ghost_model.specs.forms.Slots.{is_row, list_end}
+use Rattle.ghost_model.specs.laws.ShortWords.{first_listed}
 use Rattle.ghost_base.specs.declared.runs.ListRef.{ListRef}
 use Rattle.ghost_base.specs.Runs.{run_of}
 use Rattle.flash_pages.proofs.RunFrames.{ids_from-get}

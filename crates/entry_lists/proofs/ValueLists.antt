@@ -15,9 +15,10 @@ use Rattle.ghost_model.specs.laws.ListLaws.{ListsPartition, IdListsPartition}
 use Rattle.ghost_model.specs.laws.RunLaws.{NumbersAreRead}
 use Rattle.ghost_model.specs.forms.Runs.{Run, record_at, number_in}
 use Rattle.ghost_model.specs.forms.Layout as layout
-use Rattle.ghost_model.specs.forms.Layout.{is_hidden, count_of, levels_of, above_of, index_level, id_level, index_directory, id_directory}
+use Rattle.ghost_model.specs.forms.Layout.{is_hidden, count_of, levels_of, above_of, IndexDirectory, IdDirectory}
+use Rattle.ghost_model.specs.laws.ShortWords.{index_level, id_level, index_directory, id_directory}
 use Rattle.ghost_model.specs.forms.Flash.{cell_led_to, leads_to, ids}
-use Rattle.ghost_model.specs.forms.Slots.{IndexDirectory, IdDirectory, in_slot, may_stand, is_row}
+use Rattle.ghost_model.specs.forms.Slots.{in_slot, may_stand, is_row}
 use Rattle.ghost_base.specs.Runs.{run_of}
 use Rattle.climbing_index.specs.declared.directory.Directory.{Directory}
 use Rattle.climbing_index.specs.declared.index.ClimbingIndex.{ClimbingIndex}

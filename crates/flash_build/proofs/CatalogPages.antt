@@ -6,7 +6,7 @@ use Rattle.ghost_model.specs.core.Channel.{Catalog}
 use Rattle.ghost_model.specs.forms.Catalog.{catalog_bytes}
 use Rattle.ghost_model.specs.forms.Flash.{catalog_page}
 use Rattle.ghost_model.specs.forms.Layout.{below, public_pages}
-use Rattle.ghost_model.specs.forms.Work.{catalog_pages}
+use Rattle.ghost_model.specs.laws.ShortWords.{catalog_pages}
 use Rattle.edge_traits.specs.Devices.{Device, Counts, ChangesOnly}
 use Rattle.edge_traits.proofs.DeviceFrames.{changes_trans, changes_wider}
 use Rattle.flash_build.specs.Sealing.{HoldsFrom, SpellsNoCatalog, public_bytes}

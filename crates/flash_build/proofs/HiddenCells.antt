@@ -16,9 +16,8 @@ use Rattle.ghost_model.specs.core.Split.{Hidden}
 use Rattle.ghost_model.specs.core.Replies.{hidden_places}
 use Rattle.ghost_model.specs.forms.Layout.{is_hidden}
 use Rattle.ghost_model.specs.laws.LayoutLaws.{AreNarrow}
-use Rattle.ghost_model.specs.forms.Flash.{GoesWith, hidden_cells}
-use Rattle.ghost_model.specs.laws.FlashLaws.{hidden_before, CellsFit, HiddenValuesByPlace, HiddenValuesOfDatabases, HiddenPartsGoWithCatalogs, HiddenCellsFit}
-use Rattle.ghost_model.specs.forms.Flash.{IsHidden}
+use Rattle.ghost_model.specs.forms.Flash.{hidden_cells, IsHidden}
+use Rattle.ghost_model.specs.laws.FlashLaws.{GoesWith, hidden_before, CellsFit, HiddenValuesByPlace, HiddenValuesOfDatabases, HiddenPartsGoWithCatalogs, HiddenCellsFit}
 use Rattle.ghost_model.proofs.LayoutLemmas.Columns.{hidden_or_none, width_or_none}
 use Rattle.flash_build.specs.Cells.{AreOfKind, cell_at, cells_at, value_at}
 

@@ -9,6 +9,7 @@ use Rattle.ghost_model.specs.core.Channel.{Catalog}
 use Rattle.ghost_model.specs.core.Split.{Hidden}
 use Rattle.ghost_model.specs.forms.Runs.{Run, run_pages, run_end}
 use Rattle.ghost_model.specs.forms.Flash.{HoldsLists, id_lists}
+use Rattle.ghost_model.specs.laws.ShortWords as short
 use Rattle.ghost_model.specs.forms.Layout as layout
 use Rattle.ghost_model.specs.forms.Layout.{below, count_of, levels_of, above_of}
 use Rattle.ghost_model.specs.laws.LayoutSums.{levels_pages, id_index_begin, id_index_pages, id_directory_pages}
@@ -27,7 +28,7 @@ use Rattle.flash_build.proofs.Entries.{all_below, all_few, all_ranked, are_level
 use Rattle.flash_build.proofs.IndexPlaces.{IsIdIndex, is_id_index, no_bytes, no_heads}
 
 module _ (cat : Catalog) (hidden : Hidden) (table : ℕ) (laid : HasLayout cat) (there : table < length cat.schema) (some : is_empty (above_of cat.schema table) ≡ false)
-    (run first : Run) (is : run ≡ layout.id_directory cat table) (level : first ≡ layout.id_level cat table 0) (all rest : List (Vec ℕ Global))
+    (run first : Run) (is : run ≡ short.id_directory cat table) (level : first ≡ short.id_level cat table 0) (all rest : List (Vec ℕ Global))
     (ranked : AreRankedAbove cat hidden table (below (count_of cat table)) (levels_of cat.schema table) (map items_of all)) (same : rest ≡ drop 1 all) where
   pub at : IsIdIndex cat table run first
   at = is_id_index cat table run first laid there some is level
@@ -81,7 +82,7 @@ module _ (cat : Catalog) (hidden : Hidden) (table : ℕ) (laid : HasLayout cat) 
         → HoldsIdIndex page cat hidden table
     holds {page = page} law stand =
         let lists = id_lists cat hidden table in
-        let file = layout.id_level cat table in
+        let file = short.id_level cat table in
         let tables = above_of cat.schema table in
         let begin = id_index_begin cat table + id_directory_pages cat table in
         let here : AreLevels (map items_of rest) (count_of cat table) begin tables lists file =
@@ -90,5 +91,5 @@ module _ (cat : Catalog) (hidden : Hidden) (table : ℕ) (laid : HasLayout cat) 
         let moved : AreLevels (map items_of rest) run.count first.first tables lists file =
         subst (λ n. AreLevels (map items_of rest) n first.first tables lists file) (sym at.count)
         (subst (λ n. AreLevels (map items_of rest) (count_of cat table) n tables lists file) (sym at.begin) here) in
-        subst (λ n. HoldsLists page (layout.id_directory cat table) file (replicate n no_bytes) tables lists) at.count
+        subst (λ n. HoldsLists page (short.id_directory cat table) file (replicate n no_bytes) tables lists) at.count
         (subst (λ r. HoldsLists page r file (replicate run.count no_bytes) tables lists) is (stand tables lists file moved))

@@ -6,6 +6,7 @@ use Rattle.std.proofs.lemmas.List.{length-replicate, get_or-replicate}
 use Rattle.ghost_model.specs.core.Schema.{is_empty}
 use Rattle.ghost_model.specs.core.Channel.{Catalog}
 use Rattle.ghost_model.specs.forms.Runs.{Run, pages_of, per_page, run_pages}
+use Rattle.ghost_model.specs.laws.ShortWords as short
 use Rattle.ghost_model.specs.forms.Layout as layout
 use Rattle.ghost_model.specs.forms.Layout.{is_hidden, count_of, levels_of, above_of}
 use Rattle.ghost_model.specs.laws.LayoutSums.{index_begin, index_pages, directory_pages, directory_width, levels_pages, id_index_begin, id_index_pages, id_directory_pages}
@@ -26,7 +27,7 @@ pub record IsIdIndex (cat : Catalog) (table : ℕ) (run first : Run) : Type 0 wh
 
 pub is_id_index :
     (cat : Catalog) (table : ℕ) (run first : Run) → HasLayout cat → table < length cat.schema → is_empty (above_of cat.schema table) ≡ false
-    → run ≡ layout.id_directory cat table → first ≡ layout.id_level cat table 0 → IsIdIndex cat table run first
+    → run ≡ short.id_directory cat table → first ≡ short.id_level cat table 0 → IsIdIndex cat table run first
 is_id_index cat table run first laid there h is level =
     let some = some_in (above_of cat.schema table) h in
     let at = laid.sums.id_level table 0 there some in
@@ -59,7 +60,7 @@ pages_rise n m p some low =
 
 pub is_index :
     (cat : Catalog) (table column : ℕ) (room first : Run) (entries : ℕ) → HasLayout cat → is_hidden cat.schema table column ≡ true → 0 < length (levels_of cat.schema table)
-    → entries ≤ count_of cat table → room ≡ layout.index_directory cat table column → first ≡ layout.index_level cat table column 0
+    → entries ≤ count_of cat table → room ≡ short.index_directory cat table column → first ≡ short.index_level cat table column 0
     → IsIndex cat table column room first entries
 is_index cat table column room first entries laid h own few is level =
     let width = directory_width cat.schema table column in

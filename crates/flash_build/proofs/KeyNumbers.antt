@@ -14,8 +14,8 @@ use Rattle.ghost_model.specs.core.Split as split
 use Rattle.ghost_model.specs.core.Split.{Hidden}
 use Rattle.ghost_model.specs.core.Replies.{hidden_places}
 use Rattle.ghost_model.specs.forms.Layout.{is_hidden, count_of}
-use Rattle.ghost_model.specs.forms.Flash.{IsHidden, GoesWith}
-use Rattle.ghost_model.specs.laws.FlashLaws.{hidden_before, HiddenValuesByPlace, HiddenValuesOfDatabases, HiddenPartsGoWithCatalogs}
+use Rattle.ghost_model.specs.forms.Flash.{IsHidden}
+use Rattle.ghost_model.specs.laws.FlashLaws.{GoesWith, hidden_before, HiddenValuesByPlace, HiddenValuesOfDatabases, HiddenPartsGoWithCatalogs}
 use Rattle.ghost_model.proofs.LayoutLemmas.Columns.{hidden_or_none}
 use Rattle.ghost_model.proofs.MeaningLemmas.OneRow.{child_is}
 use Rattle.ghost_model.proofs.MeaningLemmas.Leading.{told_place, get_within, place_within, first_some, not_to_false}

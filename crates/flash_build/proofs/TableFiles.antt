@@ -6,9 +6,10 @@ use Rattle.ghost_model.specs.core.Split.{Hidden}
 use Rattle.ghost_model.specs.laws.SchemaTrees.{IsTree}
 use Rattle.ghost_model.specs.forms.Runs.{Run, Stores, run_pages, pages_of}
 use Rattle.ghost_model.specs.forms.Layout as layout
-use Rattle.ghost_model.specs.forms.Layout.{below, tables_of, column_count, is_hidden, count_of, above_of, descendants_of, column_file, column_pages, columns_pages, subtree_table, files_end, public_pages}
+use Rattle.ghost_model.specs.forms.Layout.{below, tables_of, is_hidden, count_of, above_of, descendants_of, files_end, public_pages}
+use Rattle.ghost_model.specs.laws.ShortWords.{column_count, column_file, subtree_table}
+use Rattle.ghost_model.specs.laws.LayoutSums.{column_pages, columns_pages, column_pages_before, table_begin, table_pages, column_begin, subtree_begin, subtree_pages, indexes_begin, index_begin, index_pages, indexes_pages, id_index_begin, id_index_pages}
 use Rattle.ghost_model.specs.forms.Flash.{HoldsFiles, HoldsIndex, hidden_cells, subtree_record, ids}
-use Rattle.ghost_model.specs.laws.LayoutSums.{column_pages_before, table_begin, table_pages, column_begin, subtree_begin, subtree_pages, indexes_begin, index_begin, index_pages, indexes_pages, id_index_begin, id_index_pages}
 use Rattle.ghost_model.specs.laws.LayoutLaws.{LieAsSummed, LieInOrder}
 use Rattle.ghost_model.specs.forms.Work.{file_pages}
 use Rattle.ghost_model.specs.laws.WorkLaws.{PagesAddUp, index_written, indexes_written, table_written}

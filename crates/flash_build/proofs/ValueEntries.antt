@@ -12,6 +12,7 @@ use Rattle.ghost_model.specs.forms.Work.{value_count}
 use Rattle.ghost_model.specs.laws.WorkLaws.{ValuesAreCounted, index_written}
 use Rattle.ghost_model.specs.laws.FlashLaws.{CellsFit}
 use Rattle.ghost_model.proofs.RunLemmas.{run_kept}
+use Rattle.ghost_model.specs.laws.ShortWords as short
 use Rattle.ghost_model.specs.forms.Layout as layout
 use Rattle.ghost_model.specs.forms.Layout.{is_hidden, width_at, count_of, levels_of}
 use Rattle.ghost_model.specs.laws.LayoutSums.{index_begin, index_pages, directory_pages, directory_width, levels_pages}
@@ -43,7 +44,7 @@ ranks_long cat hidden table column ranks shown fit h are = are.ranked.long ∙ f
 module _ (cat : Catalog) (hidden : Hidden) (table column : ℕ) (laid : HasLayout cat) (h : is_hidden cat.schema table column ≡ true) (own_there : 0 < length (levels_of cat.schema table))
     (fit : CellsFit cat hidden) (ranks shown : List ℕ) (are : Ranks (hidden_cells cat.schema hidden table column) ranks shown)
     (below : All (λ rank. rank < length shown) ranks) (least : length shown ≤ count_of cat table)
-    (room first : Run) (is : room ≡ layout.index_directory cat table column) (level : first ≡ layout.index_level cat table column 0) (all : List (Vec ℕ Global))
+    (room first : Run) (is : room ≡ short.index_directory cat table column) (level : first ≡ short.index_level cat table column 0) (all : List (Vec ℕ Global))
     (levels : AreRankedAbove cat hidden table ranks (levels_of cat.schema table) (map items_of all)) where
   abbrev pub values : List (List ℕ)
   values = cells_of_rows (hidden_cells cat.schema hidden table column) shown
@@ -119,7 +120,7 @@ module _ (cat : Catalog) (hidden : Hidden) (table column : ℕ) (laid : HasLayou
         → HoldsEntries page cat hidden table column values
     holds {page = page} cells same law stand =
         let lists = value_lists cat hidden table column values in
-        let file = layout.index_level cat table column in
+        let file = short.index_level cat table column in
         let tables = levels_of cat.schema table in
         let begin = index_begin cat table column + 1 + directory_pages cat table column in
         let long = ranks_long cat hidden table column ranks shown fit h are in
@@ -129,7 +130,7 @@ module _ (cat : Catalog) (hidden : Hidden) (table column : ℕ) (laid : HasLayou
         let moved : AreLevels (map items_of all) count first.first tables lists file =
         subst (λ n. AreLevels (map items_of all) n first.first tables lists file) (size ∙ sym e)
         (subst (λ n. AreLevels (map items_of all) (length values) n tables lists file) (sym at.begin) here) in
-        let run : directory count ≡ record (layout.index_directory cat table column) { count = length values } =
+        let run : directory count ≡ record (short.index_directory cat table column) { count = length values } =
         runs_same (ap (λ (r : Run). r.first) is) (e ∙ sym size) (ap (λ (r : Run). r.width) is) in
         subst (λ r. HoldsLists page r file values tables lists) run
         (subst (λ (cs : List (List ℕ)). HoldsLists page (directory count) file (cells_of_rows cs shown) tables lists) same (stand tables lists file moved))
@@ -143,12 +144,12 @@ module _ (cat : Catalog) (hidden : Hidden) (table column : ℕ) (laid : HasLayou
   held_size : length held ≡ length shown
   held_size = length-map shown (λ row. get_or (hidden_cells cat.schema hidden table column) row [])
 
-  pub index_holds : {b c : Device} (run : Run) → run ≡ layout.index_header cat table column → (number : ℕ) → number ≡ length shown
+  pub index_holds : {b c : Device} (run : Run) → run ≡ short.index_header cat table column → (number : ℕ) → number ≡ length shown
       → Stores b.page (record { first = run.first; count = 1; width = 4 }) (number_cell number ∷ [])
       → ChangesOnly (index_begin cat table column + 1) (index_begin cat table column + index_pages cat table column) b c
       → HoldsEntries c.page cat hidden table column held → HoldsIndex c.page cat hidden table column
   index_holds {b = b} {c = c} run is number e stores changes entries =
-      let header = layout.index_header cat table column in
+      let header = short.index_header cat table column in
       let first = laid.sums.index_header table column h in
       let run_is : record { first = run.first; count = 1; width = 4 } ≡ header = runs_same (ap (λ (r : Run). r.first) is) refl refl in
       let here : Stores b.page header (number_cell number ∷ []) = subst (λ r. Stores b.page r (number_cell number ∷ [])) run_is stores in

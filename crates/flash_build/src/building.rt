@@ -1,12 +1,11 @@
 //! The hidden part on the flash.
 
 ghost use Rattle.std.specs.Prelude.{◌≡◌, ◌<◌, ◌≤◌, ◌+◌, true, Err, OnOk};
-ghost use Rattle.ghost_model.specs.forms.Flash.{HoldsFiles};
+ghost use Rattle.ghost_model.specs.forms.Flash.{HoldsFiles, IsHidden};
 ghost use Rattle.ghost_model.specs.forms.Layout as layout;
 ghost use Rattle.ghost_model.specs.forms.Work as work;
 ghost use Rattle.edge_traits.specs.Devices.{Counts, ChangesOnly};
 ghost use Rattle.flash_build.specs.Building.{IsBlank};
-ghost use Rattle.ghost_model.specs.forms.Flash.{IsHidden};
 ghost use Rattle.flash_build.specs.Faults.{BuildCause, EndsAtFault, IsLargeEnough};
 ghost use Rattle.flash_build.specs.declared.faults.BuildFault.TheVariants as fault;
 

@@ -1,14 +1,14 @@
 //! The column files of a table.
 
 ghost use Rattle.std.specs.Prelude.{◌≡◌, ◌<◌, ◌+◌, ℕ, true, [], length, get_or, OnOk};
-ghost use Rattle.ghost_model.specs.forms.Flash.{hidden_cells};
+ghost use Rattle.ghost_model.specs.forms.Flash.{hidden_cells, IsHidden};
+ghost use Rattle.ghost_model.specs.laws.ShortWords as short;
 ghost use Rattle.ghost_model.specs.forms.Layout as layout;
 ghost use Rattle.ghost_model.specs.laws.LayoutSums as sums;
 ghost use Rattle.ghost_model.specs.forms.Runs.{Stores};
 ghost use Rattle.flash_pages.specs.Filling.{CanFill};
 ghost use Rattle.flash_build.specs.Sources.{cells_of};
 ghost use Rattle.flash_build.specs.Building.{Wrote};
-ghost use Rattle.ghost_model.specs.forms.Flash.{IsHidden};
 
 use crate::faults::BuildFault;
 use crate::keys::hidden_before;
@@ -58,9 +58,9 @@ fn write_file<F: Flash>(
 ) -> Result<(), BuildFault>
     requires part { IsHidden laid.now hidden.now }
     requires hidden { layout.is_hidden laid.now.schema table column ≡ true }
-    requires can { CanFill (F.state flash.old) (sums.column_begin laid.now table column) (layout.column_pages laid.now table column) }
-    ensures stores { OnOk result (F.told ≡ true → Stores (F.state flash.new).page (layout.column_file laid.now table column) (hidden_cells laid.now.schema hidden.now table column)) }
-    ensures wrote { Wrote (sums.column_begin laid.now table column) (sums.column_begin laid.now table column + layout.column_pages laid.now table column) (layout.column_pages laid.now table column) (F.state flash.old) (F.state flash.new) result }
+    requires can { CanFill (F.state flash.old) (sums.column_begin laid.now table column) (sums.column_pages laid.now table column) }
+    ensures stores { OnOk result (F.told ≡ true → Stores (F.state flash.new).page (short.column_file laid.now table column) (hidden_cells laid.now.schema hidden.now table column)) }
+    ensures wrote { Wrote (sums.column_begin laid.now table column) (sums.column_begin laid.now table column + sums.column_pages laid.now table column) (sums.column_pages laid.now table column) (F.state flash.old) (F.state flash.new) result }
 {
     layout_laws(laid);
     let run = laid.column_file(table, column);
@@ -78,9 +78,9 @@ fn write_column<F: Flash>(
     buf: &mut [u8; 2048],
 ) -> Result<(), BuildFault>
     requires part { IsHidden laid.now hidden.now }
-    requires can { CanFill (F.state flash.old) (sums.column_begin laid.now table column) (layout.column_pages laid.now table column) }
-    ensures stores { OnOk result (F.told ≡ true → layout.is_hidden laid.now.schema table column ≡ true → Stores (F.state flash.new).page (layout.column_file laid.now table column) (hidden_cells laid.now.schema hidden.now table column)) }
-    ensures wrote { Wrote (sums.column_begin laid.now table column) (sums.column_begin laid.now table column + layout.column_pages laid.now table column) (layout.column_pages laid.now table column) (F.state flash.old) (F.state flash.new) result }
+    requires can { CanFill (F.state flash.old) (sums.column_begin laid.now table column) (sums.column_pages laid.now table column) }
+    ensures stores { OnOk result (F.told ≡ true → layout.is_hidden laid.now.schema table column ≡ true → Stores (F.state flash.new).page (short.column_file laid.now table column) (hidden_cells laid.now.schema hidden.now table column)) }
+    ensures wrote { Wrote (sums.column_begin laid.now table column) (sums.column_begin laid.now table column + sums.column_pages laid.now table column) (sums.column_pages laid.now table column) (F.state flash.old) (F.state flash.new) result }
 {
     if laid.is_hidden(table, column) {
         write_file(laid, hidden, table, column, flash, buf)
@@ -98,9 +98,9 @@ pub(crate) fn write_columns<F: Flash>(
     buf: &mut [u8; 2048],
 ) -> Result<(), BuildFault>
     requires part { IsHidden laid.now hidden.now }
-    requires can { CanFill (F.state flash.old) (sums.table_begin laid.now table) (layout.columns_pages laid.now table) }
-    ensures stores { OnOk result (F.told ≡ true → (column : ℕ) → layout.is_hidden laid.now.schema table column ≡ true → Stores (F.state flash.new).page (layout.column_file laid.now table column) (hidden_cells laid.now.schema hidden.now table column)) }
-    ensures wrote { Wrote (sums.table_begin laid.now table) (sums.subtree_begin laid.now table) (layout.columns_pages laid.now table) (F.state flash.old) (F.state flash.new) result }
+    requires can { CanFill (F.state flash.old) (sums.table_begin laid.now table) (sums.columns_pages laid.now table) }
+    ensures stores { OnOk result (F.told ≡ true → (column : ℕ) → layout.is_hidden laid.now.schema table column ≡ true → Stores (F.state flash.new).page (short.column_file laid.now table column) (hidden_cells laid.now.schema hidden.now table column)) }
+    ensures wrote { Wrote (sums.table_begin laid.now table) (sums.subtree_begin laid.now table) (sums.columns_pages laid.now table) (F.state flash.old) (F.state flash.new) result }
 {
     layout_laws(laid);
     ghost_model::layout::sums_by_place();

@@ -4,6 +4,7 @@ ghost use Rattle.std.specs.Prelude.{◌≡◌, ◌<◌, ◌≤◌, ◌+◌, ℕ,
 ghost use Rattle.std.specs.List.{All};
 ghost use Rattle.ghost_model.specs.forms.Flash.{IsHidden, HoldsIndex, HoldsLists, hidden_cells, value_lists};
 ghost use Rattle.ghost_model.specs.forms.Runs.{pages_of};
+ghost use Rattle.ghost_model.specs.laws.ShortWords as short;
 ghost use Rattle.ghost_model.specs.forms.Layout as layout;
 ghost use Rattle.ghost_model.specs.laws.LayoutSums as sums;
 ghost use Rattle.ghost_model.specs.laws.WorkLaws.{index_written, indexes_written};
@@ -161,7 +162,7 @@ pub(crate) fn write_indexes<F: Flash>(
     requires part { IsHidden laid.now hidden.now }
     requires can { CanFill (F.state flash.old) (sums.indexes_begin laid.now table) (sums.indexes_pages laid.now table) }
     ensures holds { OnOk result (F.told ≡ true → (column : ℕ) → layout.is_hidden laid.now.schema table column ≡ true → HoldsIndex (F.state flash.new).page laid.now hidden.now table column) }
-    ensures wrote { Wrote (sums.indexes_begin laid.now table) (sums.id_index_begin laid.now table) (indexes_written laid.now hidden.now table (layout.column_count laid.now.schema table)) (F.state flash.old) (F.state flash.new) result }
+    ensures wrote { Wrote (sums.indexes_begin laid.now table) (sums.id_index_begin laid.now table) (indexes_written laid.now hidden.now table (short.column_count laid.now.schema table)) (F.state flash.old) (F.state flash.new) result }
 {
     layout_laws(laid);
     ghost_model::layout::sums_by_place();

@@ -1,11 +1,10 @@
 //! The whole of a new flash.
 
 ghost use Rattle.std.specs.Prelude.{◌≡◌, ◌<◌, ◌≤◌, ◌+◌, ◌*◌, ℕ, List, true, false, Some, Err, OnOk};
-ghost use Rattle.ghost_model.specs.forms.Flash.{HoldsFiles, Holds};
+ghost use Rattle.ghost_model.specs.forms.Flash.{HoldsFiles, Holds, IsHidden};
 ghost use Rattle.ghost_model.specs.forms.Layout as layout;
 ghost use Rattle.ghost_model.specs.forms.Work as work;
 ghost use Rattle.edge_traits.specs.Devices.{Counts, IsErased};
-ghost use Rattle.ghost_model.specs.forms.Flash.{IsHidden};
 ghost use Rattle.flash_build.specs.Building.{load_calls};
 ghost use Rattle.flash_build.specs.Faults.{BuildCause, EndsAtFault, IsLargeEnough};
 ghost use Rattle.flash_build.specs.Sealing.{HoldsFrom, SpellsNoCatalog};

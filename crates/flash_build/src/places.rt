@@ -1,6 +1,7 @@
 //! The tables and columns of a layout.
 
 ghost use Rattle.std.specs.Prelude.{◌≡◌, length};
+ghost use Rattle.ghost_model.specs.laws.ShortWords as short;
 ghost use Rattle.ghost_model.specs.forms.Layout as layout;
 ghost use Rattle.flash_layout.specs.Limits.{HasLayout};
 
@@ -23,7 +24,7 @@ pub(crate) fn tables(laid: &Layout<'_>) -> usize
 
 /// The number of columns of a table, its identifier among them.
 pub(crate) fn columns(laid: &Layout<'_>, table: usize) -> usize
-    ensures count { result ≡ layout.column_count laid.now.schema table }
+    ensures count { result ≡ short.column_count laid.now.schema table }
 {
     laid.catalog().schema().columns(table)
 }

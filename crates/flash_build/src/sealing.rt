@@ -3,6 +3,7 @@
 ghost use Rattle.std.specs.Prelude.{◌≡◌, ◌<◌, ◌≤◌, ◌+◌, ◌-◌, true, false, OnOk, OnErr};
 ghost use Rattle.ghost_model.specs.core.Causes.{HasCause};
 ghost use Rattle.ghost_model.specs.forms.Flash.{HoldsCatalog, HoldsFiles, catalog_page};
+ghost use Rattle.ghost_model.specs.laws.ShortWords as short;
 ghost use Rattle.ghost_model.specs.forms.Layout as layout;
 ghost use Rattle.ghost_model.specs.core.Split.{Hidden};
 ghost use Rattle.ghost_model.specs.forms.Work as work;
@@ -17,7 +18,7 @@ use tree_schema::{Catalog, catalog_len, catalog_part};
 
 /// The number of pages that hold a byte of the catalog.
 fn catalog_pages(cat: &Catalog) -> u32
-    ensures value { result ≡ work.catalog_pages cat.now }
+    ensures value { result ≡ short.catalog_pages cat.now }
     ensures some { 0 < result }
     ensures most { result ≤ 9 }
 {
@@ -46,11 +47,11 @@ fn write_catalog_page<F: Flash>(cat: &Catalog, place: u32, flash: &mut F) -> Res
 fn write_later_pages<F: Flash>(cat: &Catalog, flash: &mut F) -> Result<(), Failed>
     requires there { layout.public_pages ≤ (F.state flash.old).page_count }
     requires erased { IsErased F.told 0 layout.public_pages (F.state flash.old) }
-    ensures few { work.catalog_pages cat.now ≤ 9 }
+    ensures few { short.catalog_pages cat.now ≤ 9 }
     ensures holds { OnOk result (F.told ≡ true → HoldsFrom 1 (F.state flash.new).page cat.now) }
-    ensures others { ChangesOnly 1 (work.catalog_pages cat.now) (F.state flash.old) (F.state flash.new) }
-    ensures exact { OnOk result (Counts (work.catalog_pages cat.now - 1) (F.state flash.old).calls (F.state flash.new).calls) }
-    ensures at_most { (F.state flash.new).calls + 1 ≤ (F.state flash.old).calls + work.catalog_pages cat.now }
+    ensures others { ChangesOnly 1 (short.catalog_pages cat.now) (F.state flash.old) (F.state flash.new) }
+    ensures exact { OnOk result (Counts (short.catalog_pages cat.now - 1) (F.state flash.old).calls (F.state flash.new).calls) }
+    ensures at_most { (F.state flash.new).calls + 1 ≤ (F.state flash.old).calls + short.catalog_pages cat.now }
     ensures deep_reads { (F.state flash.new).deep_reads ≡ (F.state flash.old).deep_reads }
     ensures cause { HasCause (F.state flash.old).faults (F.state flash.new).faults result }
     ensures last { OnErr result ((F.state flash.new).since_fault ≡ 0) }
@@ -74,9 +75,9 @@ pub fn seal<F: Flash>(cat: &Catalog, flash: &mut F) -> Result<(), Failed>
     ensures unsealed { F.told ≡ true → (F.state flash.new).blank 0 ≡ true → SpellsNoCatalog (F.state flash.new).page }
     ensures page_0_last { F.told ≡ true → (F.state flash.new).blank 0 ≡ false → HoldsFrom 1 (F.state flash.new).page cat.now }
     ensures files { (hidden : Hidden) → HoldsFiles (F.state flash.old).page cat.now hidden → HoldsFiles (F.state flash.new).page cat.now hidden }
-    ensures others { ChangesOnly 0 (work.catalog_pages cat.now) (F.state flash.old) (F.state flash.new) }
-    ensures exact { OnOk result (Counts (work.catalog_pages cat.now) (F.state flash.old).calls (F.state flash.new).calls) }
-    ensures at_most { (F.state flash.new).calls ≤ (F.state flash.old).calls + work.catalog_pages cat.now }
+    ensures others { ChangesOnly 0 (short.catalog_pages cat.now) (F.state flash.old) (F.state flash.new) }
+    ensures exact { OnOk result (Counts (short.catalog_pages cat.now) (F.state flash.old).calls (F.state flash.new).calls) }
+    ensures at_most { (F.state flash.new).calls ≤ (F.state flash.old).calls + short.catalog_pages cat.now }
     ensures deep_reads { (F.state flash.new).deep_reads ≡ (F.state flash.old).deep_reads }
     ensures cause { HasCause (F.state flash.old).faults (F.state flash.new).faults result }
     ensures last { OnErr result ((F.state flash.new).since_fault ≡ 0) }

@@ -3,6 +3,7 @@ use Rattle.std.specs.Prelude.{◌≡◌, ℕ, ◌+◌, ◌≤◌, List, length, 
 use Rattle.arrayvec.specs.ArrayVec.{ArrayVec}
 use Rattle.ghost_model.specs.core.Schema.{Schema}
 use Rattle.ghost_model.specs.core.Channel.{Catalog}
+use Rattle.ghost_model.specs.laws.ShortWords as short
 use Rattle.ghost_model.specs.forms.Layout as layout
 use Rattle.ghost_model.specs.laws.LayoutSums as sums
 use Rattle.flash_layout.specs.declared.places.TablePlaces.{TablePlaces}
@@ -14,9 +15,9 @@ AreWays schema ways = map (λ way. way.items) ways ≡ map (layout.levels_of sch
 -- where the files and the area of a table lie
 pub record ArePlaces (cat : Catalog) (table : ℕ) (places : TablePlaces) : Type 0 where
   pub below : places.below.items ≡ layout.descendants_of cat.schema table
-  pub columns : places.columns.each.items ≡ map (sums.column_begin cat table) (layout.below (layout.column_count cat.schema table))
+  pub columns : places.columns.each.items ≡ map (sums.column_begin cat table) (layout.below (short.column_count cat.schema table))
   pub subtree : places.columns.after ≡ sums.subtree_begin cat table
-  pub indexes : places.indexes.each.items ≡ map (sums.index_begin cat table) (layout.below (layout.column_count cat.schema table))
+  pub indexes : places.indexes.each.items ≡ map (sums.index_begin cat table) (layout.below (short.column_count cat.schema table))
   pub id_index : places.indexes.after ≡ sums.id_index_begin cat table
   pub after : places.after ≡ sums.table_begin cat (table + 1)
   pub spool : places.spool ≡ sums.spool_pages_before cat table

@@ -1,6 +1,7 @@
 //! What a table has: its rows, and the widths and pages of its columns.
 
 ghost use Rattle.std.specs.Prelude.{◌≡◌, ◌<◌, ◌≤◌, true, map};
+ghost use Rattle.ghost_model.specs.laws.ShortWords as short;
 ghost use Rattle.ghost_model.specs.forms.Layout as layout;
 ghost use Rattle.ghost_model.specs.laws.LayoutSums as sums;
 
@@ -59,7 +60,7 @@ pub(crate) fn width_of(cat: &Catalog, table: usize, column: usize) -> u32
 
 /// The number of columns of a table, and 0 where there is no such table.
 pub(crate) fn columns_of(cat: &Catalog, table: usize) -> usize
-    ensures value { result ≡ layout.column_count cat.now.schema table }
+    ensures value { result ≡ short.column_count cat.now.schema table }
     ensures few { result ≤ 24 }
 {
     a_catalog_has_a_layout(cat);
@@ -68,7 +69,7 @@ pub(crate) fn columns_of(cat: &Catalog, table: usize) -> usize
 
 /// The pages of the file of a column, none where it is not hidden.
 fn column_pages(cat: &Catalog, table: usize, column: usize) -> u32
-    ensures value { result ≡ layout.column_pages cat.now table column }
+    ensures value { result ≡ sums.column_pages cat.now table column }
     ensures most { result ≤ 1000000 }
 {
     if is_hidden(cat, table, column) {
@@ -83,7 +84,7 @@ fn column_pages(cat: &Catalog, table: usize, column: usize) -> u32
 pub(crate) fn column_begins(cat: &Catalog, table: usize, begin: u32) -> Begins
     requires begin { begin ≡ sums.table_begin cat.now table }
     requires most { begin ≤ 607034752 }
-    ensures each { result.each.items ≡ map (sums.column_begin cat.now table) (layout.below (layout.column_count cat.now.schema table)) }
+    ensures each { result.each.items ≡ map (sums.column_begin cat.now table) (layout.below (short.column_count cat.now.schema table)) }
     ensures after { result.after ≡ sums.subtree_begin cat.now table }
     ensures most { result.after ≤ 631034752 }
 {

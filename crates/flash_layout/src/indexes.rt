@@ -1,6 +1,7 @@
 //! The pages of subtree key tables and indexes.
 
 ghost use Rattle.std.specs.Prelude.{◌≡◌, ◌<◌, ◌≤◌, ◌*◌, map, length};
+ghost use Rattle.ghost_model.specs.laws.ShortWords as short;
 ghost use Rattle.ghost_model.specs.forms.Layout as layout;
 ghost use Rattle.ghost_model.specs.laws.LayoutSums as sums;
 
@@ -104,7 +105,7 @@ pub(crate) fn index_begins(cat: &Catalog, table: usize, levels: &[usize], begin:
     requires some { 0 < length levels.now }
     requires begin { begin ≡ sums.indexes_begin cat.now table }
     requires most { begin ≤ 632034752 }
-    ensures each { result.each.items ≡ map (sums.index_begin cat.now table) (layout.below (layout.column_count cat.now.schema table)) }
+    ensures each { result.each.items ≡ map (sums.index_begin cat.now table) (layout.below (short.column_count cat.now.schema table)) }
     ensures after { result.after ≡ sums.id_index_begin cat.now table }
     ensures most { result.after ≤ 656597528 }
 {

@@ -1,6 +1,7 @@
 //! The layout of a catalog, as a value.
 
 ghost use Rattle.std.specs.Prelude.{◌≡◌, ℕ, ◌<◌, ◌≤◌, ◌%◌, ◌^◌, length, true, option_map, slice_index};
+ghost use Rattle.ghost_model.specs.laws.ShortWords as short;
 ghost use Rattle.ghost_model.specs.core.Schema as schema;
 ghost use Rattle.ghost_model.specs.forms.Layout as layout;
 ghost use Rattle.ghost_model.specs.laws.LayoutSums as sums;
@@ -184,7 +185,7 @@ impl<'a> Layout<'a> {
     /// The file of a hidden column: a cell for each row.
     pub fn column_file(&self, table: usize, column: usize) -> Run
         requires hidden { layout.is_hidden self.now.schema table column ≡ true }
-        ensures run { run_of result ≡ layout.column_file self.now table column }
+        ensures run { run_of result ≡ short.column_file self.now table column }
     {
         self.laws();
         Run {
@@ -197,7 +198,7 @@ impl<'a> Layout<'a> {
     /// The subtree key table of a table: for each row an identifier for each table below.
     pub fn subtree_table(&self, table: usize) -> Run
         requires there { table < length self.now.schema }
-        ensures run { run_of result ≡ layout.subtree_table self.now table }
+        ensures run { run_of result ≡ short.subtree_table self.now table }
     {
         self.laws();
         Run {
@@ -210,7 +211,7 @@ impl<'a> Layout<'a> {
     /// The header of the index of a hidden column, one record of 4 bytes.
     pub fn index_header(&self, table: usize, column: usize) -> Run
         requires hidden { layout.is_hidden self.now.schema table column ≡ true }
-        ensures run { run_of result ≡ layout.index_header self.now table column }
+        ensures run { run_of result ≡ short.index_header self.now table column }
     {
         self.laws();
         Run {
@@ -223,7 +224,7 @@ impl<'a> Layout<'a> {
     /// The room of the directory of the index of a hidden column.
     pub fn index_directory(&self, table: usize, column: usize) -> Run
         requires hidden { layout.is_hidden self.now.schema table column ≡ true }
-        ensures run { run_of result ≡ layout.index_directory self.now table column }
+        ensures run { run_of result ≡ short.index_directory self.now table column }
     {
         self.laws();
         Run {
@@ -251,7 +252,7 @@ impl<'a> Layout<'a> {
     pub fn index_level(&self, table: usize, column: usize, level: usize) -> Run
         requires hidden { layout.is_hidden self.now.schema table column ≡ true }
         requires level { level < length (layout.levels_of self.now.schema table) }
-        ensures run { run_of result ≡ layout.index_level self.now table column level }
+        ensures run { run_of result ≡ short.index_level self.now table column level }
     {
         self.laws();
         let levels = self.levels(table);
@@ -266,7 +267,7 @@ impl<'a> Layout<'a> {
     /// The directory of the id index of a table that is not the root: a record for each row.
     pub fn id_directory(&self, table: usize) -> Run
         requires there { table < length self.now.schema }
-        ensures run { run_of result ≡ layout.id_directory self.now table }
+        ensures run { run_of result ≡ short.id_directory self.now table }
     {
         self.laws();
         Run {
@@ -280,7 +281,7 @@ impl<'a> Layout<'a> {
     pub fn id_level(&self, table: usize, level: usize) -> Run
         requires there { table < length self.now.schema }
         requires level { level < length (layout.above_of self.now.schema table) }
-        ensures run { run_of result ≡ layout.id_level self.now table level }
+        ensures run { run_of result ≡ short.id_level self.now table level }
     {
         self.laws();
         let above = self.above(table);

@@ -17,11 +17,12 @@ use Rattle.ghost_model.specs.core.Schema.{Schema, Column, Chars, places_from, pl
 use Rattle.ghost_model.specs.core.Query.{Field}
 use Rattle.ghost_model.specs.refusals.Tokens.{number_of, is_between, Keyword, Symbol, Word, Reserved, Name, Digits, Open, Closing, Comma, Semicolon, EndOfText, CharWord, CreateWord, HiddenWord, IntegerWord, PrimaryKeyWord, PrimaryWord, ReferencesWord, TableWord, Read, read, symbol_of, symbols, tokens_from, token_at, word_at, digits_at, symbol_of_word, keyword_of, other_reserved, in_lower_case, begins_name, is_space, is_digit, is_name_byte}
 use Rattle.ghost_model.specs.laws.Spelled.{is_spelled, is_reserved, is_name}
-use Rattle.ghost_model.specs.refusals.SchemaGrammar.{To, ColumnDeclaration, CharColumn, IntegerColumn, TableText, SchemaText, spell_hidden, spell_id, spell_column, spell_heading, spell_table}
-use Rattle.ghost_model.specs.readings.SchemaPlaces.{syntax_of}
+use Rattle.ghost_model.specs.refusals.SchemaGrammar.{To, ColumnDeclaration, CharColumn, IntegerColumn, TableText, SchemaText, spell_if, spell_declaration, spell_heading, spell_declared_table}
+use Rattle.ghost_model.specs.readings.SchemaPlaces.{schema_syntax_of}
 use Rattle.ghost_model.specs.refusals.SchemaMeaning.{declared_table, columns_written, column_of, table_of, schema_of}
-use Rattle.ghost_model.specs.refusals.SchemaFaults.{Limit, NoId, TwoParents, Cycle, is_long, is_over, is_table_over, is_column_over, declared_name, columns_at, repeats, table_repeats, column_repeats, is_duplicate, fields_from, fields, is_identifier, is_primary, table_lacks_id, lacks_id, refers_nowhere, is_unknown, references_naming, is_shared, returns, roots_of, duplicate_at, unknown_at, wrong_roots, rules_of_schemas as schema_rules, MeansSchema}
-use Rattle.ghost_model.specs.readings.SchemaReading.{schema_or, judged, schema_reading}
+use Rattle.ghost_model.specs.refusals.SchemaFaults.{OverLimit, NoId, TwoParents, Cycle, is_long, is_over, is_table_over, is_column_over, declared_name, columns_at, repeats, is_duplicate, fields_from, fields, is_identifier, is_primary, table_lacks_id, refers_nowhere, references_naming, returns, roots_of, rules_of_schemas as schema_rules, MeansSchema}
+use Rattle.ghost_model.specs.laws.ShortWords.{is_unknown, table_repeats, column_repeats, lacks_id, is_shared, duplicate_at, unknown_at, wrong_roots}
+use Rattle.ghost_model.specs.readings.SchemaReading.{schema_or, schema_judged, schema_reading}
 use Rattle.ghost_model.specs.refusals.Rules.{broken_if, first_broken, MeetsAll}
 use Rattle.ghost_model.specs.forms.Catalog.{name_or_none, reference_text, hidden_text, column_text, table_text, canonical_text}
 use Rattle.ghost_model.specs.laws.CatalogLaws.{CanonicalTextMeansItsSchema, ACatalogOfEachText}
@@ -131,7 +132,7 @@ unfolding tokens_from
 char_first rest = ap (λ (xs : List Symbol). Word CharWord ∷ Open ∷ xs) (kinds_anywhere 0 6 0 rest)
 
 char_last : (hidden : Bool) (rest : List ℕ) → AfterColumn rest
-    → symbols (41 ∷ (hidden_text hidden ++ rest)) ≡ Closing ∷ (spell_hidden hidden ++ symbols rest)
+    → symbols (41 ∷ (hidden_text hidden ++ rest)) ≡ Closing ∷ (spell_if hidden (Word HiddenWord ∷ []) ++ symbols rest)
 unfolding tokens_from
 char_last true rest (comma later) = ap (λ (xs : List Symbol). Closing ∷ Word HiddenWord ∷ Comma ∷ xs) (kinds_anywhere 0 9 1 later)
 char_last true rest (closing later) = ap (λ (xs : List Symbol). Closing ∷ Word HiddenWord ∷ Closing ∷ xs) (kinds_anywhere 0 9 1 later)
@@ -139,7 +140,7 @@ char_last false rest (comma later) = ap (λ (xs : List Symbol). Closing ∷ Comm
 char_last false rest (closing later) = ap (λ (xs : List Symbol). Closing ∷ Closing ∷ xs) (kinds_anywhere 0 2 1 later)
 
 integer_last : (hidden : Bool) (rest : List ℕ) → AfterColumn rest
-    → symbols (codes " INTEGER" ++ (hidden_text hidden ++ rest)) ≡ Word IntegerWord ∷ (spell_hidden hidden ++ symbols rest)
+    → symbols (codes " INTEGER" ++ (hidden_text hidden ++ rest)) ≡ Word IntegerWord ∷ (spell_if hidden (Word HiddenWord ∷ []) ++ symbols rest)
 unfolding tokens_from
 integer_last true rest (comma later) = ap (λ (xs : List Symbol). Word IntegerWord ∷ Word HiddenWord ∷ Comma ∷ xs) (kinds_anywhere 0 16 1 later)
 integer_last true rest (closing later) = ap (λ (xs : List Symbol). Word IntegerWord ∷ Word HiddenWord ∷ Closing ∷ xs) (kinds_anywhere 0 16 1 later)
@@ -204,7 +205,7 @@ module _ (tables : SchemaText) where
   -- the text of a column is read as the column, whatever follows it
 
   column_reads : (column : ColumnDeclaration) (rest : List ℕ) → IsProper column → AfterColumn rest
-      → symbols (column_text (schema_of tables) (column_of tables column) ++ rest) ≡ Comma ∷ (spell_column (canonical_column column) ++ symbols rest)
+      → symbols (column_text (schema_of tables) (column_of tables column) ++ rest) ≡ Comma ∷ (spell_declaration (canonical_column column) ++ symbols rest)
   column_reads (CharColumn name digits hidden) rest p after =
       let number = decimal (number_of digits) in
       let tail = 41 ∷ (hidden_text hidden ++ rest) in
@@ -248,14 +249,14 @@ module _ (tables : SchemaText) where
   columns_after (column ∷ columns) rest after = comma _
 
   columns_read : (columns : List ColumnDeclaration) (rest : List ℕ) → ((j : ℕ) (column : ColumnDeclaration) → slice_get columns j ≡ Some column → IsProper column)
-      → AfterColumn rest → symbols (columns_text columns ++ rest) ≡ flat_map (λ other. Comma ∷ spell_column other) (map canonical_column columns) ++ symbols rest
+      → AfterColumn rest → symbols (columns_text columns ++ rest) ≡ flat_map (λ other. Comma ∷ spell_declaration other) (map canonical_column columns) ++ symbols rest
   unfolding columns_text
   columns_read [] rest proper after = refl
   columns_read (column ∷ columns) rest proper after =
       ap symbols (append_assoc (column_text (schema_of tables) (column_of tables column)) (columns_text columns) rest)
       ∙ (column_reads column (columns_text columns ++ rest) (proper 0 column refl) (columns_after columns rest after)
-      ∙ (ap (λ (xs : List Symbol). Comma ∷ (spell_column (canonical_column column) ++ xs)) (columns_read columns rest (λ j other e. proper (suc j) other e) after)
-      ∙ sym (append_assoc (Comma ∷ spell_column (canonical_column column)) (flat_map (λ other. Comma ∷ spell_column other) (map canonical_column columns)) (symbols rest))))
+      ∙ (ap (λ (xs : List Symbol). Comma ∷ (spell_declaration (canonical_column column) ++ xs)) (columns_read columns rest (λ j other e. proper (suc j) other e) after)
+      ∙ sym (append_assoc (Comma ∷ spell_declaration (canonical_column column)) (flat_map (λ other. Comma ∷ spell_declaration other) (map canonical_column columns)) (symbols rest))))
 
   record IsProperTable (table : TableText) : Type 0 where
     named : is_name table.name ≡ true
@@ -268,12 +269,12 @@ module _ (tables : SchemaText) where
   line_shape name columns rest = simp append_assoc
 
   table_reads : (table : TableText) (rest : List ℕ) → IsProperTable table
-      → symbols (table_text (schema_of tables) (table_of tables table) ++ rest) ≡ spell_table (canonical_table table) ++ symbols rest
+      → symbols (table_text (schema_of tables) (table_of tables table) ++ rest) ≡ spell_declared_table (canonical_table table) ++ symbols rest
   unfolding columns_text
   table_reads table rest p =
       let columns = columns_text table.others in
       let tail = codes ");" ++ 10 ∷ rest in
-      let others = flat_map (λ other. Comma ∷ spell_column other) (map canonical_column table.others) in
+      let others = flat_map (λ other. Comma ∷ spell_declaration other) (map canonical_column table.others) in
       ap symbols (line_shape table.name columns rest)
       ∙ (create_first (table.name ++ (codes " (id INTEGER PRIMARY KEY" ++ (columns ++ tail)))
       ∙ (ap (λ (xs : List Symbol). Word CreateWord ∷ Word TableWord ∷ xs)
@@ -282,18 +283,18 @@ module _ (tables : SchemaText) where
       (id_first (columns ++ tail) (columns_after table.others tail (closing _))
       ∙ ap (λ (xs : List Symbol). Open ∷ Name (codes "id") ∷ Word IntegerWord ∷ Word PrimaryWord ∷ Word PrimaryKeyWord ∷ xs)
       (columns_read table.others tail p.proper (closing _) ∙ ap (λ (xs : List Symbol). others ++ xs) (end_first rest))))
-      ∙ (sym (table_shape (spell_heading table.name) (spell_column (IntegerColumn (codes "id") true None false)) others (Closing ∷ Semicolon ∷ []) (symbols rest))
-      ∙ ap (λ column. (spell_heading table.name ++ ((spell_column (canonical_column column) ++ others) ++ Closing ∷ Semicolon ∷ [])) ++ symbols rest)
+      ∙ (sym (table_shape (spell_heading table.name) (spell_declaration (IntegerColumn (codes "id") true None false)) others (Closing ∷ Semicolon ∷ []) (symbols rest))
+      ∙ ap (λ column. (spell_heading table.name ++ ((spell_declaration (canonical_column column) ++ others) ++ Closing ∷ Semicolon ∷ [])) ++ symbols rest)
       (sym (the_identifier table.first p.begins)))))
 
   tables_read : (some : List TableText) → ((k : ℕ) (table : TableText) → slice_get some k ≡ Some table → IsProperTable table)
-      → symbols (flat_map (table_text (schema_of tables)) (map (table_of tables) some)) ≡ flat_map spell_table (map canonical_table some) ++ EndOfText ∷ []
+      → symbols (flat_map (table_text (schema_of tables)) (map (table_of tables) some)) ≡ flat_map spell_declared_table (map canonical_table some) ++ EndOfText ∷ []
   unfolding tokens_from
   tables_read [] proper = refl
   tables_read (table ∷ later) proper =
       table_reads table (flat_map (table_text (schema_of tables)) (map (table_of tables) later)) (proper 0 table refl)
-      ∙ (ap (λ (xs : List Symbol). spell_table (canonical_table table) ++ xs) (tables_read later (λ k other e. proper (suc k) other e))
-      ∙ sym (append_assoc (spell_table (canonical_table table)) (flat_map spell_table (map canonical_table later)) (EndOfText ∷ [])))
+      ∙ (ap (λ (xs : List Symbol). spell_declared_table (canonical_table table) ++ xs) (tables_read later (λ k other e. proper (suc k) other e))
+      ∙ sym (append_assoc (spell_declared_table (canonical_table table)) (flat_map spell_declared_table (map canonical_table later)) (EndOfText ∷ [])))
 
 -- a test of what a map makes is a test of what it is made of
 
@@ -487,8 +488,8 @@ module _ (tables : SchemaText) where
     same_places : places_of canonical ≡ places_of tables
     same_places = places_mapped canonical_table 0 tables
 
-    same_limit : broken_if (is_over canonical) Limit ≡ broken_if (is_over tables) Limit
-    same_limit = ap (λ b. broken_if b Limit) (still_within ∙ sym within)
+    same_limit : broken_if (is_over canonical) OverLimit ≡ broken_if (is_over tables) OverLimit
+    same_limit = ap (λ b. broken_if b OverLimit) (still_within ∙ sym within)
 
     same_duplicates : option_map duplicate_at (find (is_duplicate canonical) (fields canonical)) ≡ option_map duplicate_at (find (is_duplicate tables) (fields tables))
     same_duplicates =
@@ -541,7 +542,7 @@ reference_named tables table (Some child) e h =
     ap (λ (name : List ℕ). codes " REFERENCES " ++ (name ++ codes "(id)"))
     (ap name_or_none there ∙ sym ((bytes_eq-Decides table f.element.name).0 f.passes))
 
-proper_column : (tables : SchemaText) (column : ColumnDeclaration) → is_column_over column ≡ false → list_all is_spelled (spell_column column) ≡ true
+proper_column : (tables : SchemaText) (column : ColumnDeclaration) → is_column_over column ≡ false → list_all is_spelled (spell_declaration column) ≡ true
     → is_primary column ≡ false → refers_nowhere tables (Some column) ≡ false → IsProper tables column
 proper_column tables (CharColumn name digits hidden) within spelled plain known =
     let length = length_within name digits hidden within in
@@ -550,14 +551,14 @@ proper_column tables (IntegerColumn name primary None hidden) within spelled pla
     (column_named (IntegerColumn name primary None hidden) spelled, plain)
 proper_column tables (IntegerColumn name true (Some (To table says_id)) hidden) within spelled plain known = absurd (cc)
 proper_column tables (IntegerColumn name false (Some (To table says_id)) hidden) within spelled plain known =
-    let names = and_parts (is_name name) (list_all is_spelled (Word ReferencesWord ∷ Name table ∷ (spell_id says_id ++ spell_hidden hidden))) spelled in (
+    let names = and_parts (is_name name) (list_all is_spelled (Word ReferencesWord ∷ Name table ∷ (spell_if says_id (Open ∷ Name (codes "id") ∷ Closing ∷ []) ++ spell_if hidden (Word HiddenWord ∷ [])))) spelled in (
       names.0,
       plain,
-      (and_parts (is_name table) (list_all is_spelled (spell_id says_id ++ spell_hidden hidden)) names.1).0,
+      (and_parts (is_name table) (list_all is_spelled (spell_if says_id (Open ∷ Name (codes "id") ∷ Closing ∷ []) ++ spell_if hidden (Word HiddenWord ∷ []))) names.1).0,
       reference_named tables table (declared_table tables table) refl known,
     )
 
-module _ (tables : SchemaText) (obeys : MeetsAll (schema_rules tables)) (spelled : list_all is_spelled (flat_map spell_table tables) ≡ true) where
+module _ (tables : SchemaText) (obeys : MeetsAll (schema_rules tables)) (spelled : list_all is_spelled (flat_map spell_declared_table tables) ≡ true) where
   proper_table : (k : ℕ) (table : TableText) → slice_get tables k ≡ Some table → IsProperTable tables table
   proper_table k table e = record {
     named = table_named_well tables obeys spelled k table e;
@@ -572,9 +573,9 @@ module _ (tables : SchemaText) (obeys : MeetsAll (schema_rules tables)) (spelled
   canonical_reads : schema_reading (canonical_text (schema_of tables)) ≡ Ok (schema_of tables)
   canonical_reads =
       let within : is_over tables ≡ false = (kept_rules tables obeys).limits in
-      let tree : syntax_of (canonical_text (schema_of tables)) ≡ Ok (map canonical_table tables) =
+      let tree : schema_syntax_of (canonical_text (schema_of tables)) ≡ Ok (map canonical_table tables) =
       (schema_places.tree (canonical_text (schema_of tables)) (map canonical_table tables)).1 (tables_read tables tables proper_table) in
-      ap judged tree
+      ap schema_judged tree
       ∙ (ap (schema_or (schema_of (map canonical_table tables))) (same_fault tables within ∙ obeys)
       ∙ ap (λ (all : Schema). Ok all) (same_schema tables within))
 

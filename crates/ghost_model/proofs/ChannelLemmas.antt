@@ -23,7 +23,8 @@ use Rattle.ghost_model.specs.core.NextMove as next
 use Rattle.ghost_model.specs.laws.ChannelLaws as laws
 use Rattle.ghost_model.specs.core.Asks.{NumberedAsk, row_width}
 use Rattle.ghost_model.specs.core.Channel.{Catalog, Frame, HelloFrame, AskFrame, MoreFrame, ByeFrame, WelcomeFrame, RowsFrame, DoneFrame, SorryFrame}
-use Rattle.ghost_model.specs.forms.Frames.{Got, Found, Short, Bad, got_of, size_allowed, serial_allowed, payload_allowed, has_no_serial, header_allowed, IsFrame, AreBytes, frame_bytes, frame_of_parts, frame_in, size_in, serial_in, kind_in, version_in, payload_in, payload_number, frame_number, frame_kind, serial_of, payload_of, frame_version}
+use Rattle.ghost_model.specs.forms.Frames.{Got, Found, Short, Bad, got_of, size_allowed, serial_allowed, payload_allowed, header_allowed, IsFrame, AreBytes, frame_bytes, frame_of_parts, frame_in, size_in, serial_in, kind_in, version_in, payload_in, frame_number, frame_kind, serial_of, payload_of, frame_version}
+use Rattle.ghost_model.specs.laws.ShortWords.{payload_number}
 use Rattle.ghost_model.specs.laws.ChannelLaws.{BeginsWith}
 
 pub size_bound : (kind size : ℕ) → size_allowed kind size ≡ true → size ≤ 2040

@@ -9,7 +9,8 @@ use Rattle.std.proofs.Math.Seq.{take-append_seam, take-append-add}
 use Rattle.std.proofs.lemmas.List.Folds.{list_all-append}
 use Rattle.ghost_model.specs.refusals.Tokens.{Symbol, EndOfText, symbols}
 use Rattle.ghost_model.specs.laws.Spelled.{is_spelled, text_of}
-use Rattle.ghost_model.specs.refusals.Grammar.{IsViable, IsFault, Spells, separated, begun}
+use Rattle.ghost_model.specs.refusals.Grammar.{IsViable, IsFault, Spells, separated}
+use Rattle.ghost_model.specs.readings.Begun.{begun}
 use Rattle.ghost_model.proofs.TokenLemmas.{spelled_text, before_end}
 
 -- the items of a list before its last, and its last

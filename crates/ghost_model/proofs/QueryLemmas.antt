@@ -6,7 +6,8 @@ use Rattle.std.specs.List.{list_all}
 use Rattle.ghost_model.specs.core.Query as query
 use Rattle.ghost_model.specs.core.Query.{Operator}
 use Rattle.ghost_model.specs.refusals.Tokens.{Token, tokens, symbol_of, symbols, offset_of, Symbol, Word, Name, Digits, Quoted, Comma, Point, Star, PlusSign, MinusSign, EqualSign, UnequalSign, LessSign, AtMostSign, MoreSign, AtLeastSign, EndOfText, SelectWord, FromWord, WhereWord, AndWord, BetweenWord}
-use Rattle.ghost_model.specs.refusals.Grammar.{Spells, IsSyntaxFault, separated, begun}
+use Rattle.ghost_model.specs.refusals.Grammar.{Spells, IsSyntaxFault, separated}
+use Rattle.ghost_model.specs.readings.Begun.{begun}
 use Rattle.ghost_model.specs.laws.Spelled.{is_spelled, is_name}
 use Rattle.ghost_model.specs.refusals.QueryGrammar.{ColumnText, Bare, Qualified, Sign, Positive, Negative, LiteralText, Unsigned, Signed, Written, ConditionText, Compares, LiesBetween, Joins, Selection, All, Columns, QueryText, spell_column, spell_sign, spell_operator, spell_literal, spell_condition, spell_table, spell_selection, spell_where, spelling}
 use Rattle.ghost_model.specs.readings.QueryPlaces.{ColumnPart, WantsColumn, HasTablePoint, HasColumn, ConditionPart, WantsLeft, HasLeftPoint, HasLeft, HasOperator, HasSign, HasRightPoint, WantsLow, HasLowSign, HasLow, WantsHigh, HasHighSign, HasCondition, QueryPlace, Start, HasStar, InSelect, WantsTable, HasTable, InWhere, Whole, first_item, other_items, selection_of, query_text, in_column, in_condition, before, step_in_column, step_in_condition, step_in_select, step_in_where, step, whole_text, read_from, syntax_of}

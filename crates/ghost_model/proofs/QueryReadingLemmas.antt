@@ -6,7 +6,8 @@ use Rattle.ghost_model.specs.core.Query.{Query}
 use Rattle.ghost_model.specs.refusals.QueryGrammar.{QueryText}
 use Rattle.ghost_model.specs.readings.QueryPlaces.{syntax_of}
 use Rattle.ghost_model.specs.refusals.Rules.{first_broken, MeetsAll, BreaksFirst}
-use Rattle.ghost_model.specs.refusals.QueryMeaning.{Refusal, Syntax, Limit, UnknownTable, UnknownColumn, Ambiguous, KindMismatch, BadLiteral, NotLinked, is_over_limit, has_unknown_table, has_unknown_column, is_ambiguous, has_kind_mismatch, has_bad_literal, is_unlinked, rules_of_queries, resolved, Means, BreaksRule, IsRefused}
+use Rattle.ghost_model.specs.refusals.QueryMeaning.{Refusal, Syntax, Limit, UnknownTable, UnknownColumn, Ambiguous, KindMismatch, BadLiteral, NotLinked, is_over_limit, has_unknown_table, has_unknown_column, is_ambiguous, is_unlinked, rules_of_queries, resolved, Means, BreaksRule, IsRefused}
+use Rattle.ghost_model.specs.laws.ShortWords.{has_kind_mismatch, has_bad_literal}
 use Rattle.ghost_model.specs.readings.QueryReading.{query_unless, judged, reading}
 use Rattle.ghost_model.specs.laws.QueryLaws.{HasOneMeaning, HasOneRefusal}
 use Rattle.ghost_model.proofs.RuleLemmas.{kept_and, other_if}

@@ -6,11 +6,12 @@ use Rattle.std.proofs.lemmas.Bool.{cases_order, cases_lt, or_right}
 use Rattle.ghost_model.specs.core.Schema.{Schema, Table, places_from, places_of, first_of, is_table, parent, references_to, is_empty, ancestor}
 use Rattle.ghost_model.specs.refusals.Rules.{broken_if, first_broken, MeetsAll, BreaksFirst}
 use Rattle.ghost_model.specs.refusals.Grammar.{Spells}
-use Rattle.ghost_model.specs.refusals.SchemaGrammar.{SchemaText, spelling}
-use Rattle.ghost_model.specs.readings.SchemaPlaces.{syntax_of}
+use Rattle.ghost_model.specs.refusals.SchemaGrammar.{SchemaText, schema_spelling}
+use Rattle.ghost_model.specs.readings.SchemaPlaces.{schema_syntax_of}
 use Rattle.ghost_model.specs.refusals.SchemaMeaning.{schema_of}
-use Rattle.ghost_model.specs.refusals.SchemaFaults.{SchemaFault, Syntax, Limit, NoId, TwoParents, Cycle, NotOneRoot, is_over, is_duplicate, lacks_id, is_unknown, is_shared, returns, roots_of, fields, duplicate_at, unknown_at, wrong_roots, rules_of_schemas, MeansSchema, HasFault, IsSchemaFault}
-use Rattle.ghost_model.specs.readings.SchemaReading.{schema_or, judged, schema_reading}
+use Rattle.ghost_model.specs.refusals.SchemaFaults.{SchemaFault, BadSyntax, OverLimit, NoId, TwoParents, Cycle, NotOneRoot, is_over, is_duplicate, returns, roots_of, fields, rules_of_schemas, MeansSchema, HasFault, IsSchemaFault}
+use Rattle.ghost_model.specs.laws.ShortWords.{is_unknown, lacks_id, is_shared, duplicate_at, unknown_at, wrong_roots}
+use Rattle.ghost_model.specs.readings.SchemaReading.{schema_or, schema_judged, schema_reading}
 use Rattle.ghost_model.specs.laws.SchemaTrees.{Returns}
 use Rattle.ghost_model.specs.laws.SchemaLaws.{OneSchemaReading}
 use Rattle.ghost_model.proofs.RuleLemmas.{both_none, not_broken, other_if, other_mapped}
@@ -39,7 +40,7 @@ pub record KeptRules (tables : SchemaText) : Type 0 where
 
 pub kept_rules : (tables : SchemaText) → MeetsAll (rules_of_schemas tables) → KeptRules tables
 kept_rules tables e =
-    let a = both_none (broken_if (is_over tables) Limit) _ e in
+    let a = both_none (broken_if (is_over tables) OverLimit) _ e in
     let b = both_none (option_map duplicate_at (find (is_duplicate tables) (fields tables))) _ a.1 in
     let c = both_none (option_map NoId (find (lacks_id tables) (places_of tables))) _ b.1 in
     let d = both_none (option_map unknown_at (find (is_unknown tables) (fields tables))) _ c.1 in
@@ -47,7 +48,7 @@ kept_rules tables e =
     let g = both_none (option_map Cycle (find (returns (schema_of tables)) (places_of tables))) _ f.1 in
     let h = both_none (wrong_roots (roots_of (schema_of tables))) None g.1 in
     record {
-      limits = not_broken (is_over tables) Limit a.0;
+      limits = not_broken (is_over tables) OverLimit a.0;
       names = none_mapped duplicate_at _ b.0;
       identifiers = none_mapped NoId _ c.0;
       references = none_mapped unknown_at _ d.0;
@@ -58,15 +59,15 @@ kept_rules tables e =
 
 -- no rule finds a fault of the grammar
 
-no_syntax : (tables : SchemaText) (at : ℕ) → BreaksFirst (rules_of_schemas tables) (Syntax at) → ⊥
+no_syntax : (tables : SchemaText) (at : ℕ) → BreaksFirst (rules_of_schemas tables) (BadSyntax at) → ⊥
 no_syntax tables at =
-    other_if (is_over tables) Limit (Syntax at) _ (λ e. absurd (cc))
-    (other_mapped duplicate_at (find (is_duplicate tables) (fields tables)) (Syntax at) _ (λ x e. absurd (cc))
-    (other_mapped NoId (find (lacks_id tables) (places_of tables)) (Syntax at) _ (λ x e. absurd (cc))
-    (other_mapped unknown_at (find (is_unknown tables) (fields tables)) (Syntax at) _ (λ x e. absurd (cc))
-    (other_mapped TwoParents (find (is_shared tables) (places_of tables)) (Syntax at) _ (λ x e. absurd (cc))
-    (other_mapped Cycle (find (returns (schema_of tables)) (places_of tables)) (Syntax at) _ (λ x e. absurd (cc))
-    (other_if (not (roots_of (schema_of tables) == 1)) (NotOneRoot (roots_of (schema_of tables))) (Syntax at) None (λ e. absurd (cc)) (λ e. absurd (cc))))))))
+    other_if (is_over tables) OverLimit (BadSyntax at) _ (λ e. absurd (cc))
+    (other_mapped duplicate_at (find (is_duplicate tables) (fields tables)) (BadSyntax at) _ (λ x e. absurd (cc))
+    (other_mapped NoId (find (lacks_id tables) (places_of tables)) (BadSyntax at) _ (λ x e. absurd (cc))
+    (other_mapped unknown_at (find (is_unknown tables) (fields tables)) (BadSyntax at) _ (λ x e. absurd (cc))
+    (other_mapped TwoParents (find (is_shared tables) (places_of tables)) (BadSyntax at) _ (λ x e. absurd (cc))
+    (other_mapped Cycle (find (returns (schema_of tables)) (places_of tables)) (BadSyntax at) _ (λ x e. absurd (cc))
+    (other_if (not (roots_of (schema_of tables) == 1)) (NotOneRoot (roots_of (schema_of tables))) (BadSyntax at) None (λ e. absurd (cc)) (λ e. absurd (cc))))))))
 
 -- what returns does so in as many steps as there are tables
 
@@ -295,9 +296,9 @@ one_err r a b e f = cc
 ok_or_err : {T E : Type 0} (r : Result T E) (a : T) (b : E) → r ≡ Ok a → r ≡ Err b → ⊥
 ok_or_err r a b e f = cc
 
-one_tree : (text : List ℕ) (a b : SchemaText) → Spells spelling text a → Spells spelling text b → a ≡ b
+one_tree : (text : List ℕ) (a b : SchemaText) → Spells schema_spelling text a → Spells schema_spelling text b → a ≡ b
 one_tree text a b p q =
-    one_ok (syntax_of text) a b ((schema_places.tree text a).1 p) ((schema_places.tree text b).1 q)
+    one_ok (schema_syntax_of text) a b ((schema_places.tree text a).1 p) ((schema_places.tree text b).1 q)
 
 -- a tree is read as its schema, or as its first fault
 
@@ -312,29 +313,29 @@ reads_fault tables f (Some g) e = let h : Some g ≡ Some f = cc in h
 
 means_back : (text : List ℕ) (schema : Schema) → MeansSchema text schema → schema_reading text ≡ Ok schema
 means_back text schema m =
-    ap judged ((schema_places.tree text m.tables).1 m.spells)
+    ap schema_judged ((schema_places.tree text m.tables).1 m.spells)
     ∙ (ap (schema_or (schema_of m.tables)) m.obeys ∙ ap Ok m.means)
 
 breaks_back : (text : List ℕ) (f : SchemaFault) → HasFault text f → schema_reading text ≡ Err f
 breaks_back text f b =
-    ap judged ((schema_places.tree text b.tables).1 b.spells) ∙ ap (schema_or (schema_of b.tables)) b.breaks
+    ap schema_judged ((schema_places.tree text b.tables).1 b.spells) ∙ ap (schema_or (schema_of b.tables)) b.breaks
 
 fault_back : (text : List ℕ) (f : SchemaFault) → IsSchemaFault text f → schema_reading text ≡ Err f
-fault_back text (Syntax at) h = ap judged ((schema_places.fault text at).1 h)
+fault_back text (BadSyntax at) h = ap schema_judged ((schema_places.fault text at).1 h)
 fault_back text f h = breaks_back text f h
 
 as_fault : (text : List ℕ) (f : SchemaFault) → HasFault text f → IsSchemaFault text f
-as_fault text (Syntax at) b = absurd (no_syntax b.tables at b.breaks)
+as_fault text (BadSyntax at) b = absurd (no_syntax b.tables at b.breaks)
 as_fault text f b = b
 
-means_by : (text : List ℕ) (schema : Schema) (syntax : Result SchemaText ℕ) → syntax_of text ≡ syntax → judged syntax ≡ Ok schema → MeansSchema text schema
+means_by : (text : List ℕ) (schema : Schema) (syntax : Result SchemaText ℕ) → schema_syntax_of text ≡ syntax → schema_judged syntax ≡ Ok schema → MeansSchema text schema
 means_by text schema (Err at) e h = absurd (cc)
 means_by text schema (Ok tables) e h =
     let r = reads_schema tables schema (first_broken (rules_of_schemas tables)) h in
     record { tables = tables; spells = (schema_places.tree text tables).0 e; obeys = r.0; means = r.1 }
 
-fault_by : (text : List ℕ) (f : SchemaFault) (syntax : Result SchemaText ℕ) → syntax_of text ≡ syntax → judged syntax ≡ Err f → IsSchemaFault text f
-fault_by text f (Err at) e h = let g : Syntax at ≡ f = cc in subst (IsSchemaFault text) g ((schema_places.fault text at).0 e)
+fault_by : (text : List ℕ) (f : SchemaFault) (syntax : Result SchemaText ℕ) → schema_syntax_of text ≡ syntax → schema_judged syntax ≡ Err f → IsSchemaFault text f
+fault_by text f (Err at) e h = let g : BadSyntax at ≡ f = cc in subst (IsSchemaFault text) g ((schema_places.fault text at).0 e)
 fault_by text f (Ok tables) e h =
     as_fault text f (record {
       tables = tables;
@@ -344,13 +345,13 @@ fault_by text f (Ok tables) e h =
 
 some_answer : (text : List ℕ) (answer : Result Schema SchemaFault) → schema_reading text ≡ answer
     → ((schema : Schema) × MeansSchema text schema) ⊎ ((fault : SchemaFault) × IsSchemaFault text fault)
-some_answer text (Ok schema) e = inl (schema, means_by text schema (syntax_of text) refl e)
-some_answer text (Err fault) e = inr (fault, fault_by text fault (syntax_of text) refl e)
+some_answer text (Ok schema) e = inl (schema, means_by text schema (schema_syntax_of text) refl e)
+some_answer text (Err fault) e = inr (fault, fault_by text fault (schema_syntax_of text) refl e)
 
 pub one_schema : OneSchemaReading
 one_schema = record {
-  read = λ text schema. (means_by text schema (syntax_of text) refl, means_back text schema);
-  refused = λ text fault. (fault_by text fault (syntax_of text) refl, fault_back text fault);
+  read = λ text schema. (means_by text schema (schema_syntax_of text) refl, means_back text schema);
+  refused = λ text fault. (fault_by text fault (schema_syntax_of text) refl, fault_back text fault);
   one_schema = λ text schema other a b. one_ok (schema_reading text) schema other (means_back text schema a) (means_back text other b);
   one_fault = λ text fault other a b. one_err (schema_reading text) fault other (fault_back text fault a) (fault_back text other b);
   not_both = λ text schema fault a b. ok_or_err (schema_reading text) schema fault (means_back text schema a) (fault_back text fault b);

@@ -10,10 +10,11 @@ use Rattle.ghost_model.specs.core.Query.{Field}
 use Rattle.ghost_model.specs.refusals.Tokens.{Symbol, Comma, Closing, Semicolon, EndOfText, number_of, is_between}
 use Rattle.ghost_model.specs.refusals.Grammar.{separated}
 use Rattle.ghost_model.specs.laws.Spelled.{is_spelled, is_name}
-use Rattle.ghost_model.specs.refusals.SchemaGrammar.{To, ColumnDeclaration, CharColumn, IntegerColumn, TableText, SchemaText, spell_column, spell_table}
+use Rattle.ghost_model.specs.refusals.SchemaGrammar.{To, ColumnDeclaration, CharColumn, IntegerColumn, TableText, SchemaText, spell_declaration, spell_declared_table}
 use Rattle.ghost_model.specs.refusals.SchemaMeaning.{columns_written, column_of, table_of, schema_of}
 use Rattle.ghost_model.specs.refusals.SchemaFaults as faults
-use Rattle.ghost_model.specs.refusals.SchemaFaults.{is_over, is_table_over, is_column_over, declared_name, columns_at, repeats, table_repeats, is_duplicate, fields_from, fields, is_identifier, table_lacks_id, lacks_id, is_primary, refers_nowhere, is_unknown, is_shared, returns, rules_of_schemas, MeansSchema}
+use Rattle.ghost_model.specs.refusals.SchemaFaults.{is_over, is_table_over, is_column_over, declared_name, columns_at, repeats, is_duplicate, fields_from, fields, is_identifier, table_lacks_id, is_primary, refers_nowhere, returns, rules_of_schemas, MeansSchema}
+use Rattle.ghost_model.specs.laws.ShortWords.{is_unknown, table_repeats, lacks_id, is_shared}
 use Rattle.ghost_model.specs.refusals.Rules.{MeetsAll}
 use Rattle.ghost_model.specs.laws.SchemaTrees.{identifier, Returns, IsTree, SchemasAreTrees}
 use Rattle.ghost_model.proofs.GrammarLemmas.{spelled_parts, spelled_front}
@@ -182,23 +183,23 @@ each_spelled spell (y ∷ ys) zero x e h =
     ap (λ z. list_all is_spelled (spell z)) (sym same) ∙ (spelled_parts (spell y) (flat_map spell ys) e).0
 each_spelled spell (y ∷ ys) (suc k) x e h = each_spelled spell ys k x (spelled_parts (spell y) (flat_map spell ys) e).1 h
 
-inside_table : (table : TableText) → list_all is_spelled (spell_table table) ≡ true
-    → (is_name table.name ≡ true) × (list_all is_spelled (spell_column table.first) ≡ true)
-    × (list_all is_spelled (flat_map (λ other. Comma ∷ spell_column other) table.others) ≡ true)
+inside_table : (table : TableText) → list_all is_spelled (spell_declared_table table) ≡ true
+    → (is_name table.name ≡ true) × (list_all is_spelled (spell_declaration table.first) ≡ true)
+    × (list_all is_spelled (flat_map (λ other. Comma ∷ spell_declaration other) table.others) ≡ true)
 inside_table table e =
-    let named = and_parts (is_name table.name) (list_all is_spelled (separated Comma spell_column table.first table.others ++ Closing ∷ Semicolon ∷ [])) e in
-    let columns = spelled_parts (separated Comma spell_column table.first table.others) (Closing ∷ Semicolon ∷ []) named.1 in
-    let parts = spelled_parts (spell_column table.first) (flat_map (λ other. Comma ∷ spell_column other) table.others) columns.0 in
+    let named = and_parts (is_name table.name) (list_all is_spelled (separated Comma spell_declaration table.first table.others ++ Closing ∷ Semicolon ∷ [])) e in
+    let columns = spelled_parts (separated Comma spell_declaration table.first table.others) (Closing ∷ Semicolon ∷ []) named.1 in
+    let parts = spelled_parts (spell_declaration table.first) (flat_map (λ other. Comma ∷ spell_declaration other) table.others) columns.0 in
     (named.0, parts.0, parts.1)
 
-pub column_spelled : (table : TableText) (j : ℕ) (column : ColumnDeclaration) → list_all is_spelled (spell_table table) ≡ true
-    → slice_get (columns_written table) j ≡ Some column → list_all is_spelled (spell_column column) ≡ true
+pub column_spelled : (table : TableText) (j : ℕ) (column : ColumnDeclaration) → list_all is_spelled (spell_declared_table table) ≡ true
+    → slice_get (columns_written table) j ≡ Some column → list_all is_spelled (spell_declaration column) ≡ true
 column_spelled table zero column e h =
     let same : table.first ≡ column = cc in
-    ap (λ c. list_all is_spelled (spell_column c)) (sym same) ∙ (inside_table table e).1
-column_spelled table (suc j) column e h = each_spelled (λ other. Comma ∷ spell_column other) table.others j column (inside_table table e).2 h
+    ap (λ c. list_all is_spelled (spell_declaration c)) (sym same) ∙ (inside_table table e).1
+column_spelled table (suc j) column e h = each_spelled (λ other. Comma ∷ spell_declaration other) table.others j column (inside_table table e).2 h
 
-pub column_named : (column : ColumnDeclaration) → list_all is_spelled (spell_column column) ≡ true → is_name (declared_name column) ≡ true
+pub column_named : (column : ColumnDeclaration) → list_all is_spelled (spell_declaration column) ≡ true → is_name (declared_name column) ≡ true
 column_named (CharColumn name digits hidden) e = (and_parts (is_name name) _ e).0
 column_named (IntegerColumn name primary reference hidden) e = (and_parts (is_name name) _ e).0
 
@@ -233,7 +234,7 @@ key_is_integer tables (CharColumn name digits hidden) child e = absurd (cc)
 key_is_integer tables (IntegerColumn name primary None hidden) child e = absurd (cc)
 key_is_integer tables (IntegerColumn name primary (Some (To table says_id)) hidden) child e = refl
 
-module _ (tables : SchemaText) (obeys : MeetsAll (rules_of_schemas tables)) (spelled : list_all is_spelled (flat_map spell_table tables) ≡ true) where
+module _ (tables : SchemaText) (obeys : MeetsAll (rules_of_schemas tables)) (spelled : list_all is_spelled (flat_map spell_declared_table tables) ≡ true) where
   kept : KeptRules tables
   kept = kept_rules tables obeys
 
@@ -315,8 +316,8 @@ module _ (tables : SchemaText) (obeys : MeetsAll (rules_of_schemas tables)) (spe
   short_text : (text : TableText) → is_table_over text ≡ false → length text.name ≤ 32
   short_text text e = ltb-false 32 (length text.name) (neither _ _ (neither _ _ e).0).0
 
-  pub table_spelled : (table : ℕ) (text : TableText) → slice_get tables table ≡ Some text → list_all is_spelled (spell_table text) ≡ true
-  table_spelled table text e = each_spelled spell_table tables table text spelled e
+  pub table_spelled : (table : ℕ) (text : TableText) → slice_get tables table ≡ Some text → list_all is_spelled (spell_declared_table text) ≡ true
+  table_spelled table text e = each_spelled spell_declared_table tables table text spelled e
 
   pub table_named_well : (table : ℕ) (text : TableText) → slice_get tables table ≡ Some text → is_name text.name ≡ true
   table_named_well table text e = (inside_table text (table_spelled table text e)).0
@@ -403,8 +404,8 @@ module _ (tables : SchemaText) (obeys : MeetsAll (rules_of_schemas tables)) (spe
   }
 
 -- the symbols of a text's tree before its end are spelled
-pub tables_spelled : (text : List ℕ) (schema : Schema) → (means : MeansSchema text schema) → list_all is_spelled (flat_map spell_table means.tables) ≡ true
-tables_spelled text schema means = spelled_front text (flat_map spell_table means.tables) EndOfText [] means.spells
+pub tables_spelled : (text : List ℕ) (schema : Schema) → (means : MeansSchema text schema) → list_all is_spelled (flat_map spell_declared_table means.tables) ≡ true
+tables_spelled text schema means = spelled_front text (flat_map spell_declared_table means.tables) EndOfText [] means.spells
 
 pub schemas_are_trees : SchemasAreTrees
 schemas_are_trees text schema means = subst IsTree means.means (tree_of means.tables means.obeys (tables_spelled text schema means))

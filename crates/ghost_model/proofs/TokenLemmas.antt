@@ -10,8 +10,8 @@ use Rattle.std.proofs.lemmas.Slice.Eq.{bytes_eq-Decides}
 use Rattle.std.specs.Option.{option_map_or}
 use Rattle.std.specs.Char.{to_ascii_lowercase}
 use Rattle.std.proofs.lemmas.Bool.Decides.{nat_tests}
-use Rattle.ghost_model.specs.refusals.Tokens.{Keyword, AndWord, BetweenWord, CharWord, CreateWord, FromWord, HiddenWord, IntegerWord, PrimaryKeyWord, PrimaryWord, ReferencesWord, SelectWord, TableWord, WhereWord, Symbol, Word, Reserved, Name, Digits, Quoted, Open, Closing, Comma, Point, Semicolon, Star, PlusSign, MinusSign, EqualSign, UnequalSign, LessSign, AtMostSign, MoreSign, AtLeastSign, NoToken, EndOfText, keyword_text, keyword_of, other_reserved, symbol_of, symbols, tokens_from, quoted_from, token_at, word_at, digits_at, in_lower_case, symbol_of_word, is_space, is_digit, begins_name, is_name_byte, is_printable, sign_of, less_and, more_and, read, Read}
-use Rattle.ghost_model.specs.laws.Spelled.{is_reserved, begins_as_name, is_name, is_spelled, symbol_text, inside_literal, text_of, IsBeforeEnd}
+use Rattle.ghost_model.specs.refusals.Tokens.{Keyword, AndWord, BetweenWord, CharWord, CreateWord, FromWord, HiddenWord, IntegerWord, PrimaryKeyWord, PrimaryWord, ReferencesWord, SelectWord, TableWord, WhereWord, Symbol, Word, Reserved, Name, Digits, Quoted, Open, Closing, Comma, Point, Semicolon, Star, PlusSign, MinusSign, EqualSign, UnequalSign, LessSign, AtMostSign, MoreSign, AtLeastSign, NoToken, EndOfText, keyword_of, other_reserved, symbol_of, symbols, tokens_from, quoted_from, token_at, word_at, digits_at, in_lower_case, symbol_of_word, is_space, is_digit, begins_name, is_name_byte, is_printable, sign_of, less_and, more_and, read, Read}
+use Rattle.ghost_model.specs.laws.Spelled.{is_reserved, begins_as_name, is_name, is_spelled, symbol_text, keyword_text, inside_literal, text_of, IsBeforeEnd}
 
 -- the symbols of a text whose first `left` bytes belong to a token before; the offset of the text does not matter
 abbrev kinds : (left at : ℕ) → List ℕ → List Symbol

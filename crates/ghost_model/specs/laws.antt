@@ -16,3 +16,5 @@ pub mod QueryWorkLaws
 pub mod ListLaws
 pub mod SessionLaws
 pub mod MeaningLaws
+pub mod LoadLaws
+pub mod ShortWords

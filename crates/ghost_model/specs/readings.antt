@@ -5,3 +5,4 @@ pub mod SchemaPlaces
 pub mod SchemaReading
 pub mod QueryPlaces
 pub mod QueryReading
+pub mod Begun

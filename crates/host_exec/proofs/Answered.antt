@@ -9,7 +9,7 @@ use Rattle.ghost_model.specs.forms.Catalog.{catalog_bytes}
 use Rattle.ghost_model.specs.core.Asks.{RowCells, is_proper_ask}
 use Rattle.ghost_model.specs.readings.AskReading.{ask_in}
 use Rattle.ghost_model.specs.core.Asks as asks
-use Rattle.ghost_model.specs.core.Host.{Holding, Stand, Response, answer_to, answers_request, answers_more, answers_ask, goes_on, after_reply, reply_to, rows_frame, grouped, welcomes}
+use Rattle.ghost_model.specs.core.Host.{Holding, Stand, Response, answer_to, answers_ask, goes_on, after_reply, reply_to, rows_frame, grouped, welcomes}
 use Rattle.ghost_model.specs.core.Host as host
 use Rattle.host_exec.specs.RowBytes.{Form, replies_at, reply_width}
 use Rattle.host_exec.specs.FormViews.{form_view}
@@ -90,7 +90,7 @@ is_asked (Listening _) (AskFrame _ _) = true
 is_asked _ _ = false
 
 more_not : (held : Holding) (serial place sent other : ℕ) (rest : List Frame) (b : Bool) → (other == serial) ≡ b
-    → (if b then Some (Answering serial place sent) else None) ≡ None → answers_more serial rest (MoreFrame other) ≡ None
+    → (if b then Some (Answering serial place sent) else None) ≡ None → answer_to held (host.Replying serial rest) (MoreFrame other) ≡ None
 more_not held serial place sent other rest true same e = cc
 more_not held serial place sent other rest false same e = ap (λ (t : Bool). if t then goes_on serial rest else None) same
 
@@ -114,7 +114,7 @@ not_turned held catalog source (Answering serial place sent) frame stand t a o s
 not_turned held catalog source (Replying serial place sent) frame stand t a o s =
     ap (λ (st : Stand). answer_to held st frame) s.1 ∙ replying held serial place sent (reply_left (most_rows source) serial sent (left_from source place)) frame t
   where
-    replying : (held : Holding) (serial place sent : ℕ) (rest : List Frame) (frame : Frame) → turned (Replying serial place sent) frame ≡ None → answers_more serial rest frame ≡ None
+    replying : (held : Holding) (serial place sent : ℕ) (rest : List Frame) (frame : Frame) → turned (Replying serial place sent) frame ≡ None → answer_to held (host.Replying serial rest) frame ≡ None
     replying held serial place sent rest (MoreFrame other) t = more_not held serial place sent other rest (other == serial) refl t
     replying held serial place sent rest frame t = refl
 not_turned held catalog source Over frame stand t a o s = ap (λ (st : Stand). answer_to held st frame) s.1

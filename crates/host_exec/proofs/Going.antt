@@ -6,7 +6,8 @@ use Rattle.std.proofs.lemmas.Grind.{flat_map-append}
 use Rattle.std.proofs.lemmas.List.{length-drop, drop-drop, nil_from_length}
 use Rattle.ghost_model.specs.core.Channel.{Frame, Entry, Journal}
 use Rattle.ghost_model.specs.forms.Frames.{Got, Found, Short, Bad, IsFrame, frame_bytes, got_of, frame_kind}
-use Rattle.ghost_model.specs.core.Host.{Holding, Stand, Response, reply_to, answers_ask, goes_on, after_reply, said_to, said_with, frames_of, frames_within, frame_and, bad_from, bad_rest, unless_over, refused_or, answer_to, host_sends, bad_request, answer_as, bad_with_refusals, said_with_refusals}
+use Rattle.ghost_model.specs.core.Host.{Holding, Stand, Response, reply_to, answers_ask, goes_on, after_reply, said_with, frames_of, frames_within, frame_and, bad_rest, unless_over, refused_or, answer_to, host_sends, bad_request, answer_as, bad_with_refusals, said_with_refusals}
+use Rattle.ghost_model.specs.laws.ShortWords.{said_to, bad_from}
 use Rattle.ghost_model.specs.core.Host as host
 use Rattle.ghost_model.specs.core.Moves.{taken, sent, piece_of, sent_by}
 use Rattle.ghost_model.specs.core.NextMove.{InvalidFrame, is_stop}

@@ -11,7 +11,8 @@ use Rattle.ghost_model.specs.forms.Cells.{cell_width, encode_cell}
 use Rattle.ghost_model.specs.core.Database.{is_of_kind, meets}
 use Rattle.ghost_model.specs.core.Channel.{Ask, Test}
 use Rattle.ghost_model.specs.core.Asks.{RowCells, kind_at, kind_or_none, is_proper_ask}
-use Rattle.ghost_model.specs.core.Split.{is_open, kind_of_column, value_at, asked_value, cells, are_of_kinds, meets_test, meets_tests, visible_places, replies_from, replied, reply_row}
+use Rattle.ghost_model.specs.core.Split.{is_open, kind_of_column, value_at, asked_value, cells, are_of_kinds, meets_tests, visible_places, replies_from, replied}
+use Rattle.ghost_model.specs.laws.ShortWords.{meets_test, reply_row}
 use Rattle.ghost_base.specs.CellLaws.{byte_order}
 use Rattle.ghost_base.proofs.CellOrders.{cell_order}
 use Rattle.host_exec.specs.RowBytes.{Form, Span, ByteTest, cut, passes, width_before, data_columns, row_width, span_of, test_of, form_of, window, row_at, replies_at}

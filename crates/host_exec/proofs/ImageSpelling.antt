@@ -8,7 +8,7 @@ use Rattle.ghost_model.specs.core.Values.{Row, Rows}
 use Rattle.ghost_model.specs.forms.Catalog.{catalog_bytes, BeginsWithCatalog}
 use Rattle.ghost_model.specs.laws.CatalogLaws.{CatalogsHaveOneSpelling, NoCatalogIsLong}
 use Rattle.ghost_model.specs.core.Channel.{Catalog}
-use Rattle.ghost_model.specs.core.Database.{rows_or_none}
+use Rattle.ghost_model.specs.laws.ShortWords.{rows_or_none}
 use Rattle.ghost_model.specs.core.Split.{Public, public_rows, cells, are_of_kinds, visible_kinds, cells_of_tables, SpellsImage}
 use Rattle.host_exec.specs.RowBytes.{window, width_before, data_columns, row_width, table_start}
 use Rattle.host_exec.specs.Checked.{SpellsRow, GoodRows, GoodTable, BadTable, IsImage, IsChecked, IsNoImage}

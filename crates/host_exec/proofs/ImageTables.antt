@@ -9,7 +9,7 @@ use Rattle.ghost_model.specs.core.Values.{Row, Rows}
 use Rattle.ghost_model.specs.forms.Catalog.{catalog_bytes}
 use Rattle.ghost_model.specs.core.Channel.{Catalog, Ask}
 use Rattle.ghost_model.specs.core.Asks.{is_proper_ask}
-use Rattle.ghost_model.specs.core.Database.{rows_or_none}
+use Rattle.ghost_model.specs.laws.ShortWords.{rows_or_none}
 use Rattle.ghost_model.specs.core.Host.{host_of}
 use Rattle.ghost_model.specs.core.Split.{Public, public_rows, cells, are_of_kinds, visible_kinds, cells_of_tables, SpellsImage, reply_rows}
 use Rattle.host_exec.specs.RowBytes.{width_before, data_columns, row_width, form_of, replies_at, table_start}

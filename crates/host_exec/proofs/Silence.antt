@@ -2,8 +2,7 @@
 use Rattle.std.proofs.Common.{◌≡◌, ℕ, ◌<◌, false, List, [], ◌∷◌, length, take, drop, ap, subst, sym, ◌∙◌, refl, arith, Some}
 use Rattle.std.proofs.lemmas.List.{length-drop}
 use Rattle.ghost_model.specs.core.Channel.{Frame}
-use Rattle.ghost_model.specs.core.Host.{Stand, Response, goes_on, grouped, welcomes_of, most_part}
-use Rattle.ghost_model.specs.core.Host.{Holding}
+use Rattle.ghost_model.specs.core.Host.{Stand, Response, goes_on, grouped, welcomes_of, most_part, Holding}
 use Rattle.host_exec.specs.Hosts.{Holds, IsSameHost}
 use Rattle.host_exec.specs.Holdings.{HoldsFile}
 use Rattle.host_exec.specs.declared.host.Host.{Host}

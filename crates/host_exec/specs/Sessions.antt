@@ -6,7 +6,8 @@ use Rattle.ghost_model.specs.core.Channel as channel
 use Rattle.ghost_model.specs.core.Channel.{Frame, Close, Made, Journal}
 use Rattle.edge_traits.specs.Links.{entry}
 use Rattle.ghost_model.specs.forms.Frames.{IsFrame, Short, Found, got_of, frame_bytes, kind_in}
-use Rattle.ghost_model.specs.core.Host.{Holding, Stand, Response, said_to, frames_of, bad_from, bad_request, host_sends, answer_to, answer_as}
+use Rattle.ghost_model.specs.core.Host.{Holding, Stand, Response, frames_of, bad_request, host_sends, answer_to, answer_as}
+use Rattle.ghost_model.specs.laws.ShortWords.{said_to, bad_from}
 use Rattle.ghost_model.specs.core.Host as host
 use Rattle.ghost_model.specs.core.Moves.{taken, sent, answers}
 use Rattle.ghost_model.specs.core.NextMove.{InvalidFrame, is_stop}

@@ -8,7 +8,7 @@ use Rattle.std.proofs.lemmas.Bool.Decides.{nat_tests}
 use Rattle.std.proofs.lemmas.List.{length-append, length-map, get_or-map, take_more}
 use Rattle.std.proofs.lemmas.List.Elements.{All-get_or, All-tail}
 use Rattle.ghost_model.specs.forms.Runs.{number_cell}
-use Rattle.ghost_model.specs.forms.Flash.{list_place}
+use Rattle.ghost_model.specs.forms.Flash.{list_place, ids, hidden_cells, leads_to, cell_led_to, value_lists, id_lists, AreValues}
 use Rattle.std.specs.List.Sorted.{IsStrictlySortedBy}
 use Rattle.std.specs.Cmp.Lexicographic.{slice_cmp}
 use Rattle.std.specs.Ordering.{nat_cmp, is_eq, ordering_reverse}
@@ -23,7 +23,6 @@ use Rattle.ghost_model.specs.core.Schema.{is_table}
 use Rattle.ghost_model.specs.core.Channel.{Catalog}
 use Rattle.ghost_model.specs.core.Split.{Hidden}
 use Rattle.ghost_model.specs.forms.Layout.{count_of}
-use Rattle.ghost_model.specs.forms.Flash.{ids, hidden_cells, leads_to, cell_led_to, value_lists, id_lists, AreValues}
 use Rattle.index_lists.specs.Ranks.{AreRanks, of_referred}
 use Rattle.index_lists.specs.Lists.{rank_of, rows_of_rank, lists_of, start_of}
 use Rattle.index_lists.specs.Laws.{LeadAs}

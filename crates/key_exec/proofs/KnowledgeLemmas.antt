@@ -8,10 +8,11 @@ use Rattle.visible_spool.specs.declared.half.Half.{Half}
 use Rattle.ghost_model.specs.core.Asks.{kind_at}
 use Rattle.ghost_model.specs.forms.Runs.{Run, Stores, page_of, record_at, run_end, run_pages, found_in}
 use Rattle.ghost_model.specs.forms.Layout as layout
-use Rattle.ghost_model.specs.forms.Layout.{is_hidden, count_of, width_at, column_file, subtree_table, descendants_of, static_end, files_end}
-use Rattle.ghost_model.specs.forms.Slots.{Cells, child_rows, spelled, may_stand, IsOutOfOrder, in_slot}
+use Rattle.ghost_model.specs.forms.Layout.{is_hidden, count_of, width_at, descendants_of, static_end, files_end, Cells}
+use Rattle.ghost_model.specs.laws.ShortWords.{column_file, subtree_table}
+use Rattle.ghost_model.specs.forms.Slots.{child_rows, spelled, may_stand, IsOutOfOrder, in_slot}
 use Rattle.ghost_model.specs.laws.SchemaTrees.{IsTree}
-use Rattle.ghost_model.specs.laws.LayoutLaws.{LayoutIsSmall, FilesLieInOrder, RecordsStandWithin, FilesLieAsSummed}
+use Rattle.ghost_model.specs.laws.LayoutLaws.{LayoutIsSmall, FilesLieInOrder, RecordsStandWithin, FilesLieAsSummed, IsLimited}
 use Rattle.ghost_model.specs.laws.LayoutSums as sums
 use Rattle.flash_pages.proofs.RunFrames.{record_kept, stores_kept}
 use Rattle.hidden_columns.specs.Laws.{ColumnsGiveValues}
@@ -20,7 +21,6 @@ use Rattle.leakless_plan.specs.declared.plan.Plan.TheVariants as plans
 use Rattle.ghost_model.specs.core.Database.{IsDatabase, row_counts}
 use Rattle.ghost_model.specs.core.Split.{hidden_of}
 use Rattle.ghost_model.specs.forms.Flash.{HoldsFiles}
-use Rattle.ghost_model.specs.laws.LayoutLaws.{IsLimited}
 use Rattle.ghost_model.specs.laws.FlashLaws.{HoldingsAreKept}
 use Rattle.climbing_index.specs.Laws.{IsOf}
 use Rattle.candidate_knowledge.specs.Laws.{HeldFilesAreKnown, KnowledgeStays}
@@ -218,7 +218,7 @@ subtree_inside summed order cat table low some =
     let last : sums.table_begin cat (table + 1) ≤ sums.table_begin cat (length cat.schema) = lie.tables (table + 1) (length cat.schema) (omega (arith, low)) in
     let end : files_end cat ≡ sums.table_begin cat (length cat.schema) = sum.files_end in
     let rounded : files_end cat ≤ static_end cat = lie.static in
-    by (sums.table_begin cat table) (layout.columns_pages cat table) (sums.subtree_pages cat table)
+    by (sums.table_begin cat table) (sums.columns_pages cat table) (sums.subtree_pages cat table)
     (sums.indexes_pages cat table + sums.id_index_pages cat table) (sums.table_begin cat (table + 1)) (sums.table_begin cat (length cat.schema)) (files_end cat) (static_end cat)
     (subtree_table cat table).first (run_pages (subtree_table cat table)) first pages next last end rounded
   where

@@ -6,10 +6,10 @@ use Rattle.std.proofs.lemmas.Bool.Decides.{nat_tests}
 use Rattle.ghost_model.specs.core.Schema.{is_empty}
 use Rattle.ghost_model.specs.core.Channel.{Catalog}
 use Rattle.ghost_model.specs.core.Query.{Query}
-use Rattle.ghost_model.specs.forms.Layout.{column_file, descendants_of, subtree_table, width_at}
+use Rattle.ghost_model.specs.forms.Layout.{descendants_of, width_at, Cells, Subtrees}
+use Rattle.ghost_model.specs.laws.ShortWords.{column_file, subtree_table}
 use Rattle.ghost_model.specs.laws.LayoutSums as sums
 use Rattle.ghost_model.specs.forms.Runs.{Run, page_of, run_end}
-use Rattle.ghost_model.specs.forms.Slots.{Cells, Subtrees}
 use Rattle.ghost_model.specs.laws.LayoutLaws.{LayoutIsSmall, RecordsStandWithin}
 use Rattle.ghost_model.specs.laws.SchemaTrees.{IsTree}
 use Rattle.ghost_base.specs.Runs.{run_of}

@@ -3,6 +3,8 @@ use Rattle.std.proofs.Common.{◌≡◌, ℕ, zero, suc, ◌<◌, arith, true, L
 use Rattle.std.specs.FinMap as map
 use Rattle.ghost_model.specs.core.Schema.{Schema, columns_of}
 use Rattle.ghost_model.specs.readings.SchemaReading.{schema_reading}
+use Rattle.ghost_model.specs.laws.ShortWords as short
+use Rattle.ghost_model.specs.laws.LoadLaws as load_laws
 use Rattle.ghost_model.specs.refusals.LoadFaults as load
 use Rattle.ghost_model.specs.core.Values.{Database}
 use Rattle.ghost_model.specs.core.Database.{database_of, records_of}
@@ -92,16 +94,16 @@ broken_in_file files folder schema table file (broken.BadChars field value) foun
     }
 broken_in_file files folder schema table file (broken.BadReference field child value) found of names shows lines none = absurd of
 
-rule_first : (told : Option load.LoadFault) (rule : load.LoadFault) (faults : List load.LoadFault) → load.TellsFirst told faults
-    → Some (TableRule rule) ≡ rule_or told → load.IsFirst rule faults
+rule_first : (told : Option load.LoadFault) (rule : load.LoadFault) (faults : List load.LoadFault) → load_laws.TellsFirst told faults
+    → Some (TableRule rule) ≡ rule_or told → load_laws.IsFirst rule faults
 rule_first None rule faults first is = absurd (cc (is))
 rule_first (Some other) rule faults first is =
-    let same : other ≡ rule = cc (is) in subst (λ one. load.IsFirst one faults) same first
+    let same : other ≡ rule = cc (is) in subst (λ one. load_laws.IsFirst one faults) same first
 
 -- the error of a table's file
 pub shown_of_file : (files : Files) (folder : List ℕ) (schema : Schema) (table : ℕ) (file : List ℕ) (told : Option load.LoadFault) (error : OpenFault)
     → map.get files (table_file folder (name_at schema table)) ≡ Some file
-    → load.TellsFirst told (load.file_faults table (columns_of schema table) file) → rule_in error ≡ rule_or told
+    → load_laws.TellsFirst told (load.file_faults table (columns_of schema table) file) → rule_in error ≡ rule_or told
     → OfTable (IsNamedBy schema) error → OfTable (OfField (ShowsField file)) error → OfTable (OfRecord (TellsLine file)) error
     → (tells_empty error ≡ true → records_of file ≡ [])
     → OfTable (IsShownBy files folder schema) error
@@ -149,7 +151,7 @@ broken_key files folder schema read tables (broken.BadReference field child valu
 
 -- the error of foreign keys
 pub shown_of_keys : (files : Files) (folder : List ℕ) (schema : Schema) (read : List (List ℕ)) (tables : Database) (error : OpenFault)
-    → AreFiles files folder schema read → tables ≡ database_of schema read → TellsRule (rule_in error) (load.reference_faults schema tables)
+    → AreFiles files folder schema read → tables ≡ database_of schema read → TellsRule (rule_in error) (short.reference_faults schema tables)
     → OfTable (IsNamedBy schema) error → OfTable (OfKey (ShowsKey tables)) error → OfTable (OfRecord (IsLineOf files folder schema)) error
     → OfTable (IsShownBy files folder schema) error
 shown_of_keys files folder schema read tables open_fault.NoMemory are is rule names shows lines = tt

@@ -8,12 +8,12 @@ use Rattle.key_inputs.specs.declared.broken_table.BrokenTable.{BrokenTable}
 use Rattle.key_inputs.specs.declared.broken_table.BrokenTable.TheVariants as broken_table
 
 abbrev pub schema_rule : BrokenSchema → schemas.SchemaFault
-schema_rule (broken_schema.Syntax at) = schemas.Syntax at
-schema_rule broken_schema.Limit = schemas.Limit
+schema_rule (broken_schema.Syntax at) = schemas.BadSyntax at
+schema_rule broken_schema.Limit = schemas.OverLimit
 schema_rule (broken_schema.DuplicateTable named) = schemas.DuplicateName named.table 0
 schema_rule (broken_schema.DuplicateColumn named) = schemas.DuplicateName named.table named.column
 schema_rule (broken_schema.NoId named) = schemas.NoId named.table
-schema_rule (broken_schema.UnknownTable named) = schemas.UnknownTable named.table named.column
+schema_rule (broken_schema.UnknownTable named) = schemas.UnknownChild named.table named.column
 schema_rule (broken_schema.TwoParents named) = schemas.TwoParents named.table
 schema_rule (broken_schema.Cycle named) = schemas.Cycle named.table
 schema_rule (broken_schema.NotOneRoot roots) = schemas.NotOneRoot roots

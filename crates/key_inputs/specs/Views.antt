@@ -1,6 +1,7 @@
 -- What the results of an opening tell.
 use Rattle.std.specs.Prelude.{◌≡◌, ℕ, List, [], length, slice_get, map as each, Option, Some, None, Result, Ok, Err, ⊤}
 use Rattle.std.specs.FinMap as map
+use Rattle.ghost_model.specs.laws.LoadLaws as load_laws
 use Rattle.ghost_model.specs.refusals.LoadFaults as load
 use Rattle.ghost_model.specs.core.Database.{database_of, rows_spelled}
 use Rattle.ghost_model.specs.core.Schema.{Schema, Table, Column, columns_of}
@@ -34,7 +35,7 @@ rule_in _ = None
 -- a rule that is told is that of the first of some faults
 abbrev pub TellsRule : Option InputFault → List load.LoadFault → Type 0
 TellsRule None faults = ⊤
-TellsRule (Some rule) faults = (fault : load.LoadFault) × (rule ≡ TableRule fault) × load.IsFirst fault faults
+TellsRule (Some rule) faults = (fault : load.LoadFault) × (rule ≡ TableRule fault) × load_laws.IsFirst fault faults
 
 abbrev pub IsBroken : {X : Type 0} → Opening X → Option InputFault → Type 0
 IsBroken opening None = ⊤

@@ -2,6 +2,7 @@
 
 ghost use Rattle.std.specs.Prelude.{◌≡◌, ◌≤◌, ◌<◌, ◌^◌, ℕ, List, [], Some, Err, IfOk, IfErr, MatchResult, length, string_bytes, is_some, true};
 ghost use Rattle.ghost_model.specs.core.Causes.{Rose};
+ghost use Rattle.ghost_model.specs.laws.ShortWords as short;
 ghost use Rattle.ghost_model.specs.core.Database as database;
 ghost use Rattle.edge_traits.specs.Files.{Files, AreSure};
 ghost use Rattle.key_inputs.specs.Openings.{tables_opening, tables_from};
@@ -208,7 +209,7 @@ fn check_keys<D: Depot>(
     folder: &str,
     depot: &mut D,
 ) -> Result<(), OpenFault>
-    ensures judged { MatchResult result (λ _. load.reference_faults schema.now tables.now ≡ []) (λ fault. TellsRule (rule_in fault) (load.reference_faults schema.now tables.now)) }
+    ensures judged { MatchResult result (λ _. short.reference_faults schema.now tables.now ≡ []) (λ fault. TellsRule (rule_in fault) (short.reference_faults schema.now tables.now)) }
     ensures tells { IfErr result (λ fault. (fault ≡ OpenFault.Depot → ⊥) → is_some (rule_in fault) ≡ true) }
     ensures names { IfErr result (OfTable (IsNamedBy schema.now)) }
     ensures keys { IfErr result (OfTable (OfKey (ShowsKey tables.now))) }

@@ -2,12 +2,11 @@
 
 ghost use Rattle.std.specs.Prelude.{◌≡◌, ◌⊎◌, ◌<◌, ◌≤◌, ◌*◌, true, false, Some, Err, OnOk, ℕ, List};
 ghost use Rattle.ghost_model.specs.core.Causes.{Rose};
-ghost use Rattle.ghost_model.specs.forms.Flash.{HoldsCatalog, HoldsFiles, Holds};
+ghost use Rattle.ghost_model.specs.forms.Flash.{HoldsCatalog, HoldsFiles, Holds, IsHidden};
 ghost use Rattle.ghost_model.specs.forms.Layout as layout;
 ghost use Rattle.ghost_model.specs.core.Split.{Hidden};
 ghost use Rattle.edge_traits.specs.Devices.{IsErased};
 ghost use Rattle.edge_traits.specs.Files.{SameBut, with_file};
-ghost use Rattle.ghost_model.specs.forms.Flash.{IsHidden};
 ghost use Rattle.flash_build.specs.Sealing.{SpellsNoCatalog};
 ghost use Rattle.key_words.specs.Blocks.{most_blocks};
 ghost use Rattle.key_load.specs.Preparing.{IsBuilt};

@@ -2,10 +2,9 @@
 
 ghost use Rattle.std.specs.Prelude.{◌≡◌, ◌≤◌, ◌<◌, ◌+◌, ◌^◌, [], true, Some, Err, OnOk, option_map, ℕ, List};
 ghost use Rattle.ghost_model.specs.core.Causes.{HasCause, Rose};
-ghost use Rattle.ghost_model.specs.forms.Flash.{Holds};
+ghost use Rattle.ghost_model.specs.forms.Flash.{Holds, IsHidden};
 ghost use Rattle.ghost_model.specs.forms.Layout as layout;
 ghost use Rattle.flash_build.specs.Building.{load_calls};
-ghost use Rattle.ghost_model.specs.forms.Flash.{IsHidden};
 ghost use Rattle.edge_traits.specs.Devices.{Counts};
 ghost use Rattle.key_local.specs.Making.{IsOfMaking};
 ghost use Rattle.key_local.specs.Sessions.{HasLines, SameBesides};

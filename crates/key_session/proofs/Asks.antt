@@ -4,12 +4,13 @@ use Rattle.std.specs.Prelude.{◌==◌}
 use Rattle.std.proofs.lemmas.List.{length-map}
 use Rattle.std.specs.List.{range_with_len}
 use Rattle.std.proofs.lemmas.List.Sums.{sum_by-append, sum_by-cons}
-use Rattle.ghost_model.specs.core.Schema.{Schema, Column, Kind, columns_of, column_at, is_visible}
+use Rattle.ghost_model.specs.core.Schema.{Schema, Column, Kind, columns_of, column_at, is_visible, places_of}
 use Rattle.ghost_model.specs.core.Query.{Query}
 use Rattle.ghost_model.specs.readings.QueryReading.{reading}
 use Rattle.ghost_model.specs.forms.Cells.{cell_width}
 use Rattle.ghost_model.specs.core.Channel.{Ask}
-use Rattle.ghost_model.specs.core.Asks.{NumberedAsk, asked, asked_from, asked_of, asks_of, asks_of_reading, ask_for, is_from, is_needed, is_wanted, places, kind_or_none, kind_at, row_width}
+use Rattle.ghost_model.specs.core.Asks.{NumberedAsk, asked, asked_from, asked_of, asks_of, asks_of_reading, ask_for, is_needed, is_wanted, kind_or_none, kind_at, row_width}
+use Rattle.ghost_model.specs.laws.ShortWords.{is_from}
 use Rattle.ghost_model.specs.forms.Layout.{below, width_at, spool_width}
 use Rattle.ghost_model.proofs.LayoutLemmas.Columns.{width_or_none}
 use Rattle.ghost_model.proofs.ChannelLemmas.Tests.{both_hold}
@@ -99,24 +100,24 @@ module _ (schema : Schema) (text : ℕ) (f : Ask → ℕ) where
 asks_weigh : (schema : Schema) (query : Query) (f : Ask → ℕ) (g : ℕ → ℕ) → ((table : ℕ) → f (ask_for schema query table) ≤ g table)
     → sum_by f (asks_of schema query) ≤ sum_by g (below (length schema))
 asks_weigh schema query f g less =
-    let tables : List ℕ = filter (is_from query) (places schema) in
+    let tables : List ℕ = filter (is_from query) (places_of schema) in
     let needed = sum_part f is_needed (map (ask_for schema query) tables) in
     let mapped = sum_mapped f (ask_for schema query) tables in
     let lower = sum_less (λ (table : ℕ). f (ask_for schema query table)) g less tables in
-    let part = sum_part g (is_from query) (places schema) in
-    let all : sum_by g (places schema) ≡ sum_by g (below (length schema)) = ap (sum_by g) (places_below 0 schema) in
+    let part = sum_part g (is_from query) (places_of schema) in
+    let all : sum_by g (places_of schema) ≡ sum_by g (below (length schema)) = ap (sum_by g) (places_below 0 schema) in
     omega (arith, needed, mapped, lower, part, all)
 
 -- a row of a reply is no wider than one with all visible columns
 pub narrow : (schema : Schema) (query : Query) (table : ℕ) → row_width schema (ask_for schema query table) ≤ spool_width schema table
 narrow schema query table =
-    let columns : List ℕ = filter (is_wanted schema query.select table) (places (columns_of schema table)) in
+    let columns : List ℕ = filter (is_wanted schema query.select table) (places_of (columns_of schema table)) in
     let kinds : List Kind = map (kind_at schema table) columns in
     let cells : sum (map cell_width kinds) ≡ sum_by cell_width kinds = sum_mapped (λ (x : ℕ). x) cell_width kinds in
     let widths = sum_mapped cell_width (kind_at schema table) columns in
     let lower = sum_less (λ (column : ℕ). cell_width (kind_at schema table column)) (width_at schema table) (λ column. as_wide (column_at schema table column)) columns in
-    let seen = sum_fewer (width_at schema table) (is_wanted schema query.select table) (is_visible schema table) (λ column wanted. (both_hold (is_visible schema table column) _ wanted).one) (places (columns_of schema table)) in
-    let all : sum_by (width_at schema table) (filter (is_visible schema table) (places (columns_of schema table))) ≡ sum_by (width_at schema table) (filter (is_visible schema table) (below (length (columns_of schema table)))) =
+    let seen = sum_fewer (width_at schema table) (is_wanted schema query.select table) (is_visible schema table) (λ column wanted. (both_hold (is_visible schema table column) _ wanted).one) (places_of (columns_of schema table)) in
+    let all : sum_by (width_at schema table) (filter (is_visible schema table) (places_of (columns_of schema table))) ≡ sum_by (width_at schema table) (filter (is_visible schema table) (below (length (columns_of schema table)))) =
     ap (λ (ks : List ℕ). sum_by (width_at schema table) (filter (is_visible schema table) ks)) (places_below 0 (columns_of schema table)) in
     omega (arith, cells, widths, lower, seen, all)
   where

@@ -8,7 +8,7 @@ use Rattle.ghost_model.specs.core.Query.{Query}
 use Rattle.ghost_model.specs.core.Channel.{Catalog, Journal}
 use Rattle.ghost_model.specs.core.Asks.{NumberedAsk, asked_of}
 use Rattle.ghost_model.specs.core.Moves.{taken, answers}
-use Rattle.ghost_model.specs.core.NextMove.{Awaits, AwaitsCatalog, AwaitsReply, AwaitsNothing, is_stop}
+use Rattle.ghost_model.specs.core.NextMove.{Awaits, AwaitsCatalog, AwaitsReply, AwaitsNothing, is_stop, IsProper, IsFinished, Heard}
 use Rattle.channel_pump.specs.Marks.{asked_at}
 use Rattle.channel_pump.specs.declared.state.Pump.{Pump}
 use Rattle.ghost_model.specs.forms.Frames.{payload_in}
@@ -24,8 +24,6 @@ use Rattle.channel_pump.specs.State.{want_of}
 use Rattle.channel_pump.specs.declared.state.Want.{Want}
 use Rattle.channel_pump.specs.declared.state.Want.TheVariants as want_is
 use Rattle.session_laws.specs.TextCases.{TextsHaveOutcomes}
-use Rattle.ghost_model.specs.core.NextMove.{IsProper, IsFinished}
-use Rattle.ghost_model.specs.core.NextMove.{Heard}
 use Rattle.edge_traits.specs.Devices.{Device}
 use Rattle.page_pool.specs.Pools.{Pool}
 use Rattle.key_lines.specs.Handing.{Handed}

@@ -3,10 +3,11 @@ use Rattle.std.proofs.Common.{◌≡◌, zero, suc, Bool, true, false, ◌==◌,
 use Rattle.std.specs.Prelude.{All, Contains}
 use Rattle.std.proofs.lemmas.Bool.{eqb-true, eq-eqb}
 use Rattle.std.proofs.lemmas.List.Elements.{All-map, All-filter, All-head, All-tail, All-contains}
-use Rattle.ghost_model.specs.core.Schema.{Schema}
+use Rattle.ghost_model.specs.core.Schema.{Schema, places_of}
 use Rattle.ghost_model.specs.core.Channel.{Ask}
 use Rattle.ghost_model.specs.core.Query.{Query}
-use Rattle.ghost_model.specs.core.Asks.{ask_for, asks_of, is_needed, is_from, places}
+use Rattle.ghost_model.specs.core.Asks.{ask_for, asks_of, is_needed}
+use Rattle.ghost_model.specs.laws.ShortWords.{is_from}
 use Rattle.ghost_model.specs.core.Replies.{reply_about}
 use Rattle.ghost_model.specs.core.Split.{Public}
 use Rattle.ghost_model.specs.laws.SessionLaws.{whole_reply, whole_replies}
@@ -19,8 +20,8 @@ module _ (schema : Schema) (public : Public) (query : Query) where
 
   all_own : All IsOwn (asks_of schema query)
   all_own =
-      All-filter is_needed IsOwn (map (ask_for schema query) (filter (is_from query) (places schema)))
-      (All-map IsOwn (ask_for schema query) (filter (is_from query) (places schema)) (λ k d less. refl))
+      All-filter is_needed IsOwn (map (ask_for schema query) (filter (is_from query) (places_of schema)))
+      (All-map IsOwn (ask_for schema query) (filter (is_from query) (places_of schema)) (λ k d less. refl))
 
   same_table : (one other : Ask) → IsOwn one → IsOwn other → one.table ≡ other.table → one ≡ other
   same_table one other own its same = own ∙ (ap (ask_for schema query) same ∙ sym its)

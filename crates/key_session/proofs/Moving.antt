@@ -6,8 +6,9 @@ use Rattle.ghost_model.specs.core.Channel.{Catalog, Journal}
 use Rattle.ghost_model.specs.refusals.SchemaFaults.{MeansSchema}
 use Rattle.ghost_model.specs.core.Asks.{NumberedAsk, asked_of}
 use Rattle.ghost_model.specs.core.Moves.{taken}
-use Rattle.ghost_model.specs.core.NextMove.{Awaits, AwaitsCatalog, AwaitsReply, AwaitsNothing, EndedAsk, Heard, hear_all}
-use Rattle.ghost_model.specs.core.Lines.{Reason, WasRefused, WasBroken, WasAnswered, MetFault, ended_of, all_done, was_refused, broken_word}
+use Rattle.ghost_model.specs.core.NextMove.{Awaits, AwaitsCatalog, AwaitsReply, AwaitsNothing, EndedAsk, Heard, hear_all, standing_after}
+use Rattle.ghost_model.specs.core.Lines.{Reason, WasRefused, WasBroken, WasAnswered, MetFault, all_done, was_refused, broken_word}
+use Rattle.ghost_model.specs.laws.ShortWords.{ended_of}
 use Rattle.ghost_model.specs.core.Split.{hidden_of}
 use Rattle.channel_pump.specs.Progress.{Tells, ended_on}
 use Rattle.channel_pump.specs.declared.state.Event.{Event}
@@ -27,7 +28,6 @@ use Rattle.key_session.specs.Reasons.{CameTo, IsReason, AreSomeLines}
 use Rattle.page_pool.specs.Pools.{Pool}
 use Rattle.session_laws.specs.TextEnds.{OverTextsAreSettled, StaysSettledIn, AsksAreAwaitedInOrder}
 use Rattle.session_laws.specs.TextCases.{TextsHaveOutcomes}
-use Rattle.ghost_model.specs.core.NextMove.{standing_after}
 use Rattle.channel_pump.specs.Marks.{state_of}
 use Rattle.channel_pump.specs.State.{want_of}
 use Rattle.channel_pump.specs.declared.state.Pump.{Pump}

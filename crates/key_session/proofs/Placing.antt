@@ -1,11 +1,12 @@
 -- Each ask of a text is for a table of the schema that has a visible column, and its rows are no wider than all visible columns.
 use Rattle.std.proofs.Common.{◌≡◌, ℕ, ◌+◌, ◌<◌, Bool, true, false, not, ◌&&◌, List, [], ◌∷◌, ◌++◌, length, map, filter, refl, arith, nat_lt, nat_le, lt-ltb, le-leb, Result, Ok, Err, if◌then◌else◌}
 use Rattle.std.specs.Prelude.{◌==◌}
-use Rattle.ghost_model.specs.core.Schema.{Schema, columns_of, is_visible, is_empty, places_from}
+use Rattle.ghost_model.specs.core.Schema.{Schema, columns_of, is_visible, is_empty, places_from, places_of}
 use Rattle.ghost_model.specs.core.Query.{Query, Condition, Compare, Join}
 use Rattle.ghost_model.specs.readings.QueryReading.{reading}
 use Rattle.ghost_model.specs.core.Channel.{Catalog, Ask}
-use Rattle.ghost_model.specs.core.Asks.{NumberedAsk, asked, asked_from, asked_of, asks_of, asks_of_reading, ask_for, is_from, is_needed, is_wanted, places, tests_of, row_width}
+use Rattle.ghost_model.specs.core.Asks.{NumberedAsk, asked, asked_from, asked_of, asks_of, asks_of_reading, ask_for, is_needed, is_wanted, row_width}
+use Rattle.ghost_model.specs.laws.ShortWords.{tests_of, is_from}
 use Rattle.ghost_model.specs.forms.Layout.{spool_width}
 use Rattle.ghost_model.proofs.ChannelLemmas.Tests.{false_is_not, both_hold, hold_both}
 use Rattle.ghost_model.proofs.SessionLemmas.Accepted.{Each}
@@ -70,12 +71,12 @@ module _ (schema : Schema) (table : ℕ) where
   seen_of query needed = go (is_empty columns) refl (is_empty (tests_of schema table query.conditions)) refl needed
     where
       columns : List ℕ
-      columns = filter (is_wanted schema query.select table) (places (columns_of schema table))
+      columns = filter (is_wanted schema query.select table) (places_of (columns_of schema table))
 
-      go : (a : Bool) → is_empty (filter (is_wanted schema query.select table) (places (columns_of schema table))) ≡ a
+      go : (a : Bool) → is_empty (filter (is_wanted schema query.select table) (places_of (columns_of schema table))) ≡ a
           → (b : Bool) → is_empty (tests_of schema table query.conditions) ≡ b → not (a && b) ≡ true → Seen
       go false some b e n =
-          let found = passes (is_wanted schema query.select table) (places (columns_of schema table)) some in
+          let found = passes (is_wanted schema query.select table) (places_of (columns_of schema table)) some in
           (found.0, (both_hold (is_visible schema table found.0) _ found.1).one)
       go true none false some n = tested query.conditions some
       go true none true all n = absurd (false_is_not n)
@@ -94,7 +95,7 @@ module _ (catalog : Catalog) (room : HasRoom catalog.schema) where
       (λ t there needed. (let seen = seen_of schema t query needed in
       hold_both _ _ (lt-ltb t (length schema) there)
       (hold_both _ _ (lt-ltb 4 (spool_width schema t) (room t seen.0 seen.1)) (le-leb (row_width schema (ask_for schema query t)) (spool_width schema t) (narrow schema query t)))))
-      (filter (is_from query) (places schema)) (each_filtered (λ (t : ℕ). t < length schema) (is_from query) (places schema) (places_in 0 (length schema) schema (omega arith)))
+      (filter (is_from query) (places_of schema)) (each_filtered (λ (t : ℕ). t < length schema) (is_from query) (places_of schema) (places_in 0 (length schema) schema (omega arith)))
 
   numbered : (number : ℕ) (asks : List Ask) → Each (λ (ask : Ask). is_placed catalog (asked number ask) ≡ true) asks
       → Each (λ (one : NumberedAsk). is_placed catalog one ≡ true) (map (asked number) asks)

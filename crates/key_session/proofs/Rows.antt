@@ -3,7 +3,7 @@ use Rattle.std.proofs.Common.{◌≡◌, ℕ, zero, suc, ◌+◌, ◌*◌, ◌/�
 use Rattle.std.proofs.Math.Nat.{mod-add-div', suc-mul}
 use Rattle.std.proofs.lemmas.List.{length-drop, take-append-le, drop-append-le}
 use Rattle.ghost_model.specs.core.Schema.{Kind}
-use Rattle.ghost_model.specs.core.Channel.{Catalog, Ask, row_count_in}
+use Rattle.ghost_model.specs.core.Channel.{Catalog, Ask, count_of}
 use Rattle.ghost_model.specs.core.Asks.{kinds_of, row_width, RowCells, row_in, rows_from, rows_in, ascend_from}
 use Rattle.ghost_model.specs.core.NextMove.{are_cells, rows_fit, last_identifier}
 use Rattle.ghost_model.proofs.ChannelLemmas.Tests.{both_hold, hold_both}
@@ -41,7 +41,7 @@ module _ (catalog : Catalog) (ask : Ask) where
     pub ascend : ascend_from 0 (identifiers (rows_from width count bytes)) ≡ true
     pub final : last_identifier 0 (rows_from width count bytes) ≡ last
     pub few : count ≤ last
-    pub most : last ≤ row_count_in catalog ask.table
+    pub most : last ≤ count_of catalog ask.table
 
   pub none_came : Came [] 0
   unfolding rows_from
@@ -71,13 +71,13 @@ module _ (catalog : Catalog) (ask : Ask) where
   record Climb (last : ℕ) (rows : List RowCells) : Type 0 where
     ascend : ascend_from last (identifiers rows) ≡ true
     few : last + length rows ≤ last_identifier last rows
-    most : last ≤ row_count_in catalog ask.table → last_identifier last rows ≤ row_count_in catalog ask.table
+    most : last ≤ count_of catalog ask.table → last_identifier last rows ≤ count_of catalog ask.table
 
-  climbs : (last : ℕ) (rows : List RowCells) → rows_fit (row_count_in catalog ask.table) last kinds rows ≡ true → Climb last rows
+  climbs : (last : ℕ) (rows : List RowCells) → rows_fit (count_of catalog ask.table) last kinds rows ≡ true → Climb last rows
   unfolding rows_fit
   climbs last [] fit = record { ascend = refl; few = omega arith; most = λ h. h }
   climbs last (row ∷ later) fit =
-      let all = row_count_in catalog ask.table in
+      let all = count_of catalog ask.table in
       let both = both_hold (nat_lt last row.identifier && nat_le row.identifier all && are_cells kinds row.cells) (rows_fit all row.identifier kinds later) fit in
       let front = both_hold (nat_lt last row.identifier && nat_le row.identifier all) (are_cells kinds row.cells) both.one in
       let bounds = both_hold (nat_lt last row.identifier) (nat_le row.identifier all) front.one in
@@ -93,7 +93,7 @@ module _ (catalog : Catalog) (ask : Ask) where
 
   -- the rows of a frame that fits, after rows that came
   pub more_came : (bytes payload : List ℕ) (last : ℕ) → Came bytes last → length payload % width ≡ 0
-      → rows_fit (row_count_in catalog ask.table) last kinds (rows_in catalog.schema ask payload) ≡ true
+      → rows_fit (count_of catalog ask.table) last kinds (rows_in catalog.schema ask payload) ≡ true
       → Came (bytes ++ payload) (last_identifier last (rows_in catalog.schema ask payload))
   more_came bytes payload last came whole fit =
       let more = length payload / width in

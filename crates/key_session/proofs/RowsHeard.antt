@@ -1,7 +1,7 @@
 -- Rows came for the ask at hand.
 use Rattle.std.proofs.Common.{◌≡◌, ◌≤◌, ◌<◌, ◌+◌, ◌*◌, ℕ, arith, Bool, true, false, ◌==◌, ◌&&◌, List, ◌++◌, length, map, refl, sym, ◌∙◌, ap, subst, append-nil, Some, if◌then◌else◌, inl}
 use Rattle.std.proofs.lemmas.Bool.{eqb-true}
-use Rattle.ghost_model.specs.core.Channel.{Catalog, row_count_in}
+use Rattle.ghost_model.specs.core.Channel.{Catalog, count_of}
 use Rattle.ghost_model.specs.core.Asks as asks
 use Rattle.ghost_model.specs.core.Asks.{NumberedAsk, RowCells, rows_from}
 use Rattle.ghost_model.specs.core.NextMove.{Heard, EndedAsk, Awaits, AwaitsCatalog, AwaitsReply, AwaitsNothing, rows_fit, last_identifier}
@@ -93,8 +93,8 @@ module _ (told : Bool) (device : Device) (pool : Pool) (catalog : Catalog) (hear
   its_width : (area_at old.spool old.hand.table).width ≡ spool_width catalog.schema is.at.asked.ask.table
   its_width = its_area.width_is ∙ ap (λ n. spool_width catalog.schema n) is.at.ask.table_is
 
-  its_rows : (area_at old.spool old.hand.table).rows ≡ row_count_in catalog is.at.asked.ask.table
-  its_rows = its_area.rows_is ∙ ap (λ n. row_count_in catalog n) is.at.ask.table_is
+  its_rows : (area_at old.spool old.hand.table).rows ≡ count_of catalog is.at.asked.ask.table
+  its_rows = its_area.rows_is ∙ ap (λ n. count_of catalog n) is.at.ask.table_is
 
   pub area_visible : 4 < (area_at old.spool old.hand.table).width
   area_visible = let width = its_width in let visible = is.fits.visible in omega (arith, width, visible)
@@ -138,8 +138,8 @@ module _ (told : Bool) (device : Device) (pool : Pool) (catalog : Catalog) (hear
         before = omega (arith, before, last);
         fit =
             ap (λ rows. rows_fit rows is.last (map kind_of old.hand.kinds.items) (cells_at old.hand.width payload)) its_rows
-            ∙ (ap (λ kinds. rows_fit (row_count_in catalog is.at.asked.ask.table) is.last kinds (cells_at old.hand.width payload)) is.at.ask.kinds_are
-            ∙ (ap (λ width. rows_fit (row_count_in catalog is.at.asked.ask.table) is.last (asks.kinds_of catalog.schema is.at.asked.ask) (cells_at width payload)) is.at.ask.width_is
+            ∙ (ap (λ kinds. rows_fit (count_of catalog is.at.asked.ask.table) is.last kinds (cells_at old.hand.width payload)) is.at.ask.kinds_are
+            ∙ (ap (λ width. rows_fit (count_of catalog is.at.asked.ask.table) is.last (asks.kinds_of catalog.schema is.at.asked.ask) (cells_at width payload)) is.at.ask.width_is
             ∙ came.fit));
       }
 

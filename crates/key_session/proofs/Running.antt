@@ -7,19 +7,17 @@ use Rattle.std.specs.List.{list_any}
 use Rattle.std.proofs.lemmas.List.Sums.{sum_by-cons}
 use Rattle.ghost_model.specs.core.Causes.{Rose, last_count}
 use Rattle.ghost_model.specs.core.Values.{Database}
-use Rattle.ghost_model.specs.core.Channel.{Catalog, Journal}
+use Rattle.ghost_model.specs.core.Channel.{Catalog, Journal, Entry}
 use Rattle.ghost_model.specs.core.Asks.{asked_of}
-use Rattle.ghost_model.specs.core.Lines.{Reason, WasRefused, WasBroken, WasAnswered, MetFault}
-use Rattle.ghost_model.specs.core.NextMove.{Standing, Heard, standing_after, IsProper, IsFinished}
+use Rattle.ghost_model.specs.core.Lines.{Reason, WasRefused, WasBroken, WasAnswered, MetFault, all_done, is_refused_by}
+use Rattle.ghost_model.specs.core.NextMove.{Standing, Heard, standing_after, IsProper, IsFinished, EndedAsk, Ending, Answered, Refused, is_stop}
 use Rattle.page_pool.specs.Pools.{Pool}
 use Rattle.channel_pump.specs.Entries.{WentBy}
 use Rattle.channel_pump.specs.Sessions.{IsLive}
 use Rattle.session_laws.specs.TextEnds.{heard_in}
 use Rattle.ghost_model.specs.core.Query.{Query}
-use Rattle.ghost_model.specs.core.Channel.{Entry}
 use Rattle.ghost_model.specs.core.Moves.{answers}
-use Rattle.ghost_model.specs.core.NextMove.{EndedAsk, Ending, Answered, Refused, is_stop}
-use Rattle.ghost_model.specs.core.Lines.{ended_of, all_done, is_refused_by}
+use Rattle.ghost_model.specs.laws.ShortWords.{ended_of}
 use Rattle.session_laws.specs.TextCases.{Outcome, IsDone, ByHost, ByLink, ByFrame, TextsHaveOutcomes}
 use Rattle.key_session.specs.Kept.{IsKept, is_lost, none_heard}
 use Rattle.key_session.specs.Laws.{LaterTextsAreUnmarked}

@@ -2,7 +2,7 @@
 use Rattle.std.proofs.Common.{◌≡◌, ◌≤◌, ◌<◌, ℕ, arith, Bool, true, false, List, [], ◌∷◌, ◌++◌, length, refl, sym, ap, ◌∙◌, subst, append-nil, Option, Some, None}
 use Rattle.std.specs.Prelude.{◌^◌, is_some}
 use Rattle.ghost_model.specs.core.Channel.{Catalog, Journal}
-use Rattle.ghost_model.specs.core.Asks.{asked_of}
+use Rattle.ghost_model.specs.core.Asks.{asked_of, NumberedAsk}
 use Rattle.edge_traits.specs.Devices.{Device}
 use Rattle.page_pool.specs.Pools.{Pool}
 use Rattle.ghost_model.specs.forms.Layout.{need}
@@ -28,7 +28,6 @@ use Rattle.key_session.specs.declared.pace.Due.{Due}
 use Rattle.key_session.specs.declared.pace.Due.TheVariants as due
 use Rattle.key_session.specs.declared.session.Session.{Session}
 use Rattle.key_session.specs.declared.teller.Teller.{Teller}
-use Rattle.ghost_model.specs.core.Asks.{NumberedAsk}
 use Rattle.ghost_model.specs.core.NextMove.{standing_after}
 use Rattle.ghost_model.specs.forms.Catalog.{IsCatalog}
 use Rattle.channel_pump.specs.State.{IsAfter, want_of}

@@ -4,7 +4,7 @@ use Rattle.ghost_model.specs.core.Query.{Query}
 use Rattle.ghost_model.specs.readings.QueryReading.{reading}
 use Rattle.ghost_model.specs.core.Channel.{Catalog, Journal, Entry}
 use Rattle.ghost_model.specs.core.Asks.{NumberedAsk, asked_of}
-use Rattle.ghost_model.specs.core.NextMove.{standing_after}
+use Rattle.ghost_model.specs.core.NextMove.{standing_after, heard}
 use Rattle.ghost_model.specs.core.Replies.{replies}
 use Rattle.edge_traits.specs.Devices.{Device, Counts as CountsCalls}
 use Rattle.page_pool.specs.Pools.{Pool, IsIdle, IsOut, bytes_at, others_out}
@@ -38,7 +38,6 @@ use Rattle.key_exec.specs.declared.telling.Telling.{Telling}
 use Rattle.key_exec.specs.declared.text.Told.{Told}
 use Rattle.key_session.specs.Counting.{IsCounted, reason_of, damage_in, first_damage}
 use Rattle.ghost_model.specs.core.Moves.{taken}
-use Rattle.ghost_model.specs.core.NextMove.{heard}
 use Rattle.channel_pump.specs.Marks.{asked_at}
 use Rattle.channel_pump.specs.Progress.{Tells}
 use Rattle.channel_pump.specs.declared.state.Event.{Event}

@@ -3,7 +3,8 @@
 -- hosts answer the same, the moves and all their bytes are the same; and with the same answers to the end, the whole journal is.
 use Rattle.std.specs.Prelude.{◌≡◌, ℕ, ◌+◌, ◌<◌, Bool, List, length, take}
 use Rattle.ghost_model.specs.core.Channel.{Catalog, Journal}
-use Rattle.ghost_model.specs.core.Moves.{moves, answers}
+use Rattle.ghost_model.specs.core.Moves.{answers}
+use Rattle.ghost_model.specs.laws.ShortWords.{moves}
 use Rattle.leakless_plan.specs.declared.plan.Plan.{Plan}
 use Rattle.key_session.specs.Running.{HasRun}
 use Rattle.key_session.specs.Telling.{SessionSide}

@@ -3,11 +3,12 @@ use Rattle.std.proofs.Common.{◌≡◌, ◌<◌, ◌≤◌, ◌+◌, ◌||◌, 
 use Rattle.std.specs.List.{list_any}
 use Rattle.std.proofs.lemmas.List.{length-map}
 use Rattle.std.proofs.lemmas.Bool.Decides.{nat_tests}
-use Rattle.ghost_model.specs.core.Schema.{Schema, places_from, columns_of, is_empty}
+use Rattle.ghost_model.specs.core.Schema.{Schema, places_from, columns_of, is_empty, places_of}
 use Rattle.ghost_model.specs.core.Query.{Query, Field, Condition, Compare, Join}
 use Rattle.ghost_model.specs.core.Channel.{Ask, Test}
 use Rattle.ghost_model.specs.core.Asks as asks
-use Rattle.ghost_model.specs.core.Asks.{test_of, tests_of, is_wanted, places, is_needed, is_from}
+use Rattle.ghost_model.specs.core.Asks.{test_of, is_wanted, is_needed}
+use Rattle.ghost_model.specs.laws.ShortWords.{tests_of, is_from}
 use Rattle.spj_parse.specs.Resolved.{is_comparison}
 use Rattle.tree_schema.proofs.RuleSteps.{place_next, places_end}
 use Rattle.std.specs.Prelude.{Option, Some, None, is_some, option_to_list, option_map, IfSome}
@@ -19,7 +20,7 @@ pub any_map : {X Y : Type 0} (view : X → Y) (test : Y → Bool) (xs : List X) 
 any_map view test [] = refl
 any_map view test (x ∷ xs) = ap (λ (b : Bool). test (view x) || b) (any_map view test xs)
 
--- the places of the columns that pass, where those before this one were looked at
+-- the places_of of the columns that pass, where those before this one were looked at
 one_more : {X : Type 0} (test : ℕ → Bool) (xs : List X) (at : ℕ) (b : Bool) → test at ≡ b → at < length xs
     → filter test (places_from (λ (_ : X). true) at (drop at xs)) ≡ cond b (at ∷ []) [] ++ filter test (places_from (λ (_ : X). true) (at + 1) (drop (at + 1) xs))
 one_more test xs at true e within = ap (filter test) (place_next xs at within) ∙ passes e
@@ -32,15 +33,15 @@ one_more test xs at false e within = ap (filter test) (place_next xs at within) 
     fails e = ap (λ (k : Bool). cond k (at ∷ filter test (places_from (λ (_ : _). true) (at + 1) (drop (at + 1) xs))) (filter test (places_from (λ (_ : _). true) (at + 1) (drop (at + 1) xs)))) e
 
 pub more_columns : {X : Type 0} (test : ℕ → Bool) (xs : List X) (at : ℕ) (found now : List ℕ) (b : Bool) → at < length xs → test at ≡ b → now ≡ found ++ cond b (at ∷ []) []
-    → found ++ filter test (places_from (λ (_ : X). true) at (drop at xs)) ≡ filter test (places xs)
-    → now ++ filter test (places_from (λ (_ : X). true) (at + 1) (drop (at + 1) xs)) ≡ filter test (places xs)
+    → found ++ filter test (places_from (λ (_ : X). true) at (drop at xs)) ≡ filter test (places_of xs)
+    → now ++ filter test (places_from (λ (_ : X). true) (at + 1) (drop (at + 1) xs)) ≡ filter test (places_of xs)
 more_columns test xs at found now b within e is h =
     ap (λ (ys : List ℕ). ys ++ filter test (places_from (λ (_ : _). true) (at + 1) (drop (at + 1) xs))) is
     ∙ (append_assoc found (cond b (at ∷ []) []) (filter test (places_from (λ (_ : _). true) (at + 1) (drop (at + 1) xs)))
     ∙ (ap (λ (ys : List ℕ). found ++ ys) (sym (one_more test xs at b e within)) ∙ h))
 
 pub all_columns : {X : Type 0} (test : ℕ → Bool) (xs : List X) (at : ℕ) (found : List ℕ) → length xs ≤ at
-    → found ++ filter test (places_from (λ (_ : X). true) at (drop at xs)) ≡ filter test (places xs) → found ≡ filter test (places xs)
+    → found ++ filter test (places_from (λ (_ : X). true) at (drop at xs)) ≡ filter test (places_of xs) → found ≡ filter test (places_of xs)
 all_columns test xs at found past h =
     sym (append-nil found) ∙ (ap (λ (ys : List ℕ). found ++ filter test ys) (sym (places_end xs at past)) ∙ h)
 
@@ -62,11 +63,11 @@ ask_with table columns tests = record { table = table; columns = columns; tests 
 -- an ask is that of a query for a table
 pub ask_is : (schema : Schema) (query : Query) (table : ℕ) (columns : List ℕ) (tests : List Test) (fields : List Field) (compared : List Condition)
     → fields ≡ query.select → compared ≡ filter is_comparison query.conditions
-    → columns ≡ filter (is_wanted schema fields table) (places (columns_of schema table)) → tests ≡ flat_map (test_of schema table) compared
+    → columns ≡ filter (is_wanted schema fields table) (places_of (columns_of schema table)) → tests ≡ flat_map (test_of schema table) compared
     → ask_with table columns tests ≡ asks.ask_for schema query table
 ask_is schema query table columns tests fields compared f k c t =
     ap₂ (ask_with table)
-    (c ∙ ap (λ (fs : List Field). filter (is_wanted schema fs table) (places (columns_of schema table))) f)
+    (c ∙ ap (λ (fs : List Field). filter (is_wanted schema fs table) (places_of (columns_of schema table))) f)
     (t ∙ (ap (flat_map (test_of schema table)) k ∙ compared_tests schema table query.conditions))
 
 -- one table and those behind it

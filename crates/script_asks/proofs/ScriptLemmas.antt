@@ -4,10 +4,11 @@ use Rattle.std.specs.List.{list_all, list_any}
 use Rattle.std.specs.Cmp.{first_so}
 use Rattle.std.proofs.lemmas.List.{length-map}
 use Rattle.std.proofs.lemmas.List.Folds.{list_all-append, list_all-map}
-use Rattle.ghost_model.specs.core.Schema.{Schema, places_from}
+use Rattle.ghost_model.specs.core.Schema.{Schema, places_from, places_of}
 use Rattle.ghost_model.specs.core.Query.{Query}
 use Rattle.ghost_model.specs.core.Channel.{Ask}
-use Rattle.ghost_model.specs.core.Asks.{NumberedAsk, asked, asked_from, ask_for, asks_of, asks_of_reading, is_from, is_needed, is_proper_ask, places}
+use Rattle.ghost_model.specs.core.Asks.{NumberedAsk, asked, asked_from, ask_for, asks_of, asks_of_reading, is_needed, is_proper_ask}
+use Rattle.ghost_model.specs.laws.ShortWords.{is_from}
 use Rattle.ghost_model.specs.laws.ChannelLaws.{AsksAreProper}
 use Rattle.ghost_model.specs.readings.QueryReading.{reading}
 use Rattle.ghost_model.specs.core.NextMove.{of_later_texts}

@@ -4,7 +4,8 @@ use Rattle.std.specs.List.{list_all}
 use Rattle.ghost_model.specs.core.Schema.{Schema, places_from}
 use Rattle.ghost_model.specs.core.Query.{Query}
 use Rattle.ghost_model.specs.core.Channel.{Ask}
-use Rattle.ghost_model.specs.core.Asks.{NumberedAsk, asked, asked_from, ask_for, is_needed, is_from, is_proper_ask}
+use Rattle.ghost_model.specs.core.Asks.{NumberedAsk, asked, asked_from, ask_for, is_needed, is_proper_ask}
+use Rattle.ghost_model.specs.laws.ShortWords.{is_from}
 use Rattle.ghost_model.specs.readings.QueryReading.{reading}
 use Rattle.channel_codec.specs.AskViews.{ask_view}
 use Rattle.script_asks.specs.declared.scripts.Hand.{Hand}

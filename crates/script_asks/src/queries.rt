@@ -2,6 +2,7 @@
 
 ghost use Rattle.std.specs.Prelude.{◌≡◌, ℕ, ◌+◌, ◌<◌, ◌≤◌, ◌&&◌, ◌==◌, List, [], ◌∷◌, length, filter, flat_map, map, option_map, option_to_list, IfSome, IfNone};
 ghost use Rattle.std.specs.List.{list_any};
+ghost use Rattle.ghost_model.specs.laws.ShortWords as short;
 ghost use Rattle.ghost_model.specs.core.Asks as asks;
 ghost use Rattle.ghost_model.specs.core.Schema as schemas;
 ghost use Rattle.spj_parse.specs.Views.{comparison_of, field_of};
@@ -17,21 +18,21 @@ use tree_schema::schema::schemas_are_trees;
 
 /// Whether a field is this column.
 fn is_field(field: &Field, table: usize, column: usize) -> bool
-    ensures { result ≡ asks.is_field table column (field_of field.now) }
+    ensures { result ≡ short.is_field table column (field_of field.now) }
 {
     field.table as usize == table && field.column as usize == column
 }
 
 /// Whether one of these fields is this column.
 fn has_field(fields: &[Field], table: usize, column: usize) -> bool
-    ensures { result ≡ list_any (λ field. asks.is_field table column (field_of field)) fields.now }
+    ensures { result ≡ list_any (λ field. short.is_field table column (field_of field)) fields.now }
 {
     fields.iter().any(|field| is_field(field, table, column))
 }
 
 /// Whether one of these that are selected is this column.
 fn selects(select: &[Field], table: usize, column: usize) -> bool
-    ensures { result ≡ list_any (asks.is_field table column) (map field_of select.now) }
+    ensures { result ≡ list_any (short.is_field table column) (map field_of select.now) }
 {
     has_field(select, table, column)
 }
@@ -63,7 +64,7 @@ fn byte_of(place: usize) -> u8
 
 /// The columns of a table that are visible and selected, ascending.
 fn wanted_columns(schema: &Schema, select: &[Field], table: usize) -> ArrayVec<u8, MAX_COLUMNS>
-    ensures columns { result.items ≡ filter (asks.is_wanted schema.now (map field_of select.now) table) (asks.places (schemas.columns_of schema.now table)) }
+    ensures columns { result.items ≡ filter (asks.is_wanted schema.now (map field_of select.now) table) (schemas.places_of (schemas.columns_of schema.now table)) }
 {
     let mut found = ArrayVec::new();
     for at in 0..column_count(schema, table) {

@@ -13,7 +13,8 @@ use Rattle.ghost_model.specs.core.NextMove.{Awaits, AwaitsCatalog, AwaitsReply, 
 use Rattle.ghost_model.specs.core.Split.{Hidden}
 use Rattle.ghost_model.specs.core.Replies as answered
 use Rattle.ghost_model.specs.core.Replies.{reply_for, answer_from}
-use Rattle.ghost_model.specs.core.Lines.{Reason, WasRefused, WasBroken, WasAnswered, MetFault, AreLinesFor, AreLines, ended_of, was_refused, all_done, broken_word, rows_from_replies, session_text}
+use Rattle.ghost_model.specs.core.Lines.{Reason, WasRefused, WasBroken, WasAnswered, MetFault, AreLinesFor, AreLines, was_refused, all_done, broken_word, session_text}
+use Rattle.ghost_model.specs.laws.ShortWords.{ended_of, rows_from_replies}
 use Rattle.ghost_model.proofs.ChannelLemmas.Tests.{false_is_not}
 use Rattle.ghost_model.proofs.ChannelLemmas.Sending.{heard_more}
 use Rattle.ghost_model.proofs.SessionLemmas.Answered.{filter_joined}

@@ -6,7 +6,7 @@ use Rattle.std.proofs.lemmas.Nat.{le-div}
 use Rattle.std.proofs.Math.Nat.{mul-le-mul_left, div-add-mod}
 use Rattle.ghost_model.specs.core.Values.{Database}
 use Rattle.ghost_model.specs.core.Query.{Query}
-use Rattle.ghost_model.specs.core.Channel.{Catalog, row_count_in, Ask}
+use Rattle.ghost_model.specs.core.Channel.{Catalog, count_of, Ask}
 use Rattle.ghost_model.specs.core.Database.{rows_of}
 use Rattle.ghost_model.specs.forms.Catalog.{canonical_text}
 use Rattle.ghost_model.specs.forms.Frames.{most_payload}
@@ -52,7 +52,7 @@ module _ (catalog : Catalog) (database : Database) (stored : IsCatalogOf catalog
       let some : 1 ≤ most_payload / row_width catalog.schema ask = le-div 1 most_payload (row_width catalog.schema ask) wide (omega (arith, fits)) in
       let packing : List (List RowCells) = groups_for (holding_of catalog database) ask in
       let whole : flat_map (λ (group : List RowCells). group) packing ≡ given = groups_are_joined (most_payload / row_width catalog.schema ask) (reply_rows catalog.schema (public_of catalog.schema database) ask) some in
-      let count : row_count_in catalog ask.table ≡ length (rows_of database ask.table) = count_is catalog database ask.table stored.counts_are in
+      let count : count_of catalog ask.table ≡ length (rows_of database ask.table) = count_is catalog database ask.table stored.counts_are in
       are_groups catalog ask 0 packing
       (groups_pass (fits_frame width) (most_payload / row_width catalog.schema ask) (reply_rows catalog.schema (public_of catalog.schema database) ask) some (λ group s f. group_fits width group wide s f))
       (ap (λ (n : ℕ). next.rows_fit n 0 (kinds_of catalog.schema ask) (flat_map (λ (group : List RowCells). group) packing)) count

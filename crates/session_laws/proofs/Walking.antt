@@ -10,7 +10,8 @@ use Rattle.ghost_model.specs.forms.Frames.{IsFrame, frame_bytes}
 use Rattle.ghost_model.specs.core.Asks.{NumberedAsk}
 use Rattle.ghost_model.specs.core.Moves.{taken, sent, sent_by, piece_of}
 use Rattle.ghost_model.specs.core.NextMove.{Standing, standing_after, next_with, GoesOn, hear_all}
-use Rattle.ghost_model.specs.core.Host.{Holding, Stand, Response, said_to, said_with, answer_to, frames_of, said_with_refusals}
+use Rattle.ghost_model.specs.core.Host.{Holding, Stand, Response, said_with, answer_to, frames_of, said_with_refusals}
+use Rattle.ghost_model.specs.laws.ShortWords.{said_to}
 use Rattle.ghost_model.specs.core.Host as host
 use Rattle.ghost_model.specs.core.Local.{IsServedBy, is_full}
 use Rattle.ghost_model.specs.laws.SessionLaws.{IsServedThroughout}

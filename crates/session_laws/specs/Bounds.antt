@@ -2,7 +2,7 @@
 -- frames come; what the WELCOME frames carry, joined, begins the catalog's bytes, and there are no more of them than of
 -- these bytes; and the key sends one frame at most for each valid frame that came, and HELLO.
 use Rattle.std.specs.Prelude.{◌≡◌, ℕ, suc, ◌+◌, ◌≤◌, Bool, true, false, ◌==◌, List, [], ◌++◌, length, map, filter, flat_map, sum, slice_get, Some, ⊤}
-use Rattle.ghost_model.specs.core.Channel.{Catalog, row_count_in, Frame, WelcomeFrame, Journal}
+use Rattle.ghost_model.specs.core.Channel.{Catalog, count_of, Frame, WelcomeFrame, Journal}
 use Rattle.ghost_model.specs.forms.Catalog.{catalog_bytes}
 use Rattle.ghost_model.specs.forms.Frames.{serial_of}
 use Rattle.ghost_model.specs.core.Asks.{NumberedAsk}
@@ -27,7 +27,7 @@ reply_in serial frames = filter (λ frame. serial_of frame == serial) frames
 
 -- the number of rows of the table that is asked
 abbrev pub rows_asked : Catalog → NumberedAsk → ℕ
-rows_asked catalog asked = row_count_in catalog asked.ask.table
+rows_asked catalog asked = count_of catalog asked.ask.table
 
 -- how many frames come at most to these asks
 abbrev pub most_replied : Catalog → List NumberedAsk → ℕ

@@ -11,10 +11,12 @@ use Rattle.ghost_model.specs.core.Schema.{Schema, parent, is_table, first_of}
 use Rattle.ghost_model.specs.laws.SchemaTrees.{IsTree}
 use Rattle.ghost_model.specs.core.Values.{Value, Database}
 use Rattle.ghost_model.specs.core.Database.{order_of, meets, holds}
+use Rattle.ghost_model.specs.laws.ShortWords as short
 use Rattle.ghost_model.specs.core.Query as query
 use Rattle.ghost_model.specs.core.Query.{Query, Field, Condition, Compare, Join, is_among, is_some_among, top_of}
 use Rattle.ghost_model.specs.refusals.QueryGrammar.{ColumnText, Bare, Qualified, ConditionText, Compares, LiesBetween, Joins, QueryText}
-use Rattle.ghost_model.specs.refusals.QueryMeaning.{field, table_named, column_named, fields_named, meanings, conditions_of, resolved, from_tables, is_reference_to, is_proper, is_join_of, lacks_join, is_unlinked, value_of_literal}
+use Rattle.ghost_model.specs.refusals.QueryMeaning.{field, table_named, fields_named, meanings, conditions_of, resolved, from_tables, is_reference_to, is_proper, is_join_of, lacks_join, is_unlinked, value_of_literal}
+use Rattle.ghost_model.specs.laws.ShortWords.{column_named}
 use Rattle.ghost_model.specs.core.Meaning as meaning
 use Rattle.ghost_model.specs.core.Meaning.{Source, pick, compares, is_kept, answer_of_row, answer_by_top, all_of, answer}
 use Rattle.spj_parse.specs.Resolved.{is_comparison, keys_between, join_by, join_with, join_to, joins_of, linked}
@@ -300,7 +302,7 @@ same_answer laws schema tree asked h source (Some top) =
     ap (map (meaning.selected source asked.select))
     (filter_same (is_kept source (linked schema asked).conditions) (is_kept source asked.conditions)
     (λ rows. ap (λ b. list_all source.admits rows && b) (same_passes laws schema tree asked h (record { source = source; rows = rows })))
-    (map (λ others. pick top identifier ∷ others) (meaning.combinations source.count (meaning.others_of top asked.from)))))
+    (map (λ others. pick top identifier ∷ others) (meaning.combinations source.count (short.others_of top asked.from)))))
     (range_with_len 1 (source.count top))
 
 linked_by : (a b c : Bool) → (not a || b || c) ≡ false → (a ≡ true) × (c ≡ false)

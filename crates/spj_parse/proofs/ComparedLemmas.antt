@@ -13,7 +13,8 @@ use Rattle.ghost_model.specs.core.Values.{Number, Text}
 use Rattle.ghost_model.specs.core.Query.{Field, Operator, AtLeast, AtMost, Condition, Compare, Join}
 use Rattle.ghost_model.specs.refusals.QueryGrammar.{ColumnText, LiteralText, Unsigned, Signed, Written, Positive, ConditionText, Compares, LiesBetween, Joins, Selection, All, Columns, QueryText}
 use Rattle.ghost_model.specs.readings.QueryPlaces.{syntax_of}
-use Rattle.ghost_model.specs.refusals.QueryMeaning.{from_names, from_tables, resolved, literal_conditions, is_over_limit, is_other_kind, is_too_large, literal_fails, value_of_literal, with_sign, has_kind_mismatch, has_bad_literal}
+use Rattle.ghost_model.specs.refusals.QueryMeaning.{from_names, from_tables, resolved, literal_conditions, is_over_limit, is_other_kind, is_too_large, literal_fails, value_of_literal, with_sign}
+use Rattle.ghost_model.specs.laws.ShortWords.{has_kind_mismatch, has_bad_literal}
 use Rattle.spj_parse.specs.Conditions.{IsClear, conditions_meant, first_alone}
 use Rattle.spj_parse.specs.Items.{Item, Selected, From, Where, selection_items, items_of, items_in}
 use Rattle.spj_parse.specs.Literals.{is_out}

@@ -8,7 +8,8 @@ use Rattle.ghost_model.specs.core.Schema.{Schema, Column, column_at, columns_of,
 use Rattle.ghost_model.specs.core.Query.{Query, Field, Condition, Join, is_among}
 use Rattle.ghost_model.specs.refusals.QueryGrammar.{ColumnText, Bare, Qualified, ConditionText, Selection, All, Columns, QueryText}
 use Rattle.ghost_model.specs.readings.QueryPlaces.{syntax_of}
-use Rattle.ghost_model.specs.refusals.QueryMeaning.{field, table_named, column_named, fields_named, fields_of, meanings, from_names, from_tables, selected_fields, selected_count, selection_columns, condition_columns, resolved, is_over_limit}
+use Rattle.ghost_model.specs.refusals.QueryMeaning.{field, table_named, fields_named, fields_of, meanings, from_names, from_tables, selected_fields, selected_count, selection_columns, condition_columns, resolved, is_over_limit}
+use Rattle.ghost_model.specs.laws.ShortWords.{column_named}
 use Rattle.spj_parse.specs.Conditions.{IsClear, first_alone}
 use Rattle.spj_parse.specs.Items.{Item, Selected, From, Where, selection_items, items_of, items_in}
 use Rattle.spj_parse.specs.Names.{first_meaning, fields_in}

@@ -1,10 +1,11 @@
 -- The asks of a query with each of its joins once.
 use Rattle.std.proofs.Common.{◌≡◌, ℕ, Bool, true, false, cond, List, [], ◌∷◌, ◌++◌, map, filter, flat_map, Option, Some, None, refl, ap, ap₂, ◌∙◌}
 use Rattle.std.proofs.lemmas.Grind.{flat_map-append}
-use Rattle.ghost_model.specs.core.Schema.{Schema, first_of, parent, columns_of}
+use Rattle.ghost_model.specs.core.Schema.{Schema, first_of, parent, columns_of, places_of}
 use Rattle.ghost_model.specs.core.Query.{Query, Condition, Compare, Join, is_among}
 use Rattle.ghost_model.specs.core.Channel.{Ask, Test}
-use Rattle.ghost_model.specs.core.Asks.{test_of, tests_of, ask_for, asks_of, is_wanted, is_needed, is_from, places}
+use Rattle.ghost_model.specs.core.Asks.{test_of, ask_for, asks_of, is_wanted, is_needed}
+use Rattle.ghost_model.specs.laws.ShortWords.{tests_of, is_from}
 use Rattle.spj_parse.specs.Resolved.{keys_between, join_by, join_with, join_to, joins_of, is_comparison, linked}
 
 key_tests : (schema : Schema) (asked table holder : ℕ) (key : Option ℕ) → flat_map (test_of schema asked) (join_by table holder key) ≡ []
@@ -36,11 +37,11 @@ same_tests schema query asked =
     ∙ ap₂ (λ xs ys. xs ++ ys) (no_tests schema query.from asked query.from) (compared_tests schema asked query.conditions)
 
 abbrev ask_with : Schema → Query → (table : ℕ) → List Test → Ask
-ask_with schema query table tests = record { table = table; columns = filter (is_wanted schema query.select table) (places (columns_of schema table)); tests = tests }
+ask_with schema query table tests = record { table = table; columns = filter (is_wanted schema query.select table) (places_of (columns_of schema table)); tests = tests }
 
 same_asks : (schema : Schema) (query : Query) (tables : List ℕ) → map (ask_for schema (linked schema query)) tables ≡ map (ask_for schema query) tables
 same_asks schema query [] = refl
 same_asks schema query (table ∷ tables) = ap₂ (λ ask asks. ask ∷ asks) (ap (ask_with schema query table) (same_tests schema query table)) (same_asks schema query tables)
 
 pub asks_once : (schema : Schema) (query : Query) → asks_of schema (linked schema query) ≡ asks_of schema query
-asks_once schema query = ap (filter is_needed) (same_asks schema query (filter (is_from query) (places schema)))
+asks_once schema query = ap (filter is_needed) (same_asks schema query (filter (is_from query) (places_of schema)))

@@ -9,7 +9,8 @@ use Rattle.ghost_model.specs.refusals.QueryGrammar.{ColumnText, ConditionText, S
 use Rattle.ghost_model.specs.readings.QueryPlaces.{syntax_of}
 use Rattle.ghost_model.specs.refusals.Rules.{broken_if, first_broken}
 use Rattle.ghost_model.specs.refusals.QueryMeaning as meaning
-use Rattle.ghost_model.specs.refusals.QueryMeaning.{Refusal, literal_conditions, selected_count, table_named, from_names, from_tables, resolved, is_over_limit, has_unknown_table, has_unknown_column, is_ambiguous, has_kind_mismatch, has_bad_literal, is_unlinked}
+use Rattle.ghost_model.specs.refusals.QueryMeaning.{Refusal, literal_conditions, selected_count, table_named, from_names, from_tables, resolved, is_over_limit, has_unknown_table, has_unknown_column, is_ambiguous, is_unlinked}
+use Rattle.ghost_model.specs.laws.ShortWords.{has_kind_mismatch, has_bad_literal}
 use Rattle.ghost_model.specs.readings.QueryReading.{reading, judged, query_unless}
 use Rattle.spj_parse.specs.declared.conditions.ConditionTest.TheVariants as test
 use Rattle.spj_parse.specs.Conditions.{IsClear, item_passes}

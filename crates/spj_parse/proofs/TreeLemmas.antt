@@ -9,7 +9,8 @@ use Rattle.ghost_model.specs.refusals.Tokens.{tokens}
 use Rattle.ghost_model.specs.refusals.QueryGrammar.{ColumnText, ConditionText, Selection, All, Columns, QueryText}
 use Rattle.ghost_model.specs.readings.QueryPlaces.{syntax_of}
 use Rattle.ghost_model.specs.readings.QueryPlaces as places
-use Rattle.ghost_model.specs.refusals.QueryMeaning.{table_named, meanings, fields_of, from_names, selected_count, selection_columns, condition_columns, columns_in, qualifier_of, column_name, table_names, names_in, literal_conditions, is_over_limit, has_unknown_table}
+use Rattle.ghost_model.specs.refusals.QueryMeaning.{table_named, meanings, fields_of, from_names, selected_count, selection_columns, condition_columns, columns_in, qualifier_of, column_name, table_names, literal_conditions, is_over_limit, has_unknown_table}
+use Rattle.ghost_model.specs.laws.ShortWords.{names_in}
 use Rattle.spj_parse.specs.declared.rules.NameRule.{NameRule}
 use Rattle.spj_parse.specs.declared.rules.NameRule.TheVariants as rule
 use Rattle.spj_parse.specs.declared.limits.Count.{Count}

@@ -17,7 +17,8 @@ use Rattle.ghost_model.specs.laws.LayoutLaws.{IsLimited, AreFew, LayoutIsSmall, 
 use Rattle.ghost_model.specs.laws.FlashLaws.{RowsLeadByHiddenValues, RecordsAreAsWide}
 use Rattle.ghost_model.specs.laws.RunLaws.{NumbersAreRead}
 use Rattle.ghost_model.specs.forms.Runs.{number_in, number_cell, record_at}
-use Rattle.ghost_model.specs.forms.Layout.{below, levels_of, above_of, is_below, descendants_of, count_of, subtree_table}
+use Rattle.ghost_model.specs.forms.Layout.{below, levels_of, above_of, is_below, descendants_of, count_of}
+use Rattle.ghost_model.specs.laws.ShortWords.{subtree_table}
 use Rattle.ghost_model.specs.forms.Flash.{HoldsSubtrees, leads_to, subtree_record, ids}
 use Rattle.ghost_model.specs.forms.Slots.{is_row, are_rows}
 use Rattle.ghost_model.proofs.MeaningLemmas.Leading.{place_within, get_within}

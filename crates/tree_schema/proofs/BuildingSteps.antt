@@ -5,6 +5,7 @@ use Rattle.std.specs.Option.{option_or}
 use Rattle.ghost_model.specs.core.Schema.{places_from, places_of}
 use Rattle.ghost_model.specs.refusals.Rules.{broken_if, first_broken}
 use Rattle.ghost_model.specs.refusals.SchemaGrammar.{SchemaText}
+use Rattle.ghost_model.specs.laws.ShortWords as short
 use Rattle.ghost_model.specs.refusals.SchemaMeaning as meaning
 use Rattle.ghost_model.specs.refusals.SchemaFaults as faults
 use Rattle.tree_schema.specs.declared.syntax.ColumnDraft.{ColumnDraft}
@@ -56,12 +57,12 @@ rest_by tables places roots =
     (option_or (option_map faults.Cycle (find (faults.returns (meaning.schema_of tables)) places)) roots)
 
 abbrev by_roots : SchemaText → Option faults.SchemaFault
-by_roots tables = faults.wrong_roots (faults.roots_of (meaning.schema_of tables))
+by_roots tables = short.wrong_roots (faults.roots_of (meaning.schema_of tables))
 
 pub tree_decides : (tables : SchemaText) → fault_of_texts tables ≡ None → first_broken (faults.rules_of_schemas tables) ≡ fault_of_tree (meaning.schema_of tables)
 tree_decides tables e =
-    then_rest (broken_if (faults.is_over tables) faults.Limit) (option_map faults.duplicate_at (find (faults.is_duplicate tables) (faults.fields tables)))
-    (option_map faults.NoId (find (faults.lacks_id tables) (places_of tables)))
-    (option_map faults.unknown_at (find (faults.is_unknown tables) (faults.fields tables))) (rest_by tables (places_of tables) (option_or (by_roots tables) None)) e
+    then_rest (broken_if (faults.is_over tables) faults.OverLimit) (option_map short.duplicate_at (find (faults.is_duplicate tables) (faults.fields tables)))
+    (option_map faults.NoId (find (short.lacks_id tables) (places_of tables)))
+    (option_map short.unknown_at (find (short.is_unknown tables) (faults.fields tables))) (rest_by tables (places_of tables) (option_or (by_roots tables) None)) e
     ∙ (ap (rest_by tables (places_of tables)) (last_rule (by_roots tables))
     ∙ ap (λ places. rest_by tables places (by_roots tables)) (sym (same_places (meaning.table_of tables) tables 0)))

@@ -3,7 +3,8 @@ use Rattle.std.proofs.Common.{◌≡◌, ℕ, ◌+◌, Bool, true, false, cond, 
 use Rattle.std.specs.List.{position, position_from, list_any}
 use Rattle.std.proofs.lemmas.Iterator.Adapters.{position_from-zero}
 use Rattle.std.proofs.lemmas.List.{at_drop_all}
-use Rattle.ghost_model.specs.core.Schema.{Schema, Table, places_from, is_empty, first_of, is_table, parent, children_from}
+use Rattle.ghost_model.specs.core.Schema.{Schema, Table, places_from, is_empty, first_of, is_table, parent}
+use Rattle.ghost_model.specs.laws.SchemaLaws.{children_from}
 
 choose : (b : Bool) (at : ℕ) (here rest : List ℕ) (later : Option ℕ) → first_of rest ≡ later → first_of (cond b (at ∷ here) rest) ≡ cond b (Some at) later
 choose true at here rest later e = refl

@@ -65,7 +65,7 @@ after_integer name bytes false (Some (grammar.To table false)) _ h g f e = refl
 
 -- a token that is neither comma nor parenthesis goes on in the column
 pub goes_on : (tables : grammar.SchemaText) (name : List ℕ) (columns : List grammar.ColumnDeclaration) (last : grammar.ColumnDeclaration) (bytes : List ℕ) (m : Mark) → m ≢ mark.Comma → m ≢ mark.Closing
-    → option_map (places.Within tables name columns) (places.after_column last (symbol_of m bytes)) ≡ places.step_within tables name columns (places.Whole last) (symbol_of m bytes)
+    → option_map (places.Within tables name columns) (places.after_column last (symbol_of m bytes)) ≡ places.step_within tables name columns (places.WholeColumn last) (symbol_of m bytes)
 goes_on tables name columns last bytes mark.Comma h g = absurd (h refl)
 goes_on tables name columns last bytes mark.Closing h g = absurd (g refl)
 goes_on tables name columns last bytes _ h g = refl

@@ -19,17 +19,17 @@ use Rattle.tree_schema.specs.declared.syntax.Reader.{Reader}
 use Rattle.tree_schema.specs.Marks.{symbol_of, token_of}
 use Rattle.tree_schema.specs.Drafts.{in_column_of, column_of, table_of, after_column, before_last, last_of, behind, named, opened, Leads, Stops, ReadsNext, ReadsEnd, StopsEnd, ReadsOthers, StopsOthers, KeepsOthers, ReadsTable, KeepsTable, read_from, Takes, IsOut}
 
-pub taken : (p : places.SchemaPlace) (next : Option places.SchemaPlace) (before after : Reader) (token : Token) → Takes before token after → places.step p (symbol_of token.mark token.bytes.now) ≡ next
+pub taken : (p : places.SchemaPlace) (next : Option places.SchemaPlace) (before after : Reader) (token : Token) → Takes before token after → places.schema_step p (symbol_of token.mark token.bytes.now) ≡ next
     → read_from p before ≡ places.syntax_from next token.at after.cursor
 unfolding places.syntax_from
 taken p next before after token h e =
     ap (λ cursor. places.syntax_from (Some p) before.at cursor) h.tokens
     ∙ ap (λ q. places.syntax_from q token.at after.cursor) e
 
-pub leads : (p q : places.SchemaPlace) (before after : Reader) (token : Token) → Takes before token after → places.step p (symbol_of token.mark token.bytes.now) ≡ Some q → read_from p before ≡ read_from q after
+pub leads : (p q : places.SchemaPlace) (before after : Reader) (token : Token) → Takes before token after → places.schema_step p (symbol_of token.mark token.bytes.now) ≡ Some q → read_from p before ≡ read_from q after
 leads p q before after token h e = taken p (Some q) before after token h e ∙ ap (λ at. places.syntax_from (Some q) at after.cursor) (sym h.place)
 
-pub stops : (p : places.SchemaPlace) (before after : Reader) (token : Token) → Takes before token after → None ≡ places.step p (symbol_of token.mark token.bytes.now) → read_from p before ≡ Err token.at
+pub stops : (p : places.SchemaPlace) (before after : Reader) (token : Token) → Takes before token after → None ≡ places.schema_step p (symbol_of token.mark token.bytes.now) → read_from p before ≡ Err token.at
 unfolding places.syntax_from
 stops p before after token h e = taken p None before after token h (sym e)
 
@@ -37,8 +37,8 @@ pub is_out : (p : places.SchemaPlace) (before after : Reader) → IsOut before a
 unfolding places.syntax_from
 is_out p before after h e = ap (λ cursor. places.syntax_from (Some p) before.at cursor) h.none ∙ e ∙ ap (λ at. Err at) (sym h.place)
 
-pub by_mark : (p q : places.SchemaPlace) (before after : Reader) (token : Token) (m : Mark) → Takes before token after → token.mark ≡ m → places.step p (symbol_of m token.bytes.now) ≡ Some q → read_from p before ≡ read_from q after
-by_mark p q before after token m h f e = leads p q before after token h (ap (λ n. places.step p (symbol_of n token.bytes.now)) f ∙ e)
+pub by_mark : (p q : places.SchemaPlace) (before after : Reader) (token : Token) (m : Mark) → Takes before token after → token.mark ≡ m → places.schema_step p (symbol_of m token.bytes.now) ≡ Some q → read_from p before ≡ read_from q after
+by_mark p q before after token m h f e = leads p q before after token h (ap (λ n. places.schema_step p (symbol_of n token.bytes.now)) f ∙ e)
 
 pub fewer : (before after : Reader) (token : Token) → Takes before token after → length after.cursor < length before.cursor
 fewer before after token h = let count : length before.cursor ≡ length (token_of token ∷ after.cursor) = ap length h.tokens in omega (arith, count)
@@ -50,23 +50,23 @@ pub record IsWithin (before : Reader) (named : List ℕ) (now : Reader) (last : 
       → read_from (places.Within tables name columns (places.Named named)) before ≡ read_from (places.Within tables name columns (in_column_of last)) now
   pub fewer : length now.cursor ≤ length before.cursor
 
-pub no_table : (tables : grammar.SchemaText) (bytes : List ℕ) (m : Mark) → m ≢ mark.Table → None ≡ places.step (places.AfterCreate tables) (symbol_of m bytes)
+pub no_table : (tables : grammar.SchemaText) (bytes : List ℕ) (m : Mark) → m ≢ mark.Table → None ≡ places.schema_step (places.AfterCreate tables) (symbol_of m bytes)
 no_table tables bytes mark.Table h = absurd (h refl)
 no_table tables bytes _ h = refl
 
-pub no_table_name : (tables : grammar.SchemaText) (bytes : List ℕ) (m : Mark) → m ≢ mark.Name → None ≡ places.step (places.AfterTable tables) (symbol_of m bytes)
+pub no_table_name : (tables : grammar.SchemaText) (bytes : List ℕ) (m : Mark) → m ≢ mark.Name → None ≡ places.schema_step (places.AfterTable tables) (symbol_of m bytes)
 no_table_name tables bytes mark.Name h = absurd (h refl)
 no_table_name tables bytes _ h = refl
 
-pub no_parenthesis : (tables : grammar.SchemaText) (name bytes : List ℕ) (m : Mark) → m ≢ mark.Open → None ≡ places.step (places.AfterName tables name) (symbol_of m bytes)
+pub no_parenthesis : (tables : grammar.SchemaText) (name bytes : List ℕ) (m : Mark) → m ≢ mark.Open → None ≡ places.schema_step (places.AfterName tables name) (symbol_of m bytes)
 no_parenthesis tables name bytes mark.Open h = absurd (h refl)
 no_parenthesis tables name bytes _ h = refl
 
-pub no_column_name : (tables : grammar.SchemaText) (name : List ℕ) (columns : List grammar.ColumnDeclaration) (bytes : List ℕ) (m : Mark) → m ≢ mark.Name → None ≡ places.step (places.WantsColumn tables name columns) (symbol_of m bytes)
+pub no_column_name : (tables : grammar.SchemaText) (name : List ℕ) (columns : List grammar.ColumnDeclaration) (bytes : List ℕ) (m : Mark) → m ≢ mark.Name → None ≡ places.schema_step (places.WantsDeclaration tables name columns) (symbol_of m bytes)
 no_column_name tables name columns bytes mark.Name h = absurd (h refl)
 no_column_name tables name columns bytes _ h = refl
 
-pub no_semicolon : (tables : grammar.SchemaText) (name : List ℕ) (columns : List grammar.ColumnDeclaration) (last : grammar.ColumnDeclaration) (bytes : List ℕ) (m : Mark) → m ≢ mark.Semicolon → None ≡ places.step (places.AfterColumns tables name columns last) (symbol_of m bytes)
+pub no_semicolon : (tables : grammar.SchemaText) (name : List ℕ) (columns : List grammar.ColumnDeclaration) (last : grammar.ColumnDeclaration) (bytes : List ℕ) (m : Mark) → m ≢ mark.Semicolon → None ≡ places.schema_step (places.AfterColumns tables name columns last) (symbol_of m bytes)
 no_semicolon tables name columns last bytes mark.Semicolon h = absurd (h refl)
 no_semicolon tables name columns last bytes _ h = refl
 
@@ -186,7 +186,7 @@ kept_table a e z y table more f kept some r g =
 -- the tables of a text that were read so far
 pub record HoldsTables (text : List ℕ) (now : Reader) (kept : List TableDraft) (over : Bool) : Type 0 where
   pub tables : grammar.SchemaText
-  pub leads : places.syntax_of text ≡ read_from (places.Between tables) now
+  pub leads : places.schema_syntax_of text ≡ read_from (places.Between tables) now
   pub whole : over ≡ false → map table_of kept ≡ tables
   pub many : over ≡ true → is_over tables ≡ true
 
@@ -237,7 +237,7 @@ holds_none text now e f =
 
 -- CREATE and a table
 next_leads : (text : List ℕ) (now mid next : Reader) (token : Token) (kept : List TableDraft) (over : Bool) (table : Option TableDraft) → (h : HoldsTables text now kept over) → Takes now token mid → token.mark ≡ mark.Create
-    → (r : ReadsTable mid next table) → places.syntax_of text ≡ read_from (places.Between (h.tables ++ r.table ∷ [])) next
+    → (r : ReadsTable mid next table) → places.schema_syntax_of text ≡ read_from (places.Between (h.tables ++ r.table ∷ [])) next
 next_leads text now mid next token kept over table h t m r =
     h.leads ∙ by_mark (places.Between h.tables) (places.AfterCreate h.tables) now mid token mark.Create t m refl ∙ r.leads h.tables
 
@@ -268,25 +268,25 @@ kept_next text now mid next token kept new over found table h t m r some grown =
       many = λ e. still_over h.tables r.table (h.many e);
     }
 
-no_between : (tables : grammar.SchemaText) (bytes : List ℕ) (m : Mark) → m ≢ mark.End → m ≢ mark.Create → None ≡ places.step (places.Between tables) (symbol_of m bytes)
+no_between : (tables : grammar.SchemaText) (bytes : List ℕ) (m : Mark) → m ≢ mark.End → m ≢ mark.Create → None ≡ places.schema_step (places.Between tables) (symbol_of m bytes)
 no_between tables bytes mark.End h g = absurd (h refl)
 no_between tables bytes mark.Create h g = absurd (g refl)
 no_between tables bytes _ h g = refl
 
 pub text_ends : (text : List ℕ) (now next : Reader) (token : Token) (kept : List TableDraft) (over : Bool) → (h : HoldsTables text now kept over) → Takes now token next → token.mark ≡ mark.End → next.cursor ≡ []
-    → places.syntax_of text ≡ Ok h.tables
+    → places.schema_syntax_of text ≡ Ok h.tables
 unfolding places.syntax_from
 text_ends text now next token kept over h t m e =
     h.leads ∙ by_mark (places.Between h.tables) (places.Ended h.tables) now next token mark.End t m refl ∙ ap (λ cursor. places.syntax_from (Some (places.Ended h.tables)) next.at cursor) e
 
 pub text_stops : (text : List ℕ) (now next : Reader) (token : Token) (kept : List TableDraft) (over : Bool) → HoldsTables text now kept over → Takes now token next → token.mark ≢ mark.End → token.mark ≢ mark.Create
-    → places.syntax_of text ≡ Err token.at
+    → places.schema_syntax_of text ≡ Err token.at
 text_stops text now next token kept over h t m n = h.leads ∙ stops (places.Between h.tables) now next token t (no_between h.tables token.bytes.now token.mark m n)
 
-pub text_out : (text : List ℕ) (now next : Reader) (kept : List TableDraft) (over : Bool) → HoldsTables text now kept over → IsOut now next → places.syntax_of text ≡ Err next.at
+pub text_out : (text : List ℕ) (now next : Reader) (kept : List TableDraft) (over : Bool) → HoldsTables text now kept over → IsOut now next → places.schema_syntax_of text ≡ Err next.at
 text_out text now next kept over h e = h.leads ∙ is_out (places.Between h.tables) now next e refl
 
 pub table_stops : (text : List ℕ) (now mid : Reader) (token : Token) (kept : List TableDraft) (over : Bool) (at : ℕ) → HoldsTables text now kept over → Takes now token mid → token.mark ≡ mark.Create
-    → Stops places.AfterCreate mid at → places.syntax_of text ≡ Err at
+    → Stops places.AfterCreate mid at → places.schema_syntax_of text ≡ Err at
 table_stops text now mid token kept over at h t m s =
     h.leads ∙ by_mark (places.Between h.tables) (places.AfterCreate h.tables) now mid token mark.Create t m refl ∙ s h.tables

@@ -15,7 +15,8 @@ use Rattle.ghost_model.specs.core.Schema.{places_from, places_of}
 use Rattle.ghost_model.specs.refusals.Rules.{broken_if}
 use Rattle.ghost_model.specs.refusals.SchemaGrammar.{TableText, SchemaText}
 use Rattle.ghost_model.specs.refusals.SchemaMeaning.{columns_written}
-use Rattle.ghost_model.specs.refusals.SchemaFaults.{is_this_name, repeats, declared_name, columns_at, table_repeats, is_duplicate, fields, fields_from, is_over, lacks_id, is_unknown, SchemaFault, Limit, DuplicateName, NoId, duplicate_at as duplicate_fault, unknown_at as unknown_fault}
+use Rattle.ghost_model.specs.refusals.SchemaFaults.{is_this_name, repeats, declared_name, columns_at, is_duplicate, fields, fields_from, is_over, SchemaFault, OverLimit, DuplicateName, NoId}
+use Rattle.ghost_model.specs.laws.ShortWords.{is_unknown, table_repeats, lacks_id, duplicate_at as duplicate_fault, unknown_at as unknown_fault}
 use Rattle.tree_schema.specs.declared.syntax.ColumnDraft.{ColumnDraft}
 use Rattle.tree_schema.specs.Drafts as drafts
 use Rattle.tree_schema.specs.Faults.{field_at, fault_of_texts}
@@ -235,13 +236,13 @@ duplicates tables = option_map duplicate_fault (find (is_duplicate tables) (fiel
 abbrev unknowns : SchemaText → Option SchemaFault
 unknowns tables = option_map unknown_fault (find (is_unknown tables) (fields tables))
 
-pub texts_over : (tables : SchemaText) → is_over tables ≡ true → fault_of_texts tables ≡ Some Limit
+pub texts_over : (tables : SchemaText) → is_over tables ≡ true → fault_of_texts tables ≡ Some OverLimit
 texts_over tables e =
-    ap (λ b. option_or (broken_if b Limit) (option_or (duplicates tables) (option_or (option_map NoId (find (lacks_id tables) (places_of tables))) (unknowns tables)))) e
+    ap (λ b. option_or (broken_if b OverLimit) (option_or (duplicates tables) (option_or (option_map NoId (find (lacks_id tables) (places_of tables))) (unknowns tables)))) e
 
 within_limits : (tables : SchemaText) → is_over tables ≡ false → fault_of_texts tables ≡ option_or (duplicates tables) (option_or (option_map NoId (find (lacks_id tables) (places_of tables))) (unknowns tables))
 within_limits tables e =
-    ap (λ b. option_or (broken_if b Limit) (option_or (duplicates tables) (option_or (option_map NoId (find (lacks_id tables) (places_of tables))) (unknowns tables)))) e
+    ap (λ b. option_or (broken_if b OverLimit) (option_or (duplicates tables) (option_or (option_map NoId (find (lacks_id tables) (places_of tables))) (unknowns tables)))) e
 
 pub texts_duplicate : (tables : SchemaText) (field : Field) → is_over tables ≡ false → find (is_duplicate tables) (fields tables) ≡ Some field
     → fault_of_texts tables ≡ Some (DuplicateName field.table field.column)

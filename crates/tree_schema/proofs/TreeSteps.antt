@@ -6,6 +6,7 @@ use Rattle.std.proofs.lemmas.List.Sums.{sum_by-cons}
 use Rattle.std.proofs.lemmas.Bool.{ne_eqb}
 use Rattle.ghost_model.specs.core.Schema.{Schema, is_table, parent, places_from, places_of, ancestor}
 use Rattle.ghost_model.specs.refusals.Rules.{broken_if}
+use Rattle.ghost_model.specs.laws.ShortWords as short
 use Rattle.ghost_model.specs.refusals.SchemaFaults as faults
 use Rattle.ghost_model.specs.refusals.SchemaFaults.{returns, roots_of}
 use Rattle.tree_schema.specs.Faults.{is_shared, fault_of_tree}
@@ -91,27 +92,27 @@ roots_end schema roots at w past = omega (arith, ap (count_by (is_root schema)) 
 abbrev after_shared : Schema → Option ℕ → Option faults.SchemaFault
 after_shared schema shared =
     option_or (option_map faults.TwoParents shared)
-    (option_or (option_map faults.Cycle (find (returns schema) (places_of schema))) (faults.wrong_roots (roots_of schema)))
+    (option_or (option_map faults.Cycle (find (returns schema) (places_of schema))) (short.wrong_roots (roots_of schema)))
 
 pub tree_shared : (schema : Schema) (child : ℕ) → find (is_shared schema) (places_of schema) ≡ Some child → fault_of_tree schema ≡ Some (faults.TwoParents child)
 tree_shared schema child e = ap (after_shared schema) e
 
 abbrev after_cycle : Schema → Option ℕ → Option faults.SchemaFault
-after_cycle schema table = option_or (option_map faults.Cycle table) (faults.wrong_roots (roots_of schema))
+after_cycle schema table = option_or (option_map faults.Cycle table) (short.wrong_roots (roots_of schema))
 
 pub tree_cycle : (schema : Schema) (table : ℕ) → find (is_shared schema) (places_of schema) ≡ None → find (returns schema) (places_of schema) ≡ Some table
     → fault_of_tree schema ≡ Some (faults.Cycle table)
 tree_cycle schema table e f = ap (after_shared schema) e ∙ ap (after_cycle schema) f
 
 by_roots : (schema : Schema) → find (is_shared schema) (places_of schema) ≡ None → find (returns schema) (places_of schema) ≡ None
-    → fault_of_tree schema ≡ faults.wrong_roots (roots_of schema)
+    → fault_of_tree schema ≡ short.wrong_roots (roots_of schema)
 by_roots schema e f = ap (after_shared schema) e ∙ ap (after_cycle schema) f
 
 pub tree_roots : (schema : Schema) (roots : ℕ) → find (is_shared schema) (places_of schema) ≡ None → find (returns schema) (places_of schema) ≡ None
     → roots ≡ roots_of schema → (roots ≡ 1 → ⊥) → fault_of_tree schema ≡ Some (faults.NotOneRoot roots)
 tree_roots schema roots e f g h =
-    by_roots schema e f ∙ ap faults.wrong_roots (sym g) ∙ ap (λ b. broken_if (not b) (faults.NotOneRoot roots)) (ne_eqb roots 1 h)
+    by_roots schema e f ∙ ap short.wrong_roots (sym g) ∙ ap (λ b. broken_if (not b) (faults.NotOneRoot roots)) (ne_eqb roots 1 h)
 
 pub tree_fine : (schema : Schema) (roots : ℕ) → find (is_shared schema) (places_of schema) ≡ None → find (returns schema) (places_of schema) ≡ None
     → roots ≡ roots_of schema → roots ≡ 1 → fault_of_tree schema ≡ None
-tree_fine schema roots e f g h = by_roots schema e f ∙ ap faults.wrong_roots (sym g ∙ h)
+tree_fine schema roots e f g h = by_roots schema e f ∙ ap short.wrong_roots (sym g ∙ h)

@@ -42,11 +42,11 @@ in_column_of (within.OpensId name primary table) =
     places.OpensId (in_lower_case name.now) primary (in_lower_case table.now)
 in_column_of (within.AfterId name primary table) =
     places.AfterId (in_lower_case name.now) primary (in_lower_case table.now)
-in_column_of (within.Whole column) = places.Whole (column_of column)
+in_column_of (within.Whole column) = places.WholeColumn (column_of column)
 
 -- where a column has ended: at a comma another one follows, else the columns are over
 abbrev pub after_column : grammar.SchemaText → List ℕ → List grammar.ColumnDeclaration → grammar.ColumnDeclaration → Bool → places.SchemaPlace
-after_column tables name columns last true = places.WantsColumn tables name (columns ++ last ∷ [])
+after_column tables name columns last true = places.WantsDeclaration tables name (columns ++ last ∷ [])
 after_column tables name columns last false = places.AfterColumns tables name columns last
 
 -- the tree that is read from a place on, or the fault
@@ -89,21 +89,21 @@ abbrev pub named : List ℕ → grammar.SchemaText → places.SchemaPlace
 named name tables = places.AfterName tables name
 
 abbrev pub opened : List ℕ → grammar.SchemaText → places.SchemaPlace
-opened name tables = places.WantsColumn tables name []
+opened name tables = places.WantsDeclaration tables name []
 
 abbrev pub ReadsName : Reader → Reader → List ℕ → Type 0
 ReadsName before after named =
     (tables : grammar.SchemaText) (name : List ℕ) (columns : List grammar.ColumnDeclaration)
-    → read_from (places.WantsColumn tables name columns) before ≡ read_from (places.Within tables name columns (places.Named named)) after
+    → read_from (places.WantsDeclaration tables name columns) before ≡ read_from (places.Within tables name columns (places.Named named)) after
 
 abbrev pub StopsName : Reader → ℕ → Type 0
 StopsName before at =
-    (tables : grammar.SchemaText) (name : List ℕ) (columns : List grammar.ColumnDeclaration) → read_from (places.WantsColumn tables name columns) before ≡ Err at
+    (tables : grammar.SchemaText) (name : List ℕ) (columns : List grammar.ColumnDeclaration) → read_from (places.WantsDeclaration tables name columns) before ≡ Err at
 
 abbrev pub ReadsNext : Reader → Reader → ColumnDraft → Bool → Type 0
 ReadsNext before after column more =
     (tables : grammar.SchemaText) (name : List ℕ) (columns : List grammar.ColumnDeclaration)
-    → read_from (places.WantsColumn tables name columns) before ≡ read_from (after_column tables name columns (column_of column) more) after
+    → read_from (places.WantsDeclaration tables name columns) before ≡ read_from (after_column tables name columns (column_of column) more) after
 
 abbrev pub ReadsEnd : Reader → Reader → Type 0
 ReadsEnd before after =
@@ -127,7 +127,7 @@ last_of first (second ∷ others) = last_of second others
 
 -- the place behind a table's columns, of which more follow or not
 abbrev pub behind : grammar.SchemaText → List ℕ → grammar.ColumnDeclaration → List grammar.ColumnDeclaration → Bool → places.SchemaPlace
-behind tables name first others true = places.WantsColumn tables name (first ∷ others)
+behind tables name first others true = places.WantsDeclaration tables name (first ∷ others)
 behind tables name first others false = places.AfterColumns tables name (before_last first others) (last_of first others)
 
 abbrev pub KeepsOthers : Option (ArrayVec ColumnDraft) → List grammar.ColumnDeclaration → Type 0
@@ -165,5 +165,5 @@ KeepsTables (Some kept) tables = map table_of kept.items ≡ tables
 
 pub record ReadsText (text : List ℕ) (kept : Option (ArrayVec TableDraft)) : Type 0 where
   pub tables : grammar.SchemaText
-  pub reads : places.syntax_of text ≡ Ok tables
+  pub reads : places.schema_syntax_of text ≡ Ok tables
   pub keeps : KeepsTables kept tables

@@ -1,7 +1,7 @@
 //! The schema that a text means, or why it means none.
 
 ghost use Rattle.std.specs.Prelude.{◌≡◌, Ok, map};
-ghost use Rattle.ghost_model.specs.readings.SchemaReading.{judged, schema_reading};
+ghost use Rattle.ghost_model.specs.readings.SchemaReading.{schema_judged, schema_reading};
 ghost use Rattle.tree_schema.specs.Drafts.{table_of};
 ghost use Rattle.tree_schema.specs.Faults.{reading_of, IsSpelled};
 
@@ -14,7 +14,7 @@ use crate::{Schema, SchemaFault};
 /// The schema of the tables that a text declares, or the first fault of the rules.
 fn judge(drafts: &[TableDraft]) -> Result<Schema, SchemaFault>
     requires spelled { IsSpelled (map table_of drafts.now) }
-    ensures reading { reading_of result ≡ judged (Ok (map table_of drafts.now)) }
+    ensures reading { reading_of result ≡ schema_judged (Ok (map table_of drafts.now)) }
 {
     check_texts(drafts)?;
     let tables = tables_of(drafts);

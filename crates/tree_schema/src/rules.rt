@@ -2,6 +2,7 @@
 
 ghost use Rattle.std.specs.Prelude.{◌≡◌, ◌≢◌, ℕ, ◌≤◌, Bool, true, false, List, length, map, find, bytes_eq, position, slice_get, ◌==◌, ◌&&◌, option_map, Some, MatchOption};
 ghost use Rattle.std.specs.List.{list_any};
+ghost use Rattle.ghost_model.specs.laws.ShortWords as short;
 ghost use Rattle.ghost_model.specs.refusals.Tokens as tokens;
 ghost use Rattle.ghost_model.specs.refusals.SchemaMeaning as meaning;
 ghost use Rattle.ghost_model.specs.refusals.SchemaMeaning.{columns_written};
@@ -121,7 +122,7 @@ fn lacks_id(table: &TableDraft) -> bool
 
 /// Whether the table at a place does not begin with its one identifier.
 fn lacks_id_at(tables: &[TableDraft], place: usize) -> bool
-    ensures lacks { result ≡ faults.lacks_id (map table_of tables.now) place }
+    ensures lacks { result ≡ short.lacks_id (map table_of tables.now) place }
 {
     match tables.get(place) {
         None => false,
@@ -131,7 +132,7 @@ fn lacks_id_at(tables: &[TableDraft], place: usize) -> bool
 
 /// The first table that does not begin with its one identifier.
 fn first_without_id(tables: &[TableDraft]) -> Option<usize>
-    ensures first { result ≡ find (faults.lacks_id (map table_of tables.now)) (places_of (map table_of tables.now)) }
+    ensures first { result ≡ find (short.lacks_id (map table_of tables.now)) (places_of (map table_of tables.now)) }
 {
     for place in 0..tables.len() {
         if lacks_id_at(tables, place) {
@@ -155,7 +156,7 @@ fn has_table(tables: &[TableDraft], name: &[u8]) -> bool
 
 /// Whether an earlier table has the name of the table at a place.
 fn table_repeats(tables: &[TableDraft], place: usize) -> bool
-    ensures repeats { result ≡ faults.table_repeats (map table_of tables.now) place }
+    ensures repeats { result ≡ short.table_repeats (map table_of tables.now) place }
 {
     match tables.get(place) {
         None => false,
@@ -206,7 +207,7 @@ fn column_repeats(table: &TableDraft, place: usize) -> bool
 
 /// Whether column 0 stands for a table's name that an earlier table has.
 fn name_repeats(tables: &[TableDraft], table: usize, column: usize) -> bool
-    ensures repeats { result ≡ (column == 0 && faults.table_repeats (map table_of tables.now) table) }
+    ensures repeats { result ≡ (column == 0 && short.table_repeats (map table_of tables.now) table) }
 {
     if column > 0 {
         return false;
@@ -272,7 +273,7 @@ fn column_at<'a>(table: &TableDraft<'a>, place: usize) -> Option<ColumnDraft<'a>
 
 /// Whether the REFERENCES of a column names no table.
 fn is_unknown(tables: &[TableDraft], table: usize, column: usize) -> bool
-    ensures unknown { result ≡ faults.is_unknown (map table_of tables.now) (field_at table column) }
+    ensures unknown { result ≡ short.is_unknown (map table_of tables.now) (field_at table column) }
 {
     match tables.get(table) {
         None => false,
@@ -319,7 +320,7 @@ fn first_duplicate(tables: &[TableDraft]) -> Option<(usize, usize)>
 
 /// The first column of a table whose REFERENCES names no table.
 fn first_unknown_in(tables: &[TableDraft], table: usize) -> Option<usize>
-    ensures first { result ≡ find (λ column. faults.is_unknown (map table_of tables.now) (field_at table column)) (places_of (faults.columns_at (slice_get (map table_of tables.now) table))) }
+    ensures first { result ≡ find (λ column. short.is_unknown (map table_of tables.now) (field_at table column)) (places_of (faults.columns_at (slice_get (map table_of tables.now) table))) }
 {
     for column in 0..columns_len(tables, table) {
         if is_unknown(tables, table, column) {
@@ -331,7 +332,7 @@ fn first_unknown_in(tables: &[TableDraft], table: usize) -> Option<usize>
 
 /// The first table and column whose REFERENCES names no table.
 fn first_unknown(tables: &[TableDraft]) -> Option<(usize, usize)>
-    ensures first { option_map field_of result ≡ find (faults.is_unknown (map table_of tables.now)) (faults.fields (map table_of tables.now)) }
+    ensures first { option_map field_of result ≡ find (short.is_unknown (map table_of tables.now)) (faults.fields (map table_of tables.now)) }
 {
     for table in 0..tables.len() {
         if let Some(column) = first_unknown_in(tables, table) {

@@ -2,6 +2,7 @@
 
 ghost use Rattle.std.specs.Prelude.{◌≡◌, ℕ, ◌<◌, ◌≤◌, ◌==◌, not, length, slice_get, option_map, option_and_then, position, IfSome};
 ghost use Rattle.std.specs.List.{list_any};
+ghost use Rattle.ghost_model.specs.laws.SchemaLaws as schema_laws;
 ghost use Rattle.ghost_model.specs.core.Schema as schema;
 ghost use Rattle.ghost_model.specs.core.Database as database;
 ghost use Rattle.tree_schema.specs.Views.{column_of, table_of, schema_of};
@@ -204,7 +205,7 @@ impl Schema {
 
     /// The tables that a table's foreign keys name, ascending.
     pub fn children(&self, table: usize) -> ArrayVec<usize, MAX_TABLES>
-        ensures { result.items ≡ schema.children self.now table }
+        ensures { result.items ≡ schema_laws.children self.now table }
     {
         let mut found = ArrayVec::new();
         for at in 0..self.tables() {

@@ -379,7 +379,7 @@ pub fn read_tables<'a>(
     text: &'a [u8],
 ) -> Result<Option<ArrayVec<TableDraft<'a>, MAX_TABLES>>, usize>
     ensures read { IfOk result (λ kept. ReadsText text.now kept) }
-    ensures stops { IfErr result (λ at. places.syntax_of text.now ≡ Err at) }
+    ensures stops { IfErr result (λ at. places.schema_syntax_of text.now ≡ Err at) }
 {
     let mut reader = Reader {
         cursor: Cursor::of(text),

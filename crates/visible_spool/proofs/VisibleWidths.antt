@@ -5,6 +5,7 @@ use Rattle.std.specs.Option.{option_map_or}
 use Rattle.ghost_model.specs.core.Schema.{Kind, Integer, Chars, Column, columns_of, column_at, is_shown, is_visible}
 use Rattle.ghost_model.specs.core.Channel.{Catalog}
 use Rattle.ghost_model.specs.forms.Cells.{cell_width}
+use Rattle.ghost_model.specs.laws.ShortWords as short
 use Rattle.ghost_model.specs.forms.Layout as layout
 use Rattle.ghost_model.specs.laws.LayoutLaws.{LieInOrder}
 use Rattle.visible_spool.specs.Laws.{VisibleTablesHaveRoom}
@@ -51,8 +52,8 @@ visible_tables_have_room cat table column tree order visible =
     let some = width_least (column_at cat.schema table column) (λ held at. kind_least held.kind (λ most e. (tree.text_lengths table column most held at e).0)) shown in
     let step : up_to cat table order (column + 1) ≡ up_to cat table order column + cond (is_visible cat.schema table column) (layout.width_at cat.schema table column) 0 = order.next_visible table column in
     let all = taken_if (is_visible cat.schema table column) (layout.width_at cat.schema table column) visible in
-    let gap = layout.column_count cat.schema table - (column + 1) in
+    let gap = short.column_count cat.schema table - (column + 1) in
     let up = climbs cat table order gap (column + 1) in
-    let e : column + 1 + gap ≡ layout.column_count cat.schema table = omega (arith, there) in
+    let e : column + 1 + gap ≡ short.column_count cat.schema table = omega (arith, there) in
     let h = ap (up_to cat table order) e in
     omega (arith, some, step, all, up, h)

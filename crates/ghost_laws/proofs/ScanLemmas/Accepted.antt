@@ -5,7 +5,8 @@ use Rattle.std.specs.List.{list_all, list_any}
 use Rattle.ghost_model.specs.core.Schema.{Schema, is_table}
 use Rattle.ghost_model.specs.core.Query.{Query, Field, Condition, Compare, Join, AtMost, AtLeast, top_of}
 use Rattle.ghost_model.specs.refusals.QueryGrammar.{ColumnText, Bare, Qualified, ConditionText, Compares, LiesBetween, Joins}
-use Rattle.ghost_model.specs.refusals.QueryMeaning.{field, value_of_literal, column_named, table_named, fields_named, meanings, conditions_of, resolved, is_reference_to, is_proper, lacks_join, Means}
+use Rattle.ghost_model.specs.refusals.QueryMeaning.{field, value_of_literal, table_named, fields_named, meanings, conditions_of, resolved, is_reference_to, is_proper, lacks_join, Means}
+use Rattle.ghost_model.specs.laws.ShortWords.{column_named}
 use Rattle.ghost_model.proofs.QueryReadingLemmas.{kept_rules}
 use Rattle.ghost_model.proofs.MeaningLemmas.OneRow.{Among, from_filter, from_map, either_true, neither_true, both_true}
 use Rattle.ghost_laws.proofs.ScanLemmas.Choices.{from_flat}

@@ -4,7 +4,8 @@ use Rattle.std.specs.Prelude.{option_to_list}
 use Rattle.ghost_model.specs.core.Schema.{Schema, Column, columns_of, column_at, places_from, places_where, first_of, is_table}
 use Rattle.ghost_model.specs.core.Query.{Query, Field}
 use Rattle.ghost_model.specs.refusals.QueryGrammar.{ColumnText, Bare, Qualified, Selection, All, Columns}
-use Rattle.ghost_model.specs.refusals.QueryMeaning.{field, column_named, table_named, fields_named, fields_of, meanings, selected_fields, resolved, Means}
+use Rattle.ghost_model.specs.refusals.QueryMeaning.{field, table_named, fields_named, fields_of, meanings, selected_fields, resolved, Means}
+use Rattle.ghost_model.specs.laws.ShortWords.{column_named}
 use Rattle.ghost_model.proofs.MeaningLemmas.OneRow.{Among, from_map}
 use Rattle.ghost_laws.proofs.ScanLemmas.Choices.{from_flat}
 

@@ -9,7 +9,8 @@ use Rattle.std.proofs.lemmas.List.{length-take-le, length-drop, take-append-le, 
 use Rattle.std.proofs.lemmas.List.Folds.{list_all-append}
 use Rattle.ghost_model.specs.core.Schema.{Schema, Kind}
 use Rattle.ghost_model.specs.core.Channel.{Ask, Frame, HelloFrame, AskFrame, MoreFrame, ByeFrame, RowsFrame, DoneFrame, SorryFrame}
-use Rattle.ghost_model.specs.forms.Frames.{AreBytes, kind_in, size_in, serial_in, payload_in, payload_number, frame_in, most_payload}
+use Rattle.ghost_model.specs.forms.Frames.{AreBytes, kind_in, size_in, serial_in, payload_in, frame_in, most_payload}
+use Rattle.ghost_model.specs.laws.ShortWords.{payload_number}
 use Rattle.ghost_model.specs.core.Asks.{kinds_of, row_width, RowCells, row_in, rows_from, rows_in}
 use Rattle.ghost_model.specs.core.NextMove.{are_cells, rows_fit, reply_size_fits}
 use Rattle.ghost_model.specs.core.Split.{are_of_kinds}

@@ -9,7 +9,7 @@ use Rattle.ghost_model.specs.core.Schema.{Schema}
 use Rattle.ghost_model.specs.core.Query.{Query}
 use Rattle.ghost_model.specs.refusals.QueryMeaning.{Refusal}
 use Rattle.ghost_model.specs.readings.QueryReading.{reading}
-use Rattle.ghost_model.specs.core.Channel.{Catalog, Ask, Frame, HelloFrame, AskFrame, MoreFrame, ByeFrame, WelcomeFrame, RowsFrame, DoneFrame, SorryFrame, row_count_in}
+use Rattle.ghost_model.specs.core.Channel.{Catalog, Ask, Frame, HelloFrame, AskFrame, MoreFrame, ByeFrame, WelcomeFrame, RowsFrame, DoneFrame, SorryFrame, count_of}
 use Rattle.ghost_model.specs.forms.Frames.{AreBytes, frame_in, size_in, kind_in, version_in, serial_in, frame_version}
 use Rattle.ghost_model.specs.core.Asks.{NumberedAsk, asked, asks_of, asks_of_reading, asked_of, rows_in, row_width, kinds_of}
 use Rattle.ghost_model.specs.core.Moves.{taken}
@@ -163,7 +163,7 @@ module _ (catalog : Catalog) (asks : List NumberedAsk) (number : ℕ) where
       let whole : length payload % row_width schema one.ask ≡ 0 = ap (λ n. n % row_width schema one.ask) long ∙ divides in
       let bytes : AreBytes payload = subst (λ xs. AreBytes xs) found.1 (bytes_taken (size_in part) (drop 8 part) (bytes_dropped 8 part h)) in
       none_ended (AwaitsReply one serial later count last) (AwaitsReply one serial later _ _) rows (rows ++ payload) ends refl
-      (rows_more schema one.ask rows payload o.rows_so bytes whole (row_count_in catalog one.ask.table) last fits) o
+      (rows_more schema one.ask rows payload o.rows_so bytes whole (count_of catalog one.ask.table) last fits) o
   by_frame part h enough (AwaitsReply one serial later count last) rows ends (DoneFrame number_of total) is header fits o = record {
     rows_so = rows_none (ask_next schema (serial + 1) later).awaits;
     ended_so = each_joined EndedSo ends (ended one (Answered rows) ∷ []) o.ended_so (all_rows schema one.ask rows o.rows_so, tt);

@@ -12,7 +12,8 @@ use Rattle.ghost_model.specs.core.Values.{Value, Row, Rows, Database}
 use Rattle.ghost_model.specs.core.Query.{Query, Field, Condition, Compare, Join, top_of, only, is_some_among}
 use Rattle.ghost_model.specs.core.Database.{IsDatabase, rows_of, row_of, row_count, value_at_row}
 use Rattle.ghost_model.specs.core.Split.{Hidden, hidden_of, value_at}
-use Rattle.ghost_model.specs.core.Meaning.{compares, others_of, Pick, pick, no_value, answer_by_top}
+use Rattle.ghost_model.specs.core.Meaning.{compares, Pick, pick, no_value, answer_by_top}
+use Rattle.ghost_model.specs.laws.ShortWords.{others_of}
 use Rattle.ghost_model.specs.laws.SplitByFlags.{hidden_flags, hidden_values}
 use Rattle.ghost_model.proofs.MeaningLemmas.PartsByFlags.{hidden_rows_at}
 use Rattle.ghost_model.specs.core.Replies as replies

@@ -4,14 +4,15 @@ use Rattle.std.proofs.Common.{◌≡◌, ℕ, zero, suc, ◌+◌, ◌<◌, ◌�
 use Rattle.std.specs.Prelude.{is_some, unwrap_or}
 use Rattle.std.specs.List.{list_all, list_any}
 use Rattle.std.proofs.lemmas.Bool.{lt-ltb}
-use Rattle.ghost_model.specs.core.Schema.{Schema, Column, Kind, columns_of, column_at, places_from, is_empty, is_shown, is_visible}
+use Rattle.ghost_model.specs.core.Schema.{Schema, Column, Kind, columns_of, column_at, places_from, is_empty, is_shown, is_visible, places_of}
 use Rattle.ghost_model.specs.laws.SchemaTrees.{IsTree}
 use Rattle.ghost_model.specs.core.Values.{Number, Row, Database}
 use Rattle.ghost_model.specs.core.Query.{Query, Field, top_of}
 use Rattle.ghost_model.specs.refusals.QueryMeaning as meaning
 use Rattle.ghost_model.specs.refusals.QueryMeaning.{Means}
 use Rattle.ghost_model.specs.core.Channel.{Ask}
-use Rattle.ghost_model.specs.core.Asks.{kind_at, kinds_of, is_field, is_wanted, places, ask_for, is_needed, is_from, asks_of}
+use Rattle.ghost_model.specs.core.Asks.{kind_at, kinds_of, is_wanted, ask_for, is_needed, asks_of}
+use Rattle.ghost_model.specs.laws.ShortWords.{is_field, is_from}
 use Rattle.ghost_model.specs.core.Database.{IsDatabase, row_of, row_count, is_of_kind}
 use Rattle.ghost_model.specs.core.Split.{RowValues, hidden_of, value_at, are_of_kinds}
 use Rattle.ghost_model.specs.core.Replies.{Reply, reply_about, row_replied, replied_value, hidden_value, known_value}
@@ -53,10 +54,10 @@ place_stands at (suc place) (x ∷ xs) h =
     let e : at + 1 + place ≡ at + suc place = omega arith in
     inr (subst (λ n. Among n (places_from (λ _. true) (at + 1) xs)) e (place_stands (at + 1) place xs (omega (arith, h))))
 
-stands_first : {X : Type 0} (place : ℕ) (xs : List X) → place < length xs → Among place (places xs)
+stands_first : {X : Type 0} (place : ℕ) (xs : List X) → place < length xs → Among place (places_of xs)
 stands_first place xs h =
     let e : 0 + place ≡ place = omega arith in
-    subst (λ n. Among n (places xs)) e (place_stands 0 place xs h)
+    subst (λ n. Among n (places_of xs)) e (place_stands 0 place xs h)
 
 field_is : (f : Field) (select : List Field) → Among f select → list_any (is_field f.table f.column) select ≡ true
 field_is f [] h = absurd h
@@ -78,7 +79,7 @@ module _ (schema : Schema) (asked : Query) where
   column_asked : (f : Field) (declared : Column) → column_at schema f.table f.column ≡ Some declared → is_visible schema f.table f.column ≡ true
       → Among f asked.select → Among f.column (ask_for schema asked f.table).columns
   column_asked f declared h visible a =
-      among-filter (is_wanted schema asked.select f.table) f.column (places (columns_of schema f.table))
+      among-filter (is_wanted schema asked.select f.table) f.column (places_of (columns_of schema f.table))
       (stands_first f.column (columns_of schema f.table) (place_within (columns_of schema f.table) f.column declared h))
       (hold_both _ _ visible (field_is f asked.select a))
 
@@ -86,15 +87,15 @@ module _ (schema : Schema) (asked : Query) where
       → Among f.column (ask_for schema asked f.table).columns → Among (ask_for schema asked f.table) (asks_of schema asked)
   ask_stands f declared h from column =
       let held = in_table (slice_get schema f.table) f.column declared h in
-      among-filter is_needed (ask_for schema asked f.table) (map (ask_for schema asked) (filter (is_from asked) (places schema)))
-      (to_map (ask_for schema asked) f.table (filter (is_from asked) (places schema))
-      (among-filter (is_from asked) f.table (places schema) (stands_first f.table schema (place_within schema f.table held.0 held.1)) (among_is f.table asked.from from)))
+      among-filter is_needed (ask_for schema asked f.table) (map (ask_for schema asked) (filter (is_from asked) (places_of schema)))
+      (to_map (ask_for schema asked) f.table (filter (is_from asked) (places_of schema))
+      (among-filter (is_from asked) f.table (places_of schema) (stands_first f.table schema (place_within schema f.table held.0 held.1)) (among_is f.table asked.from from)))
       (needed f.column (ask_for schema asked f.table).columns (is_empty (ask_for schema asked f.table).tests) column)
 
   only_ask : (ask : Ask) → Among ask (asks_of schema asked) → (table : ℕ) → ask.table ≡ table → ask ≡ ask_for schema asked table
   only_ask ask a table same =
-      let r = from_filter is_needed ask (map (ask_for schema asked) (filter (is_from asked) (places schema))) a in
-      let q = from_map (ask_for schema asked) ask (filter (is_from asked) (places schema)) r.0 in
+      let r = from_filter is_needed ask (map (ask_for schema asked) (filter (is_from asked) (places_of schema))) a in
+      let q = from_map (ask_for schema asked) ask (filter (is_from asked) (places_of schema)) r.0 in
       let at : q.0 ≡ table = ap (λ (one : Ask). one.table) q.2 ∙ same in
       sym q.2 ∙ ap (ask_for schema asked) at
 

@@ -9,8 +9,9 @@ use Rattle.ghost_model.specs.laws.SchemaTrees.{IsTree}
 use Rattle.ghost_model.specs.core.Values.{Value, Row, Rows, Database}
 use Rattle.ghost_model.specs.core.Query.{Query, Field, Condition, Compare, Join}
 use Rattle.ghost_model.specs.core.Query as query
-use Rattle.ghost_model.specs.core.Database.{IsDatabase, rows_or_none, rows_of, row_of, row_count, leads}
-use Rattle.ghost_model.specs.core.Meaning.{compares, others_of, Pick, pick}
+use Rattle.ghost_model.specs.core.Database.{IsDatabase, rows_of, row_of, row_count, leads}
+use Rattle.ghost_model.specs.laws.ShortWords.{rows_or_none, others_of}
+use Rattle.ghost_model.specs.core.Meaning.{compares, Pick, pick}
 use Rattle.ghost_model.specs.core.Split.{Hidden, hidden_of}
 use Rattle.ghost_model.proofs.MeaningLemmas.PartsByFlags.{hidden_rows_at}
 use Rattle.ghost_model.specs.laws.SplitByFlags.{hidden_values}

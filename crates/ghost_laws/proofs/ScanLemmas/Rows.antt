@@ -10,7 +10,8 @@ use Rattle.ghost_model.specs.core.Query.{Query, Field, Condition, Compare, Join}
 use Rattle.ghost_model.specs.core.Database.{IsDatabase, rows_of, row_of, row_count, value_at_row}
 use Rattle.ghost_model.specs.core.Split.{Hidden, hidden_of}
 use Rattle.ghost_model.specs.core.Meaning as meaning
-use Rattle.ghost_model.specs.core.Meaning.{Pick, pick, compares, no_value, others_of, all_of, answer_by_top}
+use Rattle.ghost_model.specs.core.Meaning.{Pick, pick, compares, no_value, all_of, answer_by_top}
+use Rattle.ghost_model.specs.laws.ShortWords.{others_of}
 use Rattle.ghost_model.proofs.MeaningLemmas.ByRows as by_row
 use Rattle.ghost_model.proofs.MeaningLemmas.ByRows.{Chosen, choice, Combination, row_combinations, row_in, value_in, is_true_in, passes, projection, answer_of_row, mapped_twice, row_field, by_rows}
 use Rattle.ghost_model.proofs.MeaningLemmas.OneRow.{Among, IsLinked, query_is_linked, both_true}

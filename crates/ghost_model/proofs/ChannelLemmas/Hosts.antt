@@ -13,7 +13,8 @@ use Rattle.ghost_model.proofs.ChannelLemmas.{spelled_is_found}
 use Rattle.ghost_model.specs.core.Channel.{Catalog, Ask, Frame, HelloFrame, AskFrame, MoreFrame, ByeFrame}
 use Rattle.ghost_model.specs.core.Asks.{RowCells, row_bytes}
 use Rattle.ghost_model.specs.readings.AskReading.{ask_in}
-use Rattle.ghost_model.specs.core.Host.{Holding, Stand, Greeting, Listening, Replying, Over, Response, welcomes, reply_to, answers_ask, goes_on, after_reply, said_to, said_with, asks_in_frame, frames_within, frame_and, groups_from, grouped, welcomes_of, rows_frame, host_says, frames_of, said_with_refusals}
+use Rattle.ghost_model.specs.core.Host.{Holding, Stand, Greeting, Listening, Replying, Over, Response, welcomes, reply_to, answers_ask, goes_on, after_reply, said_with, asks_in_frame, frames_within, frame_and, groups_from, grouped, welcomes_of, rows_frame, host_says, frames_of, said_with_refusals}
+use Rattle.ghost_model.specs.laws.ShortWords.{said_to}
 use Rattle.ghost_model.specs.laws.HostLaws.{replies_to, IsFront, welcome_part, honest_stream}
 
 module _ (held : Holding) where

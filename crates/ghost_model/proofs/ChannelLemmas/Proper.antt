@@ -18,6 +18,8 @@ use Rattle.ghost_model.specs.laws.Spelled.{is_spelled, IsBeforeEnd}
 use Rattle.ghost_model.specs.core.Database.{is_of_kind, fits_integer}
 use Rattle.ghost_model.specs.refusals.QueryGrammar.{ConditionText, Compares, LiesBetween, Joins, ColumnText, LiteralText, Unsigned, Signed, Written, QueryText, spelling, spell_condition, spell_literal, spell_where, spell_column, spell_table, spell_selection}
 use Rattle.ghost_model.specs.refusals.Grammar.{separated}
+use Rattle.ghost_model.specs.laws.ShortWords as short
+use Rattle.ghost_model.specs.core.Schema as schemas
 use Rattle.ghost_model.specs.refusals.QueryMeaning as meaning
 use Rattle.ghost_model.specs.core.Asks as asks
 use Rattle.ghost_model.specs.laws.ChannelLaws as laws
@@ -85,10 +87,10 @@ abbrev always : {X : Type 0} → X → Bool
 always _ = true
 
 module _ (schema : Schema) where
-  visible_columns : (select : List Field) (table : ℕ) → list_all (is_visible schema table) (filter (asks.is_wanted schema select table) (asks.places (columns_of schema table))) ≡ true
+  visible_columns : (select : List Field) (table : ℕ) → list_all (is_visible schema table) (filter (asks.is_wanted schema select table) (schemas.places_of (columns_of schema table))) ≡ true
   visible_columns select table =
-      all_filter (is_visible schema table) (asks.is_wanted schema select table) (asks.places (columns_of schema table))
-      (λ column e. (both_hold (is_visible schema table column) (list_any (asks.is_field table column) select) e).one)
+      all_filter (is_visible schema table) (asks.is_wanted schema select table) (schemas.places_of (columns_of schema table))
+      (λ column e. (both_hold (is_visible schema table column) (list_any (short.is_field table column) select) e).one)
 
   tested : (table : ℕ) (field : Field) (test : Test) (r : Test → Bool) (b : Bool) → (b ≡ true → r test ≡ true) → list_all r (if b then test ∷ [] else []) ≡ true
   tested table field test r true h = hold_both (r test) true (h refl) refl
@@ -101,16 +103,16 @@ module _ (schema : Schema) where
       (λ e. (both_hold (field.table == table) (is_visible schema table field.column) e).other)
   visible_test table (Join left right) = refl
 
-  visible_tests : (table : ℕ) (conditions : List Condition) → list_all (λ test. is_visible schema table test.column) (asks.tests_of schema table conditions) ≡ true
+  visible_tests : (table : ℕ) (conditions : List Condition) → list_all (λ test. is_visible schema table test.column) (short.tests_of schema table conditions) ≡ true
   visible_tests table conditions =
       all_flat (λ test. is_visible schema table test.column) (asks.test_of schema table) conditions
       (all_each (λ condition. list_all (λ test. is_visible schema table test.column) (asks.test_of schema table condition)) conditions (visible_test table))
 
   pub asks_are_visible : (query : Query) → list_all (laws.names_visible schema) (asks.asks_of schema query) ≡ true
   asks_are_visible query =
-      all_kept (laws.names_visible schema) asks.is_needed (map (asks.ask_for schema query) (filter (asks.is_from query) (asks.places schema)))
-      (list_all-map (laws.names_visible schema) (asks.ask_for schema query) (filter (asks.is_from query) (asks.places schema))
-      ∙ all_each (λ table. laws.names_visible schema (asks.ask_for schema query table)) (filter (asks.is_from query) (asks.places schema))
+      all_kept (laws.names_visible schema) asks.is_needed (map (asks.ask_for schema query) (filter (short.is_from query) (schemas.places_of schema)))
+      (list_all-map (laws.names_visible schema) (asks.ask_for schema query) (filter (short.is_from query) (schemas.places_of schema))
+      ∙ all_each (λ table. laws.names_visible schema (asks.ask_for schema query table)) (filter (short.is_from query) (schemas.places_of schema))
       (λ table. hold_both _ _ (visible_columns query.select table) (visible_tests table query.conditions)))
 
 -- places are below the length, and ascend
@@ -183,7 +185,7 @@ module _ (schema : Schema) where
   sound_tests :
       (table : ℕ) (conditions : List Condition) → list_any (meaning.literal_fails schema meaning.is_other_kind) conditions ≡ false
       → list_any (meaning.literal_fails schema meaning.is_too_large) conditions ≡ false → list_all is_plain_condition conditions ≡ true
-      → list_all (is_sound table) (asks.tests_of schema table conditions) ≡ true
+      → list_all (is_sound table) (short.tests_of schema table conditions) ≡ true
   sound_tests table conditions a b c =
       all_flat (is_sound table) (asks.test_of schema table) conditions
       (all_from_three (λ x. not (meaning.literal_fails schema meaning.is_other_kind x)) (λ x. not (meaning.literal_fails schema meaning.is_too_large x)) is_plain_condition
@@ -300,13 +302,13 @@ module _ (schema : Schema) (from : List ℕ) (table : ℕ) where
       ap length (none_of_all_joins (meaning.meanings schema from right) (meaning.meanings schema from left)) in
       omega (arith, none)
 
-  few_in_all : (conditions : List ConditionText) → list_all (λ condition. list_all has_one (meaning.condition_columns condition)) conditions ≡ true → length (asks.tests_of schema table (flat_map (meaning.conditions_of schema from) conditions)) ≤ sum_by meaning.literal_conditions conditions
+  few_in_all : (conditions : List ConditionText) → list_all (λ condition. list_all has_one (meaning.condition_columns condition)) conditions ≡ true → length (short.tests_of schema table (flat_map (meaning.conditions_of schema from) conditions)) ≤ sum_by meaning.literal_conditions conditions
   few_in_all [] e = omega arith
   few_in_all (condition ∷ more) e =
       let both : BothHold (list_all has_one (meaning.condition_columns condition)) (list_all (λ condition. list_all has_one (meaning.condition_columns condition)) more) = both_hold _ _ e in
       let here : List Condition = meaning.conditions_of schema from condition in
       let rest : List Condition = flat_map (meaning.conditions_of schema from) more in
-      let split : length (asks.tests_of schema table (flat_map (meaning.conditions_of schema from) (condition ∷ more))) ≡ length (flat_map (asks.test_of schema table) here) + length (flat_map (asks.test_of schema table) rest) =
+      let split : length (short.tests_of schema table (flat_map (meaning.conditions_of schema from) (condition ∷ more))) ≡ length (flat_map (asks.test_of schema table) here) + length (flat_map (asks.test_of schema table) rest) =
       ap length (flat_map-append (asks.test_of schema table) here rest) ∙ length-append (flat_map (asks.test_of schema table) here) (flat_map (asks.test_of schema table) rest) in
       let total : sum_by meaning.literal_conditions (condition ∷ more) ≡ meaning.literal_conditions condition + sum_by meaning.literal_conditions more = sum_by-cons meaning.literal_conditions condition more in
       omega (arith, split, total, few_tests condition both.one, few_in_all more both.other)
@@ -327,8 +329,8 @@ module _ (schema : Schema) (text : List ℕ) (tree : QueryText) (spells : symbol
 
   limited : sum_by meaning.literal_conditions tree.conditions ≤ 16
   limited =
-      let four : ((nat_lt 4096 (length text) || list_any (λ name. nat_lt 32 (length name)) (meaning.names_in tree) || nat_lt 12 (length (meaning.from_names tree)) || nat_lt 16 (sum_by meaning.literal_conditions tree.conditions)) ≡ false) × (nat_lt 32 (meaning.selected_count schema tree tree.selection) ≡ false) = neither _ _ keeps.limits in
-      let three : ((nat_lt 4096 (length text) || list_any (λ name. nat_lt 32 (length name)) (meaning.names_in tree) || nat_lt 12 (length (meaning.from_names tree))) ≡ false) × (nat_lt 16 (sum_by meaning.literal_conditions tree.conditions) ≡ false) = neither _ _ four.0 in
+      let four : ((nat_lt 4096 (length text) || list_any (λ name. nat_lt 32 (length name)) (short.names_in tree) || nat_lt 12 (length (meaning.from_names tree)) || nat_lt 16 (sum_by meaning.literal_conditions tree.conditions)) ≡ false) × (nat_lt 32 (meaning.selected_count schema tree tree.selection) ≡ false) = neither _ _ keeps.limits in
+      let three : ((nat_lt 4096 (length text) || list_any (λ name. nat_lt 32 (length name)) (short.names_in tree) || nat_lt 12 (length (meaning.from_names tree))) ≡ false) × (nat_lt 16 (sum_by meaning.literal_conditions tree.conditions) ≡ false) = neither _ _ four.0 in
       ltb-false 16 (sum_by meaning.literal_conditions tree.conditions) three.1
 
   single : list_all (λ condition. list_all (has_one schema tables 0) (meaning.condition_columns condition)) tree.conditions ≡ true
@@ -348,26 +350,26 @@ module _ (schema : Schema) (text : List ℕ) (tree : QueryText) (spells : symbol
   proper_ask : (table : ℕ) → nat_lt table (length schema) ≡ true → asks.is_proper_ask schema (asks.ask_for schema (meaning.resolved schema tree) table) ≡ true
   proper_ask table e =
       let query : Query = meaning.resolved schema tree in
-      let count : length (asks.tests_of schema table query.conditions) ≤ 16 = omega (arith, few_in_all schema tables table tree.conditions single, limited) in
+      let count : length (short.tests_of schema table query.conditions) ≤ 16 = omega (arith, few_in_all schema tables table tree.conditions single, limited) in
       hold_both _ _
       (hold_both _ _
       (hold_both _ _
       (hold_both _ _
       (hold_both _ _ e (visible_columns schema query.select table))
       (columns_ascend (asks.is_wanted schema query.select table) (columns_of schema table) refl))
-      (le-leb (length (asks.tests_of schema table query.conditions)) 16 count))
+      (le-leb (length (short.tests_of schema table query.conditions)) 16 count))
       (visible_tests schema table query.conditions))
       (sound_tests schema table query.conditions keeps.kinds keeps.literals plain)
 
   proper_asks : list_all (asks.is_proper_ask schema) (asks.asks_of schema (meaning.resolved schema tree)) ≡ true
   proper_asks =
       let query : Query = meaning.resolved schema tree in
-      let places : List ℕ = asks.places schema in
-      let below : list_all (λ place. nat_lt place (length schema)) (asks.places schema) ≡ true = places_below 0 schema (length schema) (omega arith) in
-      all_kept (asks.is_proper_ask schema) asks.is_needed (map (asks.ask_for schema query) (filter (asks.is_from query) (asks.places schema)))
-      (list_all-map (asks.is_proper_ask schema) (asks.ask_for schema query) (filter (asks.is_from query) (asks.places schema))
-      ∙ all_weaker (λ place. nat_lt place (length schema)) (λ table. asks.is_proper_ask schema (asks.ask_for schema query table)) (filter (asks.is_from query) (asks.places schema))
-      proper_ask (all_kept (λ place. nat_lt place (length schema)) (asks.is_from query) (asks.places schema) below))
+      let places : List ℕ = schemas.places_of schema in
+      let below : list_all (λ place. nat_lt place (length schema)) (schemas.places_of schema) ≡ true = places_below 0 schema (length schema) (omega arith) in
+      all_kept (asks.is_proper_ask schema) asks.is_needed (map (asks.ask_for schema query) (filter (short.is_from query) (schemas.places_of schema)))
+      (list_all-map (asks.is_proper_ask schema) (asks.ask_for schema query) (filter (short.is_from query) (schemas.places_of schema))
+      ∙ all_weaker (λ place. nat_lt place (length schema)) (λ table. asks.is_proper_ask schema (asks.ask_for schema query table)) (filter (short.is_from query) (schemas.places_of schema))
+      proper_ask (all_kept (λ place. nat_lt place (length schema)) (short.is_from query) (schemas.places_of schema) below))
 
 pub asks_are_proper : (schema : Schema) (text : List ℕ) (query : Query) → reading schema text ≡ Ok query → list_all (asks.is_proper_ask schema) (asks.asks_of schema query) ≡ true
 asks_are_proper schema text query read =

@@ -7,7 +7,7 @@ use Rattle.std.proofs.Math.Nat.{suc-mul, mul-mod_left, mod-lt}
 use Rattle.std.proofs.lemmas.Bool.Decides.{nat_tests}
 use Rattle.std.proofs.lemmas.Bool.{eq-eqb, lt-ltb, le-leb}
 use Rattle.std.proofs.lemmas.Nat.{from_be_bytes-to_be_bytes_4}
-use Rattle.ghost_model.specs.core.Channel.{Catalog, Frame, DoneFrame, MoreFrame, row_count_in}
+use Rattle.ghost_model.specs.core.Channel.{Catalog, Frame, DoneFrame, MoreFrame, count_of}
 use Rattle.ghost_model.specs.core.Asks.{NumberedAsk, RowCells, row_bytes, row_width, kinds_of}
 use Rattle.ghost_model.specs.laws.ChannelLaws.{IsReplyRow, IsAwaited}
 use Rattle.ghost_model.specs.forms.Frames.{IsFrame, AreBytes, frame_bytes, size_in, payload_of, most_payload}
@@ -101,7 +101,7 @@ module _ (catalog : Catalog) (asks : List NumberedAsk) (asked : NumberedAsk) (se
             (rows_size_fits (size_in (frame_bytes (rows_frame serial group))) (omega (arith, size, more))
             (ap (λ (n : ℕ). n % width) size ∙ mul-mod_left (length group) width) (omega (arith, size, g.fits)));
         payload =
-            ap (λ (rows : List RowCells). rows_fit (row_count_in catalog asked.ask.table) last (kinds_of catalog.schema asked.ask) rows) (spelled_rows_are_read catalog.schema asked.ask group g.widths)
+            ap (λ (rows : List RowCells). rows_fit (count_of catalog asked.ask.table) last (kinds_of catalog.schema asked.ask) rows) (spelled_rows_are_read catalog.schema asked.ask group g.widths)
             ∙ g.ascends;
       }
 

@@ -7,7 +7,8 @@ use Rattle.ghost_model.specs.core.Channel.{Catalog, Frame, Move, Dial, Listen, A
 use Rattle.ghost_model.specs.core.Asks.{NumberedAsk}
 use Rattle.ghost_model.specs.forms.Frames.{frame_bytes}
 use Rattle.ghost_model.specs.core.Moves.{sent, taken, sent_by, piece_of}
-use Rattle.ghost_model.specs.core.NextMove.{Awaits, AwaitsCatalog, AwaitsReply, AwaitsNothing, Verdict, Lacking, Complete, Invalid, verdict, Heard, heard, heard_as, hear, hear_all, at_first, due, standing_after, Standing, next_with, send_or, take_or_close, GoesOn}
+use Rattle.ghost_model.specs.core.NextMove.{Awaits, AwaitsCatalog, AwaitsReply, AwaitsNothing, Verdict, Lacking, Complete, Invalid, verdict, Heard, heard, heard_as, hear, hear_all, at_first, standing_after, Standing, next_with, send_or, take_or_close, GoesOn}
+use Rattle.ghost_model.specs.laws.ShortWords.{due}
 use Rattle.ghost_model.specs.laws.ChannelLaws.{IsDue}
 use Rattle.ghost_model.specs.laws.HostLaws.{IsFront}
 

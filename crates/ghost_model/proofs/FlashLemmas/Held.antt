@@ -13,12 +13,13 @@ use Rattle.ghost_model.specs.core.Split.{Hidden}
 use Rattle.ghost_model.specs.core.Replies.{hidden_value}
 use Rattle.ghost_model.specs.forms.Runs.{Run, Stores, record_at, run_end, run_pages, per_page, number_cell}
 use Rattle.ghost_model.specs.laws.RunLaws.{AgreeOn}
-use Rattle.ghost_model.specs.forms.Layout.{is_hidden, column_count, count_of, levels_of, above_of, descendants_of, public_pages, files_end, column_file, column_pages, columns_pages, subtree_table, index_header, index_directory, index_level, id_directory, id_level}
+use Rattle.ghost_model.specs.forms.Layout.{is_hidden, count_of, levels_of, above_of, descendants_of, public_pages, files_end}
+use Rattle.ghost_model.specs.laws.ShortWords.{column_count, column_file, subtree_table, index_header, index_directory, index_level, id_directory, id_level}
+use Rattle.ghost_model.specs.laws.LayoutSums.{column_pages, columns_pages, column_begin, column_pages_before, subtree_begin, subtree_pages, directory_width, directory_pages, level_pages, levels_pages, index_begin, index_pages, index_pages_before, indexes_pages, id_index_begin, id_index_pages, id_directory_pages, table_begin, table_pages}
 use Rattle.ghost_model.specs.laws.LayoutSums as sums
-use Rattle.ghost_model.specs.laws.LayoutSums.{column_begin, column_pages_before, subtree_begin, subtree_pages, directory_width, directory_pages, level_pages, levels_pages, index_begin, index_pages, index_pages_before, indexes_pages, id_index_begin, id_index_pages, id_directory_pages, table_begin, table_pages}
 use Rattle.ghost_model.specs.laws.LayoutLaws.{AreNarrow, LieAsSummed, LieInOrder}
-use Rattle.ghost_model.specs.forms.Flash.{GoesWith, HoldsColumns, HoldsSubtrees, HoldsLists, HoldsIndex, HoldsFiles, hidden_cells, subtree_record, ids, directory_records, list_records, value_lists, id_lists}
-use Rattle.ghost_model.specs.laws.FlashLaws.{HoldingsAreKept}
+use Rattle.ghost_model.specs.forms.Flash.{HoldsColumns, HoldsSubtrees, HoldsLists, HoldsIndex, HoldsFiles, hidden_cells, subtree_record, ids, directory_records, list_records, value_lists, id_lists}
+use Rattle.ghost_model.specs.laws.FlashLaws.{GoesWith, HoldingsAreKept}
 use Rattle.ghost_model.proofs.RunLemmas.{run_kept}
 use Rattle.ghost_model.proofs.LayoutLemmas.Numbers.{some_per_page}
 use Rattle.ghost_model.proofs.LayoutLemmas.Places.{table_there, column_there, lie_as_summed}

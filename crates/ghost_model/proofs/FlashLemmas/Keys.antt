@@ -7,13 +7,14 @@ use Rattle.std.proofs.lemmas.Option.{slice_get-map}
 use Rattle.ghost_model.specs.core.Schema.{Schema, Table, Column, columns_of, columns_or_none, column_at, parent, places_from, first_of, references_to, is_table}
 use Rattle.ghost_model.specs.core.Values.{Value, Row, Rows, Database}
 use Rattle.ghost_model.specs.laws.SchemaTrees.{IsTree}
-use Rattle.ghost_model.specs.core.Database.{IsDatabase, rows_or_none, rows_of, value_at_row, identifier_in, reference_column, points_to, leads_within, leads}
+use Rattle.ghost_model.specs.core.Database.{IsDatabase, rows_of, value_at_row, identifier_in, reference_column, points_to, leads_within, leads}
+use Rattle.ghost_model.specs.laws.ShortWords.{rows_or_none}
 use Rattle.ghost_model.specs.core.Split.{Hidden, value_at, hidden_of}
 use Rattle.ghost_model.specs.laws.SplitByFlags.{merged, hidden_flags, rejoined_rows, rejoined_tables, hidden_values}
 use Rattle.ghost_model.proofs.MeaningLemmas.PartsByFlags.{hidden_rows_at, rejoined_parts}
 use Rattle.ghost_model.specs.core.Replies.{hidden_places, hidden_value}
 use Rattle.ghost_model.specs.forms.Layout.{is_hidden}
-use Rattle.ghost_model.specs.forms.Flash.{zeros, zero_rows, hidden_database, leads_to}
+use Rattle.ghost_model.specs.forms.Flash.{zeros, hidden_database, leads_to}
 use Rattle.ghost_model.proofs.LayoutLemmas.Columns.{hidden_or_none}
 use Rattle.ghost_model.proofs.MeaningLemmas.OneRow.{child_is}
 use Rattle.ghost_model.proofs.MeaningLemmas.Leading.{told_place}
@@ -64,15 +65,15 @@ row_known columns few place h kept =
 
 rows_known : (columns : List Column) → length columns ≤ 24 → (place : ℕ) → hidden_or_none (slice_get columns (suc place)) ≡ true
     → (identifier : ℕ) (rows : Rows) (k : ℕ)
-    → option_and_then (λ row. slice_get row (suc place)) (slice_get (rejoined_rows identifier columns (zero_rows rows) rows) k)
+    → option_and_then (λ row. slice_get row (suc place)) (slice_get (rejoined_rows identifier columns (map (λ _. zeros) rows) rows) k)
     ≡ option_and_then (λ row. value_at (places_from (λ (c : Column). c.hidden) 1 (drop 1 columns)) row (suc place)) (slice_get rows k)
 rows_known columns few place h identifier [] k = refl
 rows_known columns few place h identifier (row ∷ rows) zero = row_known columns few place h row
 rows_known columns few place h identifier (row ∷ rows) (suc k) = rows_known columns few place h (identifier + 1) rows k
 
 table_known : (schema : Schema) (tables : List Rows) (table : ℕ) → table < length schema
-    → rows_or_none (slice_get (rejoined_tables schema (map zero_rows tables) tables) table)
-    ≡ rejoined_rows 1 (columns_of schema table) (zero_rows (rows_or_none (slice_get tables table))) (rows_or_none (slice_get tables table))
+    → rows_or_none (slice_get (rejoined_tables schema (map (map (λ _. zeros)) tables) tables) table)
+    ≡ rejoined_rows 1 (columns_of schema table) (map (λ _. zeros) (rows_or_none (slice_get tables table))) (rows_or_none (slice_get tables table))
 table_known [] tables table there = absurd (omega (arith, there))
 table_known (declared ∷ schema) [] table there = refl
 table_known (declared ∷ schema) (rows ∷ tables) zero there = refl
@@ -86,7 +87,7 @@ field_known schema hidden tree table identifier zero h =
 field_known schema hidden tree table zero (suc place) h = refl
 field_known schema hidden tree table (suc k) (suc place) h =
     ap (λ (database : Database). option_and_then (λ row. slice_get row (suc place)) (slice_get (rows_or_none (slice_get database table)) k))
-    (rejoined_parts schema (record { visible = map zero_rows hidden.hidden }) hidden)
+    (rejoined_parts schema (record { visible = map (map (λ _. zeros)) hidden.hidden }) hidden)
     ∙ ap (λ rows. option_and_then (λ row. slice_get row (suc place)) (slice_get rows k)) (table_known schema hidden.hidden table (table_there schema table (suc place) h))
     ∙ rows_known (columns_of schema table) (tree.few_columns table) place h 1 (rows_or_none (slice_get hidden.hidden table)) k
 

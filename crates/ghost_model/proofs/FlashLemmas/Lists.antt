@@ -19,9 +19,7 @@ use Rattle.ghost_model.specs.core.Values.{Row, Database}
 use Rattle.ghost_model.specs.core.Channel.{Catalog}
 use Rattle.ghost_model.specs.laws.SchemaTrees.{IsTree}
 use Rattle.ghost_model.specs.core.Database.{IsDatabase, rows_of, row_of, row_counts}
-use Rattle.ghost_model.specs.laws.MeaningLaws.{IsAtOrBelow}
-use Rattle.ghost_model.specs.laws.MeaningLaws.{Lands}
-use Rattle.ghost_model.specs.laws.MeaningLaws.{LeadsFollowKeys}
+use Rattle.ghost_model.specs.laws.MeaningLaws.{IsAtOrBelow, Lands, LeadsFollowKeys}
 use Rattle.ghost_model.specs.core.Split.{hidden_of}
 use Rattle.ghost_model.specs.forms.Layout.{is_hidden, count_of}
 use Rattle.ghost_model.specs.forms.Flash.{hidden_cells, ids, cell_led_to, leads_to, value_lists, id_lists, AreValues}

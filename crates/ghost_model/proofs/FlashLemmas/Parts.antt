@@ -5,11 +5,12 @@ use Rattle.std.proofs.lemmas.Option.{slice_get-map}
 use Rattle.ghost_model.specs.core.Schema.{Column, columns_of, columns_or_none}
 use Rattle.ghost_model.specs.core.Values.{Row, Rows, Database}
 use Rattle.ghost_model.specs.core.Channel.{Catalog}
-use Rattle.ghost_model.specs.core.Database.{IsDatabase, is_of_kind, rows_or_none, rows_of, row_counts}
+use Rattle.ghost_model.specs.core.Database.{IsDatabase, is_of_kind, rows_of, row_counts}
+use Rattle.ghost_model.specs.laws.ShortWords.{rows_or_none}
 use Rattle.ghost_model.specs.core.Split.{hidden_of, kind_of_column, are_of_kinds}
 use Rattle.ghost_model.specs.laws.SplitByFlags.{hidden_flags, hidden_values, rows_by}
 use Rattle.ghost_model.proofs.MeaningLemmas.PartsByFlags.{hidden_parts}
-use Rattle.ghost_model.specs.forms.Flash.{hidden_kinds, GoesWith}
+use Rattle.ghost_model.specs.laws.FlashLaws.{hidden_kinds, GoesWith}
 use Rattle.ghost_model.proofs.MeaningLemmas.PublicPart.{AreOfKinds, row_without, rows_in_tables, counts_of_tables, mapped_row}
 
 kinds_of_hidden : (columns : List Column) (values : Row) → length values ≡ length columns → AreOfKinds columns values

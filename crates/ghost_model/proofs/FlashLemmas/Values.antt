@@ -10,7 +10,8 @@ use Rattle.ghost_model.specs.core.Schema.{Schema, Column, Kind, columns_of, colu
 use Rattle.ghost_model.specs.core.Values.{Value, Row, Rows, Database}
 use Rattle.ghost_model.specs.core.Channel.{Catalog}
 use Rattle.ghost_model.specs.laws.SchemaTrees.{IsTree, identifier}
-use Rattle.ghost_model.specs.core.Database.{IsDatabase, is_of_kind, rows_or_none, rows_of}
+use Rattle.ghost_model.specs.core.Database.{IsDatabase, is_of_kind, rows_of}
+use Rattle.ghost_model.specs.laws.ShortWords.{rows_or_none}
 use Rattle.ghost_model.specs.forms.Cells.{cell_width, encode_cell}
 use Rattle.ghost_model.specs.readings.CellReading.{decode_cell}
 use Rattle.ghost_model.specs.core.Asks.{kind_or_none, kind_at}
@@ -19,8 +20,8 @@ use Rattle.ghost_model.specs.laws.SplitByFlags.{hidden_flags, hidden_values}
 use Rattle.ghost_model.proofs.MeaningLemmas.PartsByFlags.{hidden_rows_at}
 use Rattle.ghost_model.specs.core.Replies.{hidden_places}
 use Rattle.ghost_model.specs.forms.Layout.{below, is_hidden, count_of}
-use Rattle.ghost_model.specs.forms.Flash.{hidden_rows, GoesWith, hidden_cell, hidden_cells}
-use Rattle.ghost_model.specs.laws.FlashLaws.{hidden_before, CellsFit}
+use Rattle.ghost_model.specs.forms.Flash.{hidden_rows, hidden_cell, hidden_cells}
+use Rattle.ghost_model.specs.laws.FlashLaws.{GoesWith, hidden_before, CellsFit}
 use Rattle.ghost_model.proofs.LayoutLemmas.Columns.{hidden_or_none, width_or_none}
 use Rattle.ghost_model.proofs.ChannelLemmas.Asks.{cell_is_read, cell_length}
 use Rattle.ghost_model.proofs.MeaningLemmas.Leading.{get_within}

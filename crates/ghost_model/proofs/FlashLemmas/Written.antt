@@ -16,10 +16,11 @@ use Rattle.std.proofs.lemmas.List.Sums.{sum_by-cons, sum_by-append}
 use Rattle.ghost_model.specs.core.Channel.{Catalog}
 use Rattle.ghost_model.specs.core.Split.{Hidden}
 use Rattle.ghost_model.specs.forms.Runs.{pages_of}
-use Rattle.ghost_model.specs.forms.Layout.{below, is_hidden, hidden_columns, width_at, column_count, count_of, levels_of, above_of, descendants_of, Structure, ColumnFile, SubtreeTable, ClimbingIndex, IdIndex, structures_of, structures, level_files, files_pages, tables_of, column_pages, columns_pages}
+use Rattle.ghost_model.specs.forms.Layout.{below, is_hidden, hidden_columns, width_at, count_of, levels_of, above_of, descendants_of, Structure, ColumnFile, SubtreeTable, ClimbingIndex, IdIndex, structures, level_files, files_pages, tables_of}
+use Rattle.ghost_model.specs.laws.ShortWords.{structures_of, column_count}
+use Rattle.ghost_model.specs.laws.LayoutSums.{column_pages, columns_pages, directory_width, levels_pages, subtree_pages, subtree_width, id_index_pages}
 use Rattle.ghost_model.specs.forms.Flash.{hidden_cells, AreValues}
 use Rattle.ghost_model.specs.forms.Work.{value_count, written_of, file_pages}
-use Rattle.ghost_model.specs.laws.LayoutSums.{directory_width, levels_pages, subtree_pages, subtree_width, id_index_pages}
 use Rattle.ghost_model.specs.laws.WorkLaws.{index_written, indexes_written, table_written, PagesAddUp, ValuesAreCounted}
 use Rattle.ghost_model.proofs.LayoutLemmas.Following as follow
 use Rattle.ghost_model.proofs.LayoutLemmas.Following.{levels_are, one_file, some_width, id_pages}

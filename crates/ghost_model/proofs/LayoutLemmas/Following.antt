@@ -6,8 +6,9 @@ use Rattle.std.proofs.lemmas.List.Sums.{sum_by-cons}
 use Rattle.ghost_model.specs.core.Schema.{is_empty}
 use Rattle.ghost_model.specs.core.Channel.{Catalog}
 use Rattle.ghost_model.specs.forms.Runs.{pages_of, per_page}
-use Rattle.ghost_model.specs.forms.Layout.{below, is_hidden, hidden_columns, width_at, column_count, levels_of, above_of, descendants_of, count_of, Structure, ColumnFile, SubtreeTable, ClimbingIndex, IdIndex, structures_of, structures, level_files, files_pages, structure_pages, column_pages, public_pages, static_end, spool_pages, half_pages, spool_area, has_spool, visible_columns, spool_areas, spool_end, scratch_areas, need}
-use Rattle.ghost_model.specs.laws.LayoutSums.{level_pages, levels_pages, directory_width, directory_pages, index_pages, subtree_width, table_pages, table_begin, column_begin, subtree_begin, indexes_begin, index_begin, id_index_begin}
+use Rattle.ghost_model.specs.forms.Layout.{below, is_hidden, hidden_columns, width_at, levels_of, above_of, descendants_of, count_of, Structure, ColumnFile, SubtreeTable, ClimbingIndex, IdIndex, structures, level_files, files_pages, structure_pages, public_pages, static_end, spool_pages, half_pages, spool_area, visible_columns, spool_end, need}
+use Rattle.ghost_model.specs.laws.ShortWords.{has_spool, spool_areas, scratch_areas, structures_of, column_count}
+use Rattle.ghost_model.specs.laws.LayoutSums.{column_pages, level_pages, levels_pages, directory_width, directory_pages, index_pages, subtree_width, table_pages, table_begin, column_begin, subtree_begin, indexes_begin, index_begin, id_index_begin}
 use Rattle.ghost_model.specs.laws.LayoutLaws.{LieFrom, Follow, block_room}
 
 -- the sum over one number more

@@ -8,8 +8,9 @@ use Rattle.std.proofs.lemmas.Bool.{cases_lt}
 use Rattle.ghost_model.specs.core.Schema.{is_visible}
 use Rattle.ghost_model.specs.core.Channel.{Catalog}
 use Rattle.ghost_model.specs.forms.Runs.{run_pages, run_end}
-use Rattle.ghost_model.specs.forms.Layout.{below, is_hidden, is_below, width_at, column_count, column_pages, column_file, first_page, files_end, public_pages, spool_pages}
-use Rattle.ghost_model.specs.laws.LayoutSums.{column_begin, index_pages, table_pages, table_begin, subtree_begin}
+use Rattle.ghost_model.specs.forms.Layout.{below, is_hidden, is_below, width_at, first_page, files_end, public_pages, spool_pages}
+use Rattle.ghost_model.specs.laws.ShortWords.{column_count, column_file}
+use Rattle.ghost_model.specs.laws.LayoutSums.{column_pages, column_begin, index_pages, table_pages, table_begin, subtree_begin}
 use Rattle.ghost_model.specs.laws.LayoutLaws.{LieInOrder}
 use Rattle.ghost_model.proofs.LayoutLemmas.Following.{sum_below}
 use Rattle.ghost_model.proofs.LayoutLemmas.Places.{table_there, column_there, lie_as_summed, end_is}

@@ -11,7 +11,8 @@ use Rattle.std.proofs.Math.Seq.{take-length}
 use Rattle.ghost_model.specs.core.Schema.{Schema, columns_or_none, columns_of}
 use Rattle.ghost_model.specs.core.Channel.{Catalog}
 use Rattle.ghost_model.specs.forms.Runs.{Run, run_pages}
-use Rattle.ghost_model.specs.forms.Layout.{below, is_hidden, hidden_columns, column_count, levels_of, above_of, count_of, Structure, ColumnFile, SubtreeTable, ClimbingIndex, IdIndex, is_same, structures_of, structures, level_files, files_of, files_pages, structure_pages, public_pages, first_page, run_of, static_files, files_end, static_end, half_pages, spool_areas, spool_end}
+use Rattle.ghost_model.specs.forms.Layout.{below, is_hidden, hidden_columns, levels_of, above_of, count_of, Structure, ColumnFile, SubtreeTable, ClimbingIndex, IdIndex, is_same, structures, level_files, files_of, files_pages, structure_pages, public_pages, first_page, run_of, files_end, static_end, half_pages, spool_end}
+use Rattle.ghost_model.specs.laws.ShortWords.{static_files, spool_areas, structures_of, column_count}
 use Rattle.ghost_model.specs.laws.LayoutSums.{levels_pages, directory_width, id_directory_width, directory_pages, id_directory_pages, index_begin, id_index_begin, table_begin}
 use Rattle.ghost_model.specs.laws.LayoutSums as sums
 use Rattle.ghost_model.specs.laws.LayoutLaws.{LieFrom, Follow, block_room, FollowOneAnother, LieAsSummed}
@@ -226,7 +227,7 @@ module _ (cat : Catalog) where
       omega (arith, place, header)
 
   level_is : (table column level : ℕ) → is_hidden cat.schema table column ≡ true → level < length (levels_of cat.schema table)
-      → run_of cat (ClimbingIndex table column) (2 + level) ≡ sums.index_level cat table column level
+      → run_of cat (ClimbingIndex table column) (2 + level) ≡ sums.summed_index_level cat table column level
   level_is table column level h low =
       let directory : ℕ × ℕ = (count_of cat table, directory_width cat.schema table column) in
       let levels = level_files cat (levels_of cat.schema table) in
@@ -240,7 +241,7 @@ module _ (cat : Catalog) where
       ∙ runs_same (omega (arith, place, header, next, before)) (ap (λ file. file.0) at) (ap (λ file. file.1) at)
 
   id_level_is : (table level : ℕ) → table < length cat.schema → level < length (above_of cat.schema table)
-      → run_of cat (IdIndex table) (1 + level) ≡ sums.id_level cat table level
+      → run_of cat (IdIndex table) (1 + level) ≡ sums.summed_id_level cat table level
   id_level_is table level there low =
       let directory : ℕ × ℕ = (count_of cat table, id_directory_width cat.schema table) in
       let levels = level_files cat (above_of cat.schema table) in

@@ -10,6 +10,7 @@ use Rattle.ghost_model.specs.laws.SchemaTrees.{IsTree}
 use Rattle.ghost_model.specs.refusals.LoadFaults.{most_rows}
 use Rattle.ghost_model.specs.forms.Cells.{cell_width}
 use Rattle.ghost_model.specs.forms.Runs.{pages_of}
+use Rattle.ghost_model.specs.laws.ShortWords as short
 use Rattle.ghost_model.specs.forms.Layout
 use Rattle.ghost_model.specs.laws.LayoutSums
 use Rattle.ghost_model.specs.laws.LayoutLaws.{IsLimited, AreNarrow, AreFew}
@@ -74,7 +75,7 @@ module _ (cat : Catalog) (tree : IsTree cat.schema) where
 
   narrow_spool : (table : ℕ) → Layout.spool_width cat.schema table ≤ 1540
   narrow_spool table =
-      let few = length_filtered (is_visible cat.schema table) (Layout.column_count cat.schema table) in
+      let few = length_filtered (is_visible cat.schema table) (short.column_count cat.schema table) in
       let columns = tree.few_columns table in
       let cells = sum_by-le (Layout.width_at cat.schema table) 64 (Layout.visible_columns cat.schema table)
       (λ k d low. most table (slice_index_or (Layout.visible_columns cat.schema table) k d)) in
@@ -132,14 +133,14 @@ module _ (cat : Catalog) (limited : IsLimited cat) where
   pages : (table width : ℕ) → 0 < width → width ≤ 2048 → pages_of (Layout.count_of cat table) width ≤ 1000000
   pages table width some fit = let few = pages_few (Layout.count_of cat table) width some fit in let count = rows table in omega (arith, few, count)
 
-  column_few : (table column : ℕ) → Layout.column_pages cat table column ≤ 1000000
+  column_few : (table column : ℕ) → LayoutSums.column_pages cat table column ≤ 1000000
   column_few table column =
       when (Layout.is_hidden cat.schema table column) _ 1000000
       (λ h. let wide = narrow.most table column in pages table (Layout.width_at cat.schema table column) (narrow.least table column h) (omega (arith, wide)))
 
   columns_before : (table column : ℕ) → column ≤ 24 → LayoutSums.column_pages_before cat table column ≤ 24000000
   columns_before table upto low =
-      let all = sum_few (Layout.column_pages cat table) 1000000 (column_few table) (Layout.below upto) in
+      let all = sum_few (LayoutSums.column_pages cat table) 1000000 (column_few table) (Layout.below upto) in
       let size = length-range_with_len 0 upto in
       omega (arith, all, size, low)
 
@@ -183,9 +184,9 @@ module _ (cat : Catalog) (limited : IsLimited cat) where
 
   table_few : (table : ℕ) → LayoutSums.table_pages cat table ≤ 50586224
   table_few table =
-      let first = columns_before table (Layout.column_count cat.schema table) (narrow.columns table) in
+      let first = columns_before table (short.column_count cat.schema table) (narrow.columns table) in
       let second = subtree table in
-      let third = indexes_before table (Layout.column_count cat.schema table) (narrow.columns table) in
+      let third = indexes_before table (short.column_count cat.schema table) (narrow.columns table) in
       let fourth = id_index table in
       omega (arith, first, second, third, fourth)
 
@@ -227,13 +228,13 @@ module _ (cat : Catalog) (limited : IsLimited cat) where
     largest = largest;
     column = column_few;
     columns_before = columns_before;
-    columns = λ table. columns_before table (Layout.column_count cat.schema table) (narrow.columns table);
+    columns = λ table. columns_before table (short.column_count cat.schema table) (narrow.columns table);
     subtree = subtree;
     level = level;
     levels = levels;
     index = index_few;
     indexes_before = indexes_before;
-    indexes = λ table. indexes_before table (Layout.column_count cat.schema table) (narrow.columns table);
+    indexes = λ table. indexes_before table (short.column_count cat.schema table) (narrow.columns table);
     id_index = id_index;
     table = table_few;
     table_begin = table_begin;

@@ -7,7 +7,8 @@ use Rattle.ghost_model.specs.core.Query.{Query, Field, Condition, Compare, Join}
 use Rattle.ghost_model.specs.core.Query as query
 use Rattle.ghost_model.specs.core.Database.{rows_of, row_of, row_count, value_at_row}
 use Rattle.ghost_model.specs.core.Meaning as meaning
-use Rattle.ghost_model.specs.core.Meaning.{Pick, pick, compares, no_value, others_of, all_of}
+use Rattle.ghost_model.specs.core.Meaning.{Pick, pick, compares, no_value, all_of}
+use Rattle.ghost_model.specs.laws.ShortWords.{others_of}
 
 -- a row of a table
 pub record Chosen : Type 0 where

@@ -6,8 +6,7 @@ use Rattle.ghost_model.specs.core.Schema.{Schema, Column, Table, columns_of, col
 use Rattle.ghost_model.specs.core.Values.{Value, Number, Text, Row, Rows, Database}
 use Rattle.ghost_model.specs.laws.SchemaTrees.{IsTree}
 use Rattle.ghost_model.specs.core.Database.{IsDatabase, rows_of, row_of, row_numbered, value_at_row, is_row_among, identifier_in, reference_column, points_to, leads_within, leads}
-use Rattle.ghost_model.specs.laws.MeaningLaws.{Lands}
-use Rattle.ghost_model.specs.laws.MeaningLaws.{LeadsFollowKeys}
+use Rattle.ghost_model.specs.laws.MeaningLaws.{Lands, LeadsFollowKeys}
 use Rattle.ghost_model.proofs.MeaningLemmas.OneRow.{Among, among-filter, length-without, LeadsUp, leads_once, leads_on, both_true, not_equal, child_is}
 use Rattle.ghost_model.proofs.SchemaRuleLemmas.{parent_below}
 use Rattle.std.proofs.Math.Nat.{eq-or-lt_of_le}

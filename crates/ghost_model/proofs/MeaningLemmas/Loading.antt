@@ -10,7 +10,9 @@ use Rattle.ghost_model.specs.refusals.Tokens.{number_of}
 use Rattle.ghost_model.specs.core.Database.{IsDatabase, row_of, rows_of, row_count, value_at_row, fits_integer, is_text, is_of_kind, is_row_among, is_numeral, signed_within, integer_of, value_of_field, row_spelled, records_of, database_of}
 use Rattle.ghost_model.specs.laws.SchemaTrees.{IsTree, identifier}
 use Rattle.ghost_model.specs.refusals.LoadFaults
-use Rattle.ghost_model.specs.refusals.LoadFaults.{IsFirst, LoadFault, FileLimit, Header, RowLimit, FieldCount, BadId, BadInt, BadChars, BadReference, Place, unless, value_faults, field_faults, is_number, id_faults, fields_faults, row_faults, rows_faults, is_header, record_faults, file_faults, files_faults, reference_fault_in, row_reference_faults, table_references, references_from, load_faults, most_rows, most_bytes}
+use Rattle.ghost_model.specs.refusals.LoadFaults.{LoadFault, FileLimit, Header, RowLimit, FieldCount, BadId, BadInt, BadChars, BadReference, Place, unless, value_faults, field_faults, is_number, fields_faults, row_faults, rows_faults, is_header, record_faults, file_faults, files_faults, reference_fault_in, row_reference_faults, table_references, references_from, load_faults, most_rows, most_bytes}
+use Rattle.ghost_model.specs.laws.ShortWords.{id_faults}
+use Rattle.ghost_model.specs.laws.LoadLaws.{IsFirst}
 
 -- two lists that make none
 pub both_empty : {X : Type 0} (xs ys : List X) → xs ++ ys ≡ [] → (xs ≡ []) × (ys ≡ [])

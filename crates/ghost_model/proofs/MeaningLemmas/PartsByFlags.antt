@@ -6,8 +6,9 @@ use Rattle.std.specs.Option.{option_or, some_prefix}
 use Rattle.std.proofs.lemmas.Bool.Decides.{nat_tests}
 use Rattle.ghost_model.specs.core.Schema.{Schema, Column, columns_of, places_from}
 use Rattle.ghost_model.specs.core.Values.{Value, Number, Row, Rows, Database}
-use Rattle.ghost_model.specs.core.Database.{rows_or_none, rows_of}
-use Rattle.ghost_model.specs.core.Split.{Public, Hidden, is_open, is_closed, part_of, table_parts, public_of, hidden_of, value_at, rejoined_row, rejoined_table, rejoined}
+use Rattle.ghost_model.specs.core.Database.{rows_of}
+use Rattle.ghost_model.specs.laws.ShortWords.{rows_or_none, rejoined_table}
+use Rattle.ghost_model.specs.core.Split.{Public, Hidden, is_open, is_closed, part_of, table_parts, public_of, hidden_of, value_at, rejoined_row, rejoined}
 use Rattle.ghost_model.specs.laws.SplitByFlags.{hidden_flags, visible_values, hidden_values, rows_by, tables_by, merged, rejoined_rows, rejoined_tables}
 
 -- the values beside columns that pass a test

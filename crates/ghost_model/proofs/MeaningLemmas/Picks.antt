@@ -4,7 +4,7 @@ use Rattle.std.specs.List.{range_with_len}
 use Rattle.ghost_model.specs.core.Schema.{Schema}
 use Rattle.ghost_model.specs.core.Values.{Value, Row}
 use Rattle.ghost_model.specs.core.Query.{Query, Field, Condition}
-use Rattle.ghost_model.specs.core.Database.{rows_or_none}
+use Rattle.ghost_model.specs.laws.ShortWords.{rows_or_none}
 use Rattle.ghost_model.specs.core.Split.{Hidden}
 use Rattle.ghost_model.specs.core.Meaning as meaning
 use Rattle.ghost_model.specs.core.Meaning.{Pick, combinations}

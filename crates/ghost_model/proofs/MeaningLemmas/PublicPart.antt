@@ -6,7 +6,8 @@ use Rattle.std.specs.Option.{option_map}
 use Rattle.ghost_model.specs.core.Schema.{Schema, Column, Table, columns_of, columns_or_none}
 use Rattle.ghost_model.specs.core.Values.{Value, Row, Rows, Database}
 use Rattle.ghost_model.specs.core.Channel.{Catalog}
-use Rattle.ghost_model.specs.core.Database.{IsDatabase, is_of_kind, rows_or_none, rows_of, row_counts}
+use Rattle.ghost_model.specs.core.Database.{IsDatabase, is_of_kind, rows_of, row_counts}
+use Rattle.ghost_model.specs.laws.ShortWords.{rows_or_none}
 use Rattle.ghost_model.specs.core.Split.{public_of, is_open, kind_of_column, visible_kinds, are_of_kinds, IsPublic}
 use Rattle.ghost_model.specs.laws.SplitByFlags.{hidden_flags, visible_values, rows_by, tables_by}
 use Rattle.ghost_model.proofs.MeaningLemmas.PartsByFlags.{visible_parts}

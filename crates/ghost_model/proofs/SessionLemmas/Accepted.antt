@@ -8,7 +8,8 @@ use Rattle.ghost_model.specs.core.Schema.{Schema, Column, columns_of, column_at,
 use Rattle.ghost_model.specs.laws.SchemaTrees.{IsTree}
 use Rattle.ghost_model.specs.core.Query.{Query, Field, Condition, Compare, Join, AtMost, AtLeast, is_among, top_of}
 use Rattle.ghost_model.specs.refusals.QueryGrammar.{ColumnText, Bare, Qualified, ConditionText, Compares, LiesBetween, Joins, Selection, All, Columns, QueryText}
-use Rattle.ghost_model.specs.refusals.QueryMeaning.{field, value_of_literal, column_named, table_named, fields_named, fields_of, meanings, conditions_of, selected_fields, resolved, has_repeat, is_reference_to, is_proper, lacks_join, columns_in, Means}
+use Rattle.ghost_model.specs.refusals.QueryMeaning.{field, value_of_literal, table_named, fields_named, fields_of, meanings, conditions_of, selected_fields, resolved, has_repeat, is_reference_to, is_proper, lacks_join, columns_in, Means}
+use Rattle.ghost_model.specs.laws.ShortWords.{column_named}
 use Rattle.ghost_model.proofs.QueryReadingLemmas.{kept_rules}
 use Rattle.ghost_model.proofs.ChannelLemmas.Tests.{false_is_not, BothHold, both_hold}
 use Rattle.ghost_model.proofs.MeaningLemmas.OneRow.{Among, Distinct, from_filter, child_is, either_true, neither_true}

@@ -13,11 +13,12 @@ use Rattle.ghost_model.specs.core.Query.{Query, Field, Condition, Compare, Join,
 use Rattle.ghost_model.specs.core.Query as query
 use Rattle.ghost_model.specs.refusals.QueryMeaning.{Means}
 use Rattle.ghost_model.specs.core.Channel.{Test}
-use Rattle.ghost_model.specs.core.Asks.{test_of, tests_of, is_field}
-use Rattle.ghost_model.specs.core.Database.{rows_or_none, rows_of, row_of, row_count, IsDatabase}
-use Rattle.ghost_model.specs.core.Split.{Hidden, hidden_of, public_of, meets_test}
+use Rattle.ghost_model.specs.core.Asks.{test_of}
+use Rattle.ghost_model.specs.laws.ShortWords.{tests_of, is_field, rows_or_none, others_of, meets_test}
+use Rattle.ghost_model.specs.core.Database.{rows_of, row_of, row_count, IsDatabase}
+use Rattle.ghost_model.specs.core.Split.{Hidden, hidden_of, public_of}
 use Rattle.ghost_model.specs.core.Meaning as meaning
-use Rattle.ghost_model.specs.core.Meaning.{Pick, pick, combinations, compares, no_value, others_of, all_of, answer_by_top, answer}
+use Rattle.ghost_model.specs.core.Meaning.{Pick, pick, combinations, compares, no_value, all_of, answer_by_top, answer}
 use Rattle.ghost_model.proofs.MeaningLemmas.PartsByFlags.{hidden_rows_at}
 use Rattle.ghost_model.specs.core.Replies as replies
 use Rattle.ghost_model.specs.core.Replies.{Reply, known_value, known, answer_from}

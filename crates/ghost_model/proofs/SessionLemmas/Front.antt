@@ -7,7 +7,7 @@ use Rattle.std.proofs.lemmas.List.{length-map}
 use Rattle.ghost_model.specs.core.Channel.{Catalog, Frame, HelloFrame, AskFrame, MoreFrame, ByeFrame, WelcomeFrame, RowsFrame, DoneFrame, SorryFrame}
 use Rattle.ghost_model.specs.core.Asks.{NumberedAsk, ask_payload}
 use Rattle.ghost_model.specs.forms.Frames.{frame_in}
-use Rattle.ghost_model.specs.core.NextMove.{Awaits, AwaitsCatalog, AwaitsReply, AwaitsNothing, Verdict, Lacking, Complete, Invalid, verdict, FrameOutcome, ask_next, of_later_texts, still, turn_of_greeting, turn_of_reply, after_frame, EndedAsk, ended_by_frame, ended_by, Heard, heard_frame, heard_as, hear, hear_all, at_first, heard}
+use Rattle.ghost_model.specs.core.NextMove.{Awaits, AwaitsCatalog, AwaitsReply, AwaitsNothing, Verdict, Lacking, Complete, Invalid, verdict, FrameOutcome, ask_next, of_later_texts, still, turn_of_greeting, turn_of_reply, after_frame, EndedAsk, ended_by, Heard, heard_frame, heard_as, hear, hear_all, at_first, heard}
 use Rattle.ghost_model.specs.core.Lines.{is_refused_by, was_refused}
 use Rattle.ghost_model.proofs.ChannelLemmas.Tests.{false_is_not}
 use Rattle.ghost_model.proofs.ChannelLemmas.Sending.{heard_more}
@@ -108,7 +108,7 @@ module _ (catalog : Catalog) (asks : List NumberedAsk) where
   plain_step : (before : List NumberedAsk) (next : FrameOutcome) (ends : List EndedAsk) → IsNext before next → IsStep before next ends
   plain_step before next ends n = record { unless_refused = λ _. n; count = let same = counted_next before next n in omega (arith, same) }
 
-  reply_step : (one : NumberedAsk) (serial : ℕ) (later : List NumberedAsk) (count last : ℕ) (rows : List ℕ) (frame : Frame) → IsStep later (turn_of_reply catalog.schema one serial later count last frame) (ended_by_frame one rows frame)
+  reply_step : (one : NumberedAsk) (serial : ℕ) (later : List NumberedAsk) (count last : ℕ) (rows : List ℕ) (frame : Frame) → IsStep later (turn_of_reply catalog.schema one serial later count last frame) (ended_by (AwaitsReply one serial later count last) rows frame)
   reply_step one serial later count last rows (RowsFrame _ payload) = plain_step later _ _ (record { accounts = refl })
   reply_step one serial later count last rows (DoneFrame _ _) = plain_step later _ _ (next_asks (serial + 1) later)
   reply_step one serial later count last rows (SorryFrame _ _) =

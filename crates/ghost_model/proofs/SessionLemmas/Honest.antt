@@ -6,7 +6,7 @@ use Rattle.std.proofs.lemmas.Grind.{flat_map-append}
 use Rattle.ghost_model.specs.core.Schema.{is_visible}
 use Rattle.ghost_model.specs.core.Values.{Database}
 use Rattle.ghost_model.specs.core.Query.{Query}
-use Rattle.ghost_model.specs.core.Channel.{Catalog, row_count_in, Ask, Frame, DoneFrame}
+use Rattle.ghost_model.specs.core.Channel.{Catalog, count_of, Ask, Frame, DoneFrame}
 use Rattle.ghost_model.specs.forms.Catalog.{catalog_bytes}
 use Rattle.ghost_model.specs.core.Database.{rows_of, row_counts, IsDatabase}
 use Rattle.ghost_model.specs.forms.Frames.{AreBytes, frame_bytes}
@@ -102,9 +102,9 @@ module _ (catalog : Catalog) (database : Database) (is : IsDatabase catalog.sche
       let reply : IsReply catalog.schema serial one.ask (reply_rows catalog.schema public one.ask) replies.0 = replies.2 in
       let later : AreExchanged (serial + 1) asks replies.1 = exchanged (serial + 1) asks replies.1 both.other (omega (arith, fits)) replies.3 in
       let rows : AreRepliable catalog.schema database is asked one.ask (visible_in one.ask both.one) (few one.ask.table) = repliable catalog.schema database is asked one.ask (visible_in one.ask both.one) (few one.ask.table) in
-      let count : row_count_in catalog one.ask.table ≡ length (rows_of database one.ask.table) = count_is catalog database one.ask.table counts in
+      let count : count_of catalog one.ask.table ≡ length (rows_of database one.ask.table) = count_is catalog database one.ask.table counts in
       let this : Exchange = record { asked = one; groups = reply.packing } in
-      let ascend : rows_fit (row_count_in catalog one.ask.table) 0 (kinds_of catalog.schema one.ask) (rows_of_groups reply.packing) ≡ true =
+      let ascend : rows_fit (count_of catalog one.ask.table) 0 (kinds_of catalog.schema one.ask) (rows_of_groups reply.packing) ≡ true =
       ap (λ (n : ℕ). rows_fit n 0 (kinds_of catalog.schema one.ask) (rows_of_groups reply.packing)) count
       ∙ (ap (λ (rs : List RowCells). rows_fit (length (rows_of database one.ask.table)) 0 (kinds_of catalog.schema one.ask) rs) reply.whole ∙ rows.ascend) in
       let sendable : Each (IsSendable catalog.schema one.ask) (rows_of_groups reply.packing) =

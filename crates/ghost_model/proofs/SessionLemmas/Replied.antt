@@ -12,15 +12,16 @@ use Rattle.std.proofs.Math.Nat.{mul_comm}
 use Rattle.ghost_model.specs.core.Schema.{Schema, Kind, Column, columns_of, column_at, is_shown, is_visible}
 use Rattle.ghost_model.specs.core.Values.{Value, Text, Row, Rows, Database}
 use Rattle.ghost_model.specs.core.Query.{Query}
-use Rattle.ghost_model.specs.core.Channel.{Catalog, row_count_in, Ask}
-use Rattle.ghost_model.specs.core.Database.{is_of_kind, rows_or_none, rows_of, row_counts, IsDatabase}
+use Rattle.ghost_model.specs.core.Channel.{Catalog, count_of, Ask}
+use Rattle.ghost_model.specs.core.Database.{is_of_kind, rows_of, row_counts, IsDatabase}
+use Rattle.ghost_model.specs.laws.ShortWords.{rows_or_none, reply_row}
 use Rattle.ghost_model.specs.forms.Cells.{cell_width, encode_cell}
 use Rattle.ghost_model.specs.readings.CellReading.{decode_cell}
 use Rattle.ghost_model.specs.forms.Frames.{AreBytes, most_payload}
 use Rattle.ghost_model.specs.core.Asks.{RowCells, row_bytes, kind_or_none, kind_at, kinds_of, row_width}
 use Rattle.ghost_model.specs.laws.ChannelLaws.{IsReplyRow}
 use Rattle.ghost_model.specs.core.NextMove.{are_cells, rows_fit, last_identifier}
-use Rattle.ghost_model.specs.core.Split.{cells, are_of_kinds, value_at, asked_value, visible_places, RowValues, replied, meets_tests, replies_from, visible_rows, reply_row, reply_rows, public_of}
+use Rattle.ghost_model.specs.core.Split.{cells, are_of_kinds, value_at, asked_value, visible_places, RowValues, replied, meets_tests, replies_from, visible_rows, reply_rows, public_of}
 use Rattle.ghost_model.proofs.MeaningLemmas.PartsByFlags.{visible_rows_at}
 use Rattle.ghost_model.specs.core.Honest.{fits_frame}
 use Rattle.ghost_model.specs.laws.HostLaws.{AreGroups}
@@ -126,7 +127,7 @@ all_bytes schema ask (row ∷ rows) e = append_bytes (row_bytes row) (flat_map r
 
 pub are_groups :
     (catalog : Catalog) (ask : Ask) (last : ℕ) (packing : List (List RowCells)) → list_all (fits_frame (row_width catalog.schema ask)) packing ≡ true
-    → rows_fit (row_count_in catalog ask.table) last (kinds_of catalog.schema ask) (flat_map (λ group. group) packing) ≡ true
+    → rows_fit (count_of catalog ask.table) last (kinds_of catalog.schema ask) (flat_map (λ group. group) packing) ≡ true
     → Each (IsSendable catalog.schema ask) (flat_map (λ group. group) packing) → AreGroups catalog ask last packing
 are_groups catalog ask last [] fits ascend each = tt
 are_groups catalog ask last (group ∷ packing) fits ascend each =
@@ -134,7 +135,7 @@ are_groups catalog ask last (group ∷ packing) fits ascend each =
     let frame : BothHold (nat_lt 0 (length group)) (nat_le (row_width catalog.schema ask * length group) most_payload) = both_hold _ _ both.one in
     let size : row_width catalog.schema ask * length group ≤ 2040 = leb-true (row_width catalog.schema ask * length group) 2040 frame.other in
     let turned : row_width catalog.schema ask * length group ≡ length group * row_width catalog.schema ask = mul_comm (row_width catalog.schema ask) (length group) in
-    let split = split_fits (row_count_in catalog ask.table) last (kinds_of catalog.schema ask) group (flat_map (λ g. g) packing) ascend in
+    let split = split_fits (count_of catalog ask.table) last (kinds_of catalog.schema ask) group (flat_map (λ g. g) packing) ascend in
     let parts = split_each catalog.schema ask group (flat_map (λ g. g) packing) each in (
       record { some = ltb-true 0 (length group) frame.one; fits = subst (λ (n : ℕ). n ≤ 2040) turned size; ascends = split.front; widths = all_rows catalog.schema ask group parts.front; bytes = all_bytes catalog.schema ask group parts.front },
       are_groups catalog ask (last_identifier last group) packing both.other split.back parts.back,
@@ -145,7 +146,7 @@ count_in [] table = refl
 count_in (rows ∷ database) zero = refl
 count_in (rows ∷ database) (suc table) = count_in database table
 
-pub count_is : (catalog : Catalog) (database : Database) (table : ℕ) → row_counts database ≡ catalog.counts → row_count_in catalog table ≡ length (rows_of database table)
+pub count_is : (catalog : Catalog) (database : Database) (table : ℕ) → row_counts database ≡ catalog.counts → count_of catalog table ≡ length (rows_of database table)
 count_is catalog database table e = ap (λ (counts : List ℕ). slice_index counts table) (sym e) ∙ count_in database table
 
 module _ (schema : Schema) (database : Database) (is : IsDatabase schema database) (asked : Query) (ask : Ask)

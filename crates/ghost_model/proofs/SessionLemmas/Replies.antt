@@ -21,7 +21,8 @@ use Rattle.ghost_model.specs.laws.HostLaws.{Exchange, asked_in, ended_in}
 use Rattle.ghost_model.specs.core.Honest.{AreReplies, asks_sent, IsHonest, IsSetting, IsCatalogOf}
 use Rattle.ghost_model.specs.core.Meaning.{answer}
 use Rattle.ghost_model.specs.core.Replies.{replies, reply_for, answer_from}
-use Rattle.ghost_model.specs.core.Lines.{ended_of, was_refused, all_done}
+use Rattle.ghost_model.specs.core.Lines.{was_refused, all_done}
+use Rattle.ghost_model.specs.laws.ShortWords.{ended_of}
 use Rattle.ghost_model.specs.laws.SessionLaws.{whole_reply, whole_replies}
 use Rattle.ghost_model.proofs.ChannelLemmas.Tests.{false_is_not}
 use Rattle.ghost_model.proofs.ChannelLemmas.Sending.{sent_is_due}

@@ -12,7 +12,8 @@ use Rattle.ghost_model.specs.core.Channel.{Catalog, Frame, HelloFrame, AskFrame,
 use Rattle.ghost_model.specs.core.Asks.{NumberedAsk, asked, asked_from, asked_of, asks_of, asks_of_reading, is_proper_ask}
 use Rattle.ghost_model.specs.forms.Frames.{IsFrame, frame_in}
 use Rattle.ghost_model.specs.core.Moves.{taken}
-use Rattle.ghost_model.specs.core.NextMove.{Awaits, AwaitsCatalog, AwaitsReply, AwaitsNothing, Verdict, Lacking, Complete, Invalid, verdict, FrameOutcome, ask_next, of_later_texts, still, turn_of_greeting, turn_of_reply, after_frame, Heard, heard_as, hear, hear_all, at_first, due}
+use Rattle.ghost_model.specs.core.NextMove.{Awaits, AwaitsCatalog, AwaitsReply, AwaitsNothing, Verdict, Lacking, Complete, Invalid, verdict, FrameOutcome, ask_next, of_later_texts, still, turn_of_greeting, turn_of_reply, after_frame, Heard, heard_as, hear, hear_all, at_first}
+use Rattle.ghost_model.specs.laws.ShortWords.{due}
 use Rattle.ghost_model.specs.laws.ChannelLaws.{IsDue}
 use Rattle.ghost_model.proofs.ChannelLemmas.Tests.{BothHold, both_hold, hold_both}
 use Rattle.ghost_model.proofs.ChannelLemmas.Proper.{asks_are_proper}

@@ -5,16 +5,17 @@ use Rattle.std.specs.Prelude.{nat_le}
 use Rattle.std.specs.List.{list_all}
 use Rattle.std.proofs.lemmas.Bool.{and_parts, leb-true}
 use Rattle.std.proofs.lemmas.List.{length-map}
-use Rattle.ghost_model.specs.core.Schema.{Schema, places_from}
+use Rattle.ghost_model.specs.core.Schema.{Schema, places_from, places_of}
 use Rattle.ghost_model.specs.core.Values.{Rows, Database}
-use Rattle.ghost_model.specs.core.Database.{rows_or_none, row_count, row_counts}
+use Rattle.ghost_model.specs.core.Database.{row_count, row_counts}
+use Rattle.ghost_model.specs.laws.ShortWords.{rows_or_none, is_from}
 use Rattle.ghost_model.specs.refusals.LoadFaults.{most_rows}
 use Rattle.ghost_model.specs.core.Query.{Query}
 use Rattle.ghost_model.specs.readings.QueryReading.{reading}
 use Rattle.ghost_model.specs.core.Channel.{Catalog, Ask}
 use Rattle.ghost_model.specs.forms.Catalog.{IsCatalog, canonical_text, catalog_bytes}
 use Rattle.ghost_model.specs.forms.Frames.{AreBytes}
-use Rattle.ghost_model.specs.core.Asks.{asked, asked_from, asked_of, ask_for, asks_of, asks_of_reading, is_from, is_needed, places}
+use Rattle.ghost_model.specs.core.Asks.{asked, asked_from, asked_of, ask_for, asks_of, asks_of_reading, is_needed}
 use Rattle.ghost_model.specs.laws.ChannelLaws.{AsksAreFew}
 use Rattle.ghost_model.specs.laws.SchemaTrees.{IsTree}
 use Rattle.ghost_model.specs.core.Honest.{IsSetting, IsCatalogOf}
@@ -29,9 +30,9 @@ places_length at (x ∷ xs) = ap suc (places_length (at + 1) xs)
 
 few_of_query : (schema : Schema) (query : Query) → length (asks_of schema query) ≤ length schema
 few_of_query schema query =
-    let a = length-filter_le is_needed (map (ask_for schema query) (filter (is_from query) (places schema))) in
-    let b = length-map (filter (is_from query) (places schema)) (ask_for schema query) in
-    let c = length-filter_le (is_from query) (places schema) in
+    let a = length-filter_le is_needed (map (ask_for schema query) (filter (is_from query) (places_of schema))) in
+    let b = length-map (filter (is_from query) (places_of schema)) (ask_for schema query) in
+    let c = length-filter_le (is_from query) (places_of schema) in
     let d = places_length 0 schema in
     omega (arith, a, b, c, d)
 

@@ -1,5 +1,5 @@
 -- That what this host sends is what an honest host sends.
-use Rattle.std.proofs.Common.{◌≡◌, ℕ, zero, suc, ◌+◌, ◌*◌, ◌/◌, ◌<◌, ◌≤◌, true, false, List, [], ◌∷◌, ◌++◌, length, map, sym, ◌∙◌, ap, subst, refl, arith, append-nil, append_assoc, Option, Some, None}
+use Rattle.std.proofs.Common.{◌≡◌, ℕ, zero, suc, ◌+◌, ◌*◌, ◌/◌, ◌<◌, ◌≤◌, nat_lt, nat_le, ◌&&◌, true, false, List, [], ◌∷◌, ◌++◌, length, map, sym, ◌∙◌, ap, subst, refl, arith, append-nil, append_assoc, Option, Some, None}
 use Rattle.std.specs.Prelude.{flat_map, filter_map, option_to_list, All}
 use Rattle.std.specs.List.{list_any, list_all, concat, cons_option}
 use Rattle.std.proofs.lemmas.Bool.{lt-ltb, le-leb}
@@ -18,7 +18,7 @@ use Rattle.ghost_model.specs.laws.ChannelLaws.{IsDue}
 use Rattle.ghost_model.specs.core.Split.{Public, reply_rows}
 use Rattle.ghost_model.specs.core.Host.{Holding, host_of, host_sends, host_says, frames_of, grouped, most_part, welcomes, reply_to, asks_in_frame}
 use Rattle.ghost_model.specs.laws.HostLaws.{honest_stream, replies_to, IsFront}
-use Rattle.ghost_model.specs.core.Honest.{has_up_to, AreWelcomes, fits_frame, IsReply, AreReplies, asks_in_got, asks_sent, IsHonest, IsSetting}
+use Rattle.ghost_model.specs.core.Honest.{AreWelcomes, fits_frame, IsReply, AreReplies, asks_in_got, asks_sent, IsHonest, IsSetting}
 use Rattle.ghost_model.proofs.ChannelLemmas.{spelled_is_found}
 use Rattle.ghost_model.proofs.ChannelLemmas.Tests.{BothHold, both_hold, hold_both}
 use Rattle.ghost_model.proofs.ChannelLemmas.Asks.{read_ask_is_proper}
@@ -82,13 +82,13 @@ group_fits width group wide some few =
     let whole = div-add-mod most_payload width in
     hold_both _ _ (lt-ltb 0 (length group) some) (le-leb (width * length group) most_payload (omega (arith, product, whole)))
 
-part_fits : (part : List ℕ) → 0 < length part → length part ≤ most_part → has_up_to most_part part ≡ true
+part_fits : (part : List ℕ) → 0 < length part → length part ≤ most_part → (nat_lt 0 (length part) && nat_le (length part) most_part) ≡ true
 part_fits part some few = hold_both _ _ (lt-ltb 0 (length part) some) (le-leb (length part) most_part few)
 
 welcomes_greet : (catalog : Catalog) → AreWelcomes catalog (welcomes catalog)
 welcomes_greet catalog = record {
   parts = grouped most_part (catalog_bytes catalog);
-  cut = groups_pass (has_up_to most_part) most_part (catalog_bytes catalog) (omega arith) part_fits;
+  cut = groups_pass (λ part. nat_lt 0 (length part) && nat_le (length part) most_part) most_part (catalog_bytes catalog) (omega arith) part_fits;
   whole = joined_parts (grouped most_part (catalog_bytes catalog)) ∙ groups_are_joined most_part (catalog_bytes catalog) (omega arith);
   frames_are = refl;
 }

@@ -7,13 +7,14 @@ use Rattle.std.proofs.lemmas.Option.{slice_get-map}
 use Rattle.std.proofs.lemmas.List.Folds.{list_all-append}
 use Rattle.std.proofs.lemmas.Bool.Decides.{nat_tests}
 use Rattle.std.proofs.lemmas.Bool.{eqb-true, lt-ltb}
-use Rattle.ghost_model.specs.core.Schema.{Schema, Column, columns_of, column_at, places_from, is_shown, is_visible, is_empty}
+use Rattle.ghost_model.specs.core.Schema.{Schema, Column, columns_of, column_at, places_from, is_shown, is_visible, is_empty, places_of}
 use Rattle.ghost_model.specs.core.Values.{Value, Row, Rows, Database}
 use Rattle.ghost_model.specs.core.Query.{Query, Field, Condition, Compare, Join}
 use Rattle.ghost_model.specs.core.Channel.{Ask, Test}
-use Rattle.ghost_model.specs.core.Asks.{ask_for, is_needed, is_from, places, test_of, tests_of, is_wanted, is_field}
+use Rattle.ghost_model.specs.core.Asks.{ask_for, is_needed, test_of, is_wanted}
+use Rattle.ghost_model.specs.laws.ShortWords.{tests_of, is_field, is_from, meets_test}
 use Rattle.ghost_model.specs.core.Database.{rows_of, IsDatabase}
-use Rattle.ghost_model.specs.core.Split.{Public, hidden_of, public_of, value_at, visible_places, RowValues, replied, meets_test, meets_tests, replies_from, visible_rows}
+use Rattle.ghost_model.specs.core.Split.{Public, hidden_of, public_of, value_at, visible_places, RowValues, replied, meets_tests, replies_from, visible_rows}
 use Rattle.ghost_model.specs.laws.SplitByFlags.{hidden_flags, visible_values, rows_by}
 use Rattle.ghost_model.proofs.MeaningLemmas.PartsByFlags.{visible_rows_at}
 use Rattle.ghost_model.specs.core.Replies.{Reply, hidden_value, row_replied, reply_about, replied_value, known_value, stands_in}
@@ -22,7 +23,7 @@ use Rattle.ghost_model.proofs.ChannelLemmas.Tests.{false_is_not, BothHold, both_
 use Rattle.ghost_model.proofs.MeaningLemmas.OneRow.{Among, among-filter}
 use Rattle.ghost_model.proofs.SessionLemmas.Values.{hidden_is_known, visible_of_row, row_is_replied, if_met, AllThere, value_asked}
 
--- places of a list
+-- places_of of a list
 place_stands : {X : Type 0} (at place : ℕ) (xs : List X) → place < length xs → Among (at + place) (places_from (λ (x : X). true) at xs)
 unfolding places_from
 place_stands at place [] h = absurd (omega (arith, h))
@@ -201,11 +202,11 @@ module _ (schema : Schema) (database : Database) (is : IsDatabase schema databas
       ∙ (is_some_if (meets_tests (visible_places schema table) (tests_of schema table asked.conditions) (shown_part table row)) (replied (visible_places schema table) (ask_for schema asked table) (suc place) (shown_part table row))
       ∙ tests_met table place row (tests_of schema table asked.conditions) h (visible_tests schema table asked.conditions))
 
-  table_stands : (table place : ℕ) (row : Row) → slice_get (rows_of database table) place ≡ Some row → Among table asked.from → Among table (filter (is_from asked) (places schema))
+  table_stands : (table place : ℕ) (row : Row) → slice_get (rows_of database table) place ≡ Some row → Among table asked.from → Among table (filter (is_from asked) (places_of schema))
   table_stands table place row h among =
       let there : table < length database = rows_there database table place row h in
-      among-filter (is_from asked) table (places schema)
-      (subst (λ (n : ℕ). Among n (places schema)) (omega arith) (place_stands 0 table schema (omega (arith, there, is.tables))))
+      among-filter (is_from asked) table (places_of schema)
+      (subst (λ (n : ℕ). Among n (places_of schema)) (omega arith) (place_stands 0 table schema (omega (arith, there, is.tables))))
       (among_any table asked.from among)
 
   -- a row stands in the reply of its table where the conditions of that table hold in it
@@ -214,10 +215,10 @@ module _ (schema : Schema) (database : Database) (is : IsDatabase schema databas
       → stands_in (suc place) (reply_about table (whole_replies schema public asked)) ≡ stands_by table row
   stands_in_is table place row h among =
       (elim (is_needed (ask_for schema asked table)) as (λ v. is_needed (ask_for schema asked table) ≡ v → stands_in (suc place) (reply_about table (whole_replies schema public asked)) ≡ stands_by table row) [
-        | true ↦ λ e. ap (λ (o : Option Reply). stands_in (suc place) o) (about_needed table (filter (is_from asked) (places schema)) e (table_stands table place row h among)) ∙ stood table place row h
-        | false ↦ λ e. ap (λ (o : Option Reply). stands_in (suc place) o) (about_unneeded table (filter (is_from asked) (places schema)) e)
+        | true ↦ λ e. ap (λ (o : Option Reply). stands_in (suc place) o) (about_needed table (filter (is_from asked) (places_of schema)) e (table_stands table place row h among)) ∙ stood table place row h
+        | false ↦ λ e. ap (λ (o : Option Reply). stands_in (suc place) o) (about_unneeded table (filter (is_from asked) (places_of schema)) e)
             ∙ sym (all_of_none (λ (test : Test). meets_test test (slice_get row test.column)) (tests_of schema table asked.conditions)
-            (no_need (is_empty (filter (is_wanted schema asked.select table) (places (columns_of schema table)))) (is_empty (tests_of schema table asked.conditions)) e))
+            (no_need (is_empty (filter (is_wanted schema asked.select table) (places_of (columns_of schema table)))) (is_empty (tests_of schema table asked.conditions)) e))
       ]) refl
 
   all_there : (table place : ℕ) (row : Row) (columns : List ℕ) → slice_get (rows_of database table) place ≡ Some row → list_all (is_visible schema table) columns ≡ true → AllThere (value_at (visible_places schema table) (shown_part table row)) columns
@@ -237,20 +238,20 @@ module _ (schema : Schema) (database : Database) (is : IsDatabase schema databas
       let ask : Ask = ask_for schema asked table in
       let shown : BothHold (nat_lt 0 column) (is_shown (column_at schema table column)) = both_hold _ _ v in
       let within : column < length (columns_of schema table) = shown_within (columns_of schema table) column shown.other in
-      let wanted : Among column (filter (is_wanted schema asked.select table) (places (columns_of schema table))) =
-      among-filter (is_wanted schema asked.select table) column (places (columns_of schema table))
-      (subst (λ (n : ℕ). Among n (places (columns_of schema table))) (omega arith) (place_stands 0 column (columns_of schema table) within))
+      let wanted : Among column (filter (is_wanted schema asked.select table) (places_of (columns_of schema table))) =
+      among-filter (is_wanted schema asked.select table) column (places_of (columns_of schema table))
+      (subst (λ (n : ℕ). Among n (places_of (columns_of schema table))) (omega arith) (place_stands 0 column (columns_of schema table) within))
       (hold_both _ _ v selected) in
       let needed : is_needed (ask_for schema asked table) ≡ true = some_need column ask.columns (is_empty ask.tests) wanted in
       let met : meets_tests (visible_places schema table) (tests_of schema table asked.conditions) (shown_part table row) ≡ true =
       tests_met table place row (tests_of schema table asked.conditions) h (visible_tests schema table asked.conditions) ∙ stands in
       let given : RowValues → Option Value = λ one. value_at ask.columns one.values column in
       ap (λ (o : Option Reply). option_and_then (λ reply. option_and_then (λ one. value_at reply.ask.columns one.values column) (row_replied (suc place) reply.rows)) o)
-      (about_needed table (filter (is_from asked) (places schema)) needed (table_stands table place row h among))
+      (about_needed table (filter (is_from asked) (places_of schema)) needed (table_stands table place row h among))
       ∙ (ap (λ (o : Option RowValues). option_and_then given o) (row_in_reply table place row h)
       ∙ (ap (λ (b : Bool). option_and_then given (if b then Some (replied (visible_places schema table) ask (suc place) (shown_part table row)) else None)) met
       ∙ (value_asked (value_at (visible_places schema table) (shown_part table row)) ask.columns column
-      (all_there table place row ask.columns h (all_wanted schema asked.select table (places (columns_of schema table)))) wanted
+      (all_there table place row ask.columns h (all_wanted schema asked.select table (places_of (columns_of schema table)))) wanted
       ∙ visible_value table place column row h v)))
 
   -- what the key must have been told to know a visible column of a row

@@ -6,10 +6,10 @@
 use Rattle.std.specs.Prelude.{ℕ, zero, suc, ◌+◌, ◌/◌, Bool, true, not, ◌&&◌, ◌==◌, nat_lt, nat_le, List, [], ◌∷◌, ◌++◌, length, take, drop, map, filter, flat_map, sum, if◌then◌else◌, Option, Some, None, Result, Ok, Err}
 use Rattle.std.specs.List.{list_any, list_all}
 use Rattle.std.specs.Int.{to_be_bytes, from_be_bytes, w32}
-use Rattle.ghost_model.specs.core.Schema.{Schema, Column, Kind, Chars, columns_of, column_at, places_where, is_empty, is_visible}
+use Rattle.ghost_model.specs.core.Schema.{Schema, Column, Kind, Chars, columns_of, column_at, places_of, is_empty, is_visible}
 use Rattle.ghost_model.specs.core.Database.{is_of_kind}
 use Rattle.ghost_model.specs.forms.Cells.{cell_width, encode_cell}
-use Rattle.ghost_model.specs.core.Query.{Query, Field, Condition, Compare, Join, Operator, Equal, Unequal, Less, AtMost, More, AtLeast}
+use Rattle.ghost_model.specs.core.Query.{Query, is_among, Field, Condition, Compare, Join, Operator, Equal, Unequal, Less, AtMost, More, AtLeast}
 use Rattle.ghost_model.specs.readings.QueryReading.{reading}
 use Rattle.ghost_model.specs.core.Channel.{Test, Ask}
 
@@ -20,35 +20,21 @@ test_of schema table (Compare field operator value) =
     then record { column = field.column; operator = operator; value = value } ∷ [] else []
 test_of schema table (Join _ _) = []
 
-abbrev pub tests_of : Schema → (table : ℕ) → List Condition → List Test
-tests_of schema table conditions = flat_map (test_of schema table) conditions
-
-abbrev pub is_field : (table column : ℕ) → Field → Bool
-is_field table column field = field.table == table && field.column == column
-
--- whether a column is selected and visible
 abbrev pub is_wanted : Schema → List Field → (table column : ℕ) → Bool
-is_wanted schema select table column = is_visible schema table column && list_any (is_field table column) select
-
--- all places of a list, ascending
-abbrev pub places : {X : Type 0} → List X → List ℕ
-places xs = places_where (λ _. true) xs
+is_wanted schema select table column = is_visible schema table column && list_any (λ field. field.table == table && field.column == column) select
 
 abbrev pub ask_for : Schema → Query → (table : ℕ) → Ask
 ask_for schema query table = record {
   table = table;
-  columns = filter (is_wanted schema query.select table) (places (columns_of schema table));
-  tests = tests_of schema table query.conditions;
+  columns = filter (is_wanted schema query.select table) (places_of (columns_of schema table));
+  tests = flat_map (test_of schema table) query.conditions;
 }
 
 abbrev pub is_needed : Ask → Bool
 is_needed ask = not (is_empty ask.columns && is_empty ask.tests)
 
-abbrev pub is_from : Query → (table : ℕ) → Bool
-is_from query table = list_any (λ other. other == table) query.from
-
 abbrev pub asks_of : Schema → Query → List Ask
-asks_of schema query = filter is_needed (map (ask_for schema query) (filter (is_from query) (places schema)))
+asks_of schema query = filter is_needed (map (ask_for schema query) (filter (is_among query.from) (places_of schema)))
 
 abbrev pub operator_code : Operator → ℕ
 operator_code Equal = 1
@@ -80,19 +66,14 @@ abbrev pub ascend_from : ℕ → List ℕ → Bool
 ascend_from before [] = true
 ascend_from before (x ∷ xs) = nat_lt before x && ascend_from x xs
 
-abbrev pub most_tests : ℕ
-most_tests = 16
-
--- whether an ask is one that a key may send: its table is there, its columns are visible and ascend, and it has at most
--- 16 conditions, each between a visible column and a value of that column's kind
+-- whether an ask is one that a key may send
 abbrev pub is_proper_ask : Schema → Ask → Bool
 is_proper_ask schema ask =
     nat_lt ask.table (length schema) && list_all (is_visible schema ask.table) ask.columns
-    && ascend_from 0 ask.columns && nat_le (length ask.tests) most_tests
+    && ascend_from 0 ask.columns && nat_le (length ask.tests) 16
     && list_all (λ test. is_visible schema ask.table test.column) ask.tests
     && list_all (λ test. is_of_kind (kind_at schema ask.table test.column) test.value) ask.tests
 
--- the kinds of an ask's columns
 abbrev pub kinds_of : Schema → Ask → List Kind
 kinds_of schema ask = map (kind_at schema ask.table) ask.columns
 
@@ -120,7 +101,6 @@ rows_from width (suc count) bytes = row_in (take width bytes) ∷ rows_from widt
 abbrev pub rows_in : Schema → Ask → List ℕ → List RowCells
 rows_in schema ask payload = rows_from (row_width schema ask) (length payload / row_width schema ask) payload
 
--- an ask and the number of its text
 pub record NumberedAsk : Type 0 where
   pub text : ℕ
   pub ask : Ask
@@ -128,7 +108,6 @@ pub record NumberedAsk : Type 0 where
 abbrev pub asked : (text : ℕ) → Ask → NumberedAsk
 asked text ask = record { text = text; ask = ask }
 
--- the asks of a text that was read or refused
 abbrev pub asks_of_reading : {Refusal : Type 0} → Schema → Result Query Refusal → List Ask
 asks_of_reading schema (Ok query) = asks_of schema query
 asks_of_reading schema (Err _) = []

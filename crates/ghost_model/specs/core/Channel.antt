@@ -13,8 +13,8 @@ pub record Catalog : Type 0 where
   pub version : ℕ
 
 -- the number of rows of a table
-abbrev pub row_count_in : Catalog → (table : ℕ) → ℕ
-row_count_in catalog table = slice_index catalog.counts table
+abbrev pub count_of : Catalog → (table : ℕ) → ℕ
+count_of cat table = slice_index cat.counts table
 
 -- a condition of an ask: a visible column of its table, an operator and a literal
 pub record Test : Type 0 where
@@ -42,8 +42,7 @@ pub data Frame : Type 0 where
 
 -- a move on the channel, by either end
 pub data Move : Type 0 where
-  Dial : (at : List ℕ) → Move
-  Listen : (at : List ℕ) → Move
+  Dial Listen : (at : List ℕ) → Move
   Accept : Move
   Send : (bytes : List ℕ) → Move
   Take : (most : ℕ) → Move
@@ -54,8 +53,7 @@ pub data Answer : Type 0 where
   Made : Answer
   Port : ℕ → Answer
   Piece : List ℕ → Answer
-  End : Answer
-  Failed : Answer
+  End Failed : Answer
 
 pub record Entry : Type 0 where
   pub move : Move

@@ -2,7 +2,7 @@
 -- the identifier, the first value of a row. Each value is of its column's kind, and each foreign key is the
 -- identifier of a row of the table that it names. Files spell a database by their CSV records: those after the first
 -- are the rows, field by field.
-use Rattle.std.specs.Prelude.{◌≡◌, ℕ, zero, suc, ◌-◌, ◌^◌, ℤ, pos, negsuc, neg_ℤ, int_le, Bool, false, ◌&&◌, ◌==◌, nat_le, List, [], ◌∷◌, length, map, drop, Option, Some, None, slice_get, option_and_then, unwrap_or, IsTrue, if◌then◌else◌}
+use Rattle.std.specs.Prelude.{◌≡◌, ℕ, zero, suc, ◌-◌, ◌^◌, ℤ, pos, neg_ℤ, int_le, Bool, false, ◌&&◌, ◌==◌, nat_le, List, [], ◌∷◌, length, map, drop, Option, Some, None, slice_get, option_and_then, unwrap_or, IsTrue, if◌then◌else◌}
 use Rattle.std.specs.List.{list_all, zip}
 use Rattle.std.specs.Cmp.Lexicographic.{slice_cmp}
 use Rattle.std.specs.Ordering.{nat_cmp, int_cmp, is_eq, is_ne, is_lt, is_le, is_gt, is_ge}
@@ -26,12 +26,9 @@ is_of_kind Integer (Number number) = fits_integer number
 is_of_kind (Chars most) (Text bytes) = is_text most bytes
 is_of_kind _ _ = false
 
-abbrev pub rows_or_none : Option Rows → Rows
-rows_or_none found = unwrap_or found []
-
 -- the rows of a table, none where there is no such table
 abbrev pub rows_of : Database → ℕ → Rows
-rows_of database table = rows_or_none (slice_get database table)
+rows_of database table = unwrap_or (slice_get database table) []
 
 abbrev pub row_count : Database → ℕ → ℕ
 row_count database table = length (rows_of database table)
@@ -39,7 +36,6 @@ row_count database table = length (rows_of database table)
 abbrev pub row_counts : Database → List ℕ
 row_counts database = map length database
 
--- the row that has an identifier
 abbrev pub row_numbered : Rows → ℕ → Option Row
 row_numbered rows zero = None
 row_numbered rows (suc place) = slice_get rows place
@@ -47,7 +43,6 @@ row_numbered rows (suc place) = slice_get rows place
 abbrev pub row_of : Database → (table identifier : ℕ) → Option Row
 row_of database table identifier = row_numbered (rows_of database table) identifier
 
--- the value in a column of a row
 abbrev pub value_at_row : Database → (table identifier column : ℕ) → Option Value
 value_at_row database table identifier column =
     option_and_then (λ row. slice_get row column) (row_of database table identifier)
@@ -98,8 +93,7 @@ leads_within (_ ∷ steps) schema database from identifier to =
     option_and_then (λ reached. points_to schema database above reached to)
     (leads_within steps schema database from identifier above)) (parent schema to)
 
--- the identifier of the row of a table, the same or one below, to which a row leads along the foreign keys. No path
--- has more of them than there are tables
+-- the row of a table to which a row leads along the foreign keys; no path has more of them than there are tables
 abbrev pub leads : Schema → Database → (from identifier to : ℕ) → Option ℕ
 leads schema database from identifier to = leads_within schema schema database from identifier to
 
@@ -151,6 +145,5 @@ row_spelled columns fields = map (λ held. value_of_field held.0.kind held.1) (z
 abbrev pub rows_spelled : List Column → List ℕ → Rows
 rows_spelled columns file = map (row_spelled columns) (drop 1 (records_of file))
 
--- the database that files spell, one for each table in order
 abbrev pub database_of : Schema → (files : List (List ℕ)) → Database
 database_of schema files = map (λ held. rows_spelled held.0.columns held.1) (zip schema files)

@@ -15,14 +15,10 @@ use Rattle.ghost_model.specs.core.NextMove.{is_stop}
 use Rattle.ghost_model.specs.core.Split.{Public, reply_rows}
 use Rattle.ghost_model.specs.core.Host.{welcomes_of, rows_frame, most_part, asks_in_frame}
 
--- whether a list has at least one element and at most so many
-abbrev pub has_up_to : {X : Type 0} → (most : ℕ) → List X → Bool
-has_up_to most xs = nat_lt 0 (length xs) && nat_le (length xs) most
-
 -- WELCOME frames that spell the catalog, cut anywhere
 pub record AreWelcomes (catalog : Catalog) (frames : List Frame) : Type 0 where
   pub parts : List (List ℕ)
-  pub cut : list_all (has_up_to most_part) parts ≡ true
+  pub cut : list_all (λ part. nat_lt 0 (length part) && nat_le (length part) most_part) parts ≡ true
   pub whole : concat parts ≡ catalog_bytes catalog
   pub frames_are : frames ≡ welcomes_of parts
 
@@ -48,7 +44,6 @@ abbrev pub asks_in_got : Schema → Got → List Ask
 asks_in_got schema (Found frame) = asks_in_frame schema frame
 asks_in_got schema _ = []
 
--- the asks that a journal sent, in order
 abbrev pub asks_sent : Schema → Journal → List Ask
 asks_sent schema journal = flat_map (λ bytes. asks_in_got schema (got_of bytes)) (sent journal)
 
@@ -62,12 +57,10 @@ pub record IsHonest (catalog : Catalog) (public : Public) (journal : Journal) : 
   pub rest : List ℕ
   pub taken_before : taken journal ++ rest ≡ flat_map frame_bytes (greeting ++ replies)
 
--- the catalog is one that both sides may share, and there are at most 64 texts
 pub record IsSetting (catalog : Catalog) (texts : List (List ℕ)) : Type 0 where
   pub proper : IsCatalog catalog
   pub few : length texts ≤ 64
 
--- the catalog is one that both sides may share, and is that of a database
 pub record IsCatalogOf (catalog : Catalog) (database : Database) : Type 0 where
   pub proper : IsCatalog catalog
   pub is_database : IsDatabase catalog.schema database

@@ -19,7 +19,6 @@ pub record Holding : Type 0 where
   pub catalog : Catalog
   pub rows : Ask → List RowCells
 
--- the host of a public part: it replies with the rows that meet an ask
 abbrev pub host_of : Catalog → Public → Holding
 host_of catalog public = record { catalog = catalog; rows = reply_rows catalog.schema public }
 
@@ -79,40 +78,25 @@ abbrev pub answers_ask : Holding → (serial : ℕ) → Option Ask → Option Re
 answers_ask held serial None = None
 answers_ask held serial (Some ask) = goes_on serial (reply_to held serial ask)
 
-abbrev pub answers_greeting : Holding → Frame → Option Response
-answers_greeting held (HelloFrame _) = Some (record { says = welcomes held.catalog; stand = Listening 1 })
-answers_greeting held _ = None
-
-abbrev pub answers_request : Holding → (next : ℕ) → Frame → Option Response
-answers_request held next (AskFrame serial payload) =
-    if serial == next then answers_ask held serial (ask_in held.catalog.schema payload) else None
-answers_request held next ByeFrame = Some (record { says = []; stand = Over })
-answers_request held next _ = None
-
-abbrev pub answers_more : (serial : ℕ) → (rest : List Frame) → Frame → Option Response
-answers_more serial rest (MoreFrame other) = if other == serial then goes_on serial rest else None
-answers_more serial rest _ = None
-
 -- how a frame is answered; a frame that is no frame of the key in its place is not
 abbrev pub answer_to : Holding → Stand → Frame → Option Response
-answer_to held Greeting frame = answers_greeting held frame
-answer_to held (Listening next) frame = answers_request held next frame
-answer_to held (Replying serial rest) frame = answers_more serial rest frame
-answer_to held Over frame = None
+answer_to held Greeting (HelloFrame _) = Some (record { says = welcomes held.catalog; stand = Listening 1 })
+answer_to held (Listening next) (AskFrame serial payload) =
+    if serial == next then answers_ask held serial (ask_in held.catalog.schema payload) else None
+answer_to held (Listening next) ByeFrame = Some (record { says = []; stand = Over })
+answer_to held (Replying serial rest) (MoreFrame other) = if other == serial then goes_on serial rest else None
+answer_to held _ _ = None
 
--- the ask with this serial is ended by a refusal
 abbrev pub refusal : (serial : ℕ) → Response
 refusal serial = record { says = SorryFrame serial 1 ∷ []; stand = Listening (serial + 1) }
 
--- the answer to a frame of the key in place of this one, where the file cannot be read. A frame that calls for no frame of
--- a reply has no such answer
+-- the answer in place of this one where the file cannot be read, to a frame that calls for a frame of a reply
 abbrev pub unread : Frame → Option Response → Option Response
 unread frame None = None
 unread (AskFrame serial _) (Some answered) = Some (refusal serial)
 unread (MoreFrame serial) (Some answered) = Some (refusal serial)
 unread frame (Some answered) = None
 
--- how a frame of the key is answered, where its answer is refused or not
 abbrev pub answer_as : (refused : Bool) → Holding → Stand → Frame → Option Response
 answer_as false held stand frame = answer_to held stand frame
 answer_as true held stand frame = unread frame (answer_to held stand frame)
@@ -121,18 +105,12 @@ abbrev pub said_with : (Stand → List Frame) → Option Response → List Frame
 said_with later None = []
 said_with later (Some answered) = answered.says ++ later answered.stand
 
--- what a host that stands there says to these frames, where for each of the first of them it is told whether its answer
--- is refused; none of the others is
+-- what a host that stands there says; for each of the first frames it is told whether its answer is refused
 unfoldable pub said_with_refusals : Holding → (refused : List Bool) → List Frame → Stand → List Frame
 said_with_refusals held refused [] stand = []
 said_with_refusals held refused (frame ∷ later) stand =
     said_with (said_with_refusals held (drop 1 refused) later) (answer_as (get_or refused 0 false) held stand frame)
 
--- what a host whose file can be read says
-abbrev pub said_to : Holding → List Frame → Stand → List Frame
-said_to held frames stand = said_with_refusals held [] frames stand
-
--- a frame that was found, and what comes after it; nothing where none was
 abbrev pub frame_and : (Frame → List Frame) → Got → List Frame
 frame_and later (Found frame) = frame ∷ later frame
 frame_and later _ = []
@@ -142,14 +120,12 @@ unfoldable pub frames_within : (most : ℕ) → List ℕ → List Frame
 frames_within zero bytes = []
 frames_within (suc most) bytes = frame_and (λ frame. frames_within most (drop (length (frame_bytes frame)) bytes)) (got_of bytes)
 
--- the frames that bytes are cut into, up to the first that is not whole or breaks a rule. Each has some bytes, so there
--- are not more of them than bytes
+-- the frames that bytes are cut into, up to the first that is not whole or breaks a rule; there are no more than bytes
 abbrev pub frames_of : List ℕ → List Frame
 frames_of bytes = frames_within (length bytes) bytes
 
--- the frames that the host sends for the bytes of a key
 abbrev pub host_says : Holding → (key : List ℕ) → List Frame
-host_says held key = said_to held (frames_of key) Greeting
+host_says held key = said_with_refusals held [] (frames_of key) Greeting
 
 abbrev pub host_sends : Holding → (key : List ℕ) → List ℕ
 host_sends held key = flat_map frame_bytes (host_says held key)
@@ -175,15 +151,11 @@ bad_with_refusals held rest refused (frame ∷ later) at stand =
     (refused_or frame at (bad_with_refusals held rest (drop 1 refused) later (at + length (frame_bytes frame)))
     (answer_as (get_or refused 0 false) held stand frame))
 
-abbrev pub bad_from : Holding → (rest : List ℕ) → List Frame → (at : ℕ) → Stand → Option InvalidFrame
-bad_from held rest frames at stand = bad_with_refusals held rest [] frames at stand
-
 -- the first frame that is no frame of the key in its place, if there is one: its first byte, and the bytes before it
 abbrev pub bad_request : Holding → (key : List ℕ) → Option InvalidFrame
 bad_request held key =
-    bad_from held (drop (length (flat_map frame_bytes (frames_of key))) key) (frames_of key) 0 Greeting
+    bad_with_refusals held (drop (length (flat_map frame_bytes (frames_of key))) key) [] (frames_of key) 0 Greeting
 
--- the ask in a frame of a key, one or none
 abbrev pub asks_in_frame : Schema → Frame → List Ask
 asks_in_frame schema (AskFrame _ payload) = option_to_list (ask_in schema payload)
 asks_in_frame schema _ = []

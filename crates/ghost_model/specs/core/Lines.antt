@@ -17,11 +17,6 @@ use Rattle.ghost_model.specs.core.Split.{Hidden}
 use Rattle.ghost_model.specs.core.Replies.{replies, answer_from}
 use Rattle.ghost_model.specs.core.Printed.{row_line, answer_lines, word_line, refusal_line}
 
--- the asks of a text that were ended, whatever ended them
-abbrev pub ended_of : Catalog → (asks : List NumberedAsk) → Journal → (text : ℕ) → List EndedAsk
-ended_of catalog asks journal text =
-    filter (λ end. end.asked.text == text) (heard catalog asks (taken journal)).ended
-
 abbrev pub is_refused_by : Ending → Bool
 is_refused_by (Answered _) = false
 is_refused_by (Refused _) = true
@@ -30,7 +25,6 @@ is_refused_by (Refused _) = true
 abbrev pub was_refused : List EndedAsk → Bool
 was_refused ends = list_any (λ end. is_refused_by end.ending) ends
 
--- whether all asks of a query were ended by DONE
 abbrev pub all_done : Schema → Query → List EndedAsk → Bool
 all_done schema query ends =
     if was_refused ends then false else length ends == length (asks_of schema query)
@@ -44,23 +38,15 @@ broken_word ends journal =
 
 -- the key's own faults that end a text
 pub data Fault : Type 0 where
-  OnFlash : Fault
-  OnDamage : Fault
+  OnFlash OnDamage : Fault
 
 abbrev pub fault_word : Fault → List ℕ
 fault_word OnFlash = codes "flash"
 fault_word OnDamage = codes "damaged"
 
--- the rows that answer an accepted text from its replies
-abbrev pub rows_from_replies : Catalog → Hidden → (asks : List NumberedAsk) → Journal → (text : ℕ) → Query → List Row
-rows_from_replies catalog kept asks journal text query =
-    answer_from catalog.schema kept query (replies catalog asks journal text)
-
 -- why a text has these lines
 pub data Reason : Type 0 where
-  WasRefused : Reason
-  WasBroken : Reason
-  WasAnswered : Reason
+  WasRefused WasBroken WasAnswered : Reason
   MetFault : Fault → Reason
 
 -- a text with its number, and the session in which it stood: its asks, and the journal by which it went
@@ -72,11 +58,14 @@ pub record SessionText : Type 0 where
   pub number : ℕ
   pub written : List ℕ
 
+-- the asks of a text that were ended, whatever ended them
 abbrev pub ends_for : SessionText → List EndedAsk
-ends_for text = ended_of text.catalog text.asks text.journal text.number
+ends_for text = filter (λ end. end.asked.text == text.number) (heard text.catalog text.asks (taken text.journal)).ended
 
+-- the rows that answer an accepted text from its replies
 abbrev pub rows_for : SessionText → Query → List Row
-rows_for text query = rows_from_replies text.catalog text.kept text.asks text.journal text.number query
+rows_for text query =
+    answer_from text.catalog.schema text.kept query (replies text.catalog text.asks text.journal text.number)
 
 pub record RefusedLines (text : SessionText) (lines : List (List ℕ)) : Type 0 where
   pub refusal : Refusal
@@ -105,14 +94,12 @@ pub record FaultLines (fault : Fault) (text : SessionText) (lines : List (List �
   pub front : rows_for text query ≡ given ++ left
   pub answer : lines ≡ map row_line given ++ word_line text.number (fault_word fault) ∷ []
 
--- the lines of a text for this reason
 abbrev pub AreLinesFor : Reason → SessionText → (lines : List (List ℕ)) → Type 0
 AreLinesFor WasRefused text lines = RefusedLines text lines
 AreLinesFor WasBroken text lines = BrokenLines text lines
 AreLinesFor WasAnswered text lines = AnsweredLines text lines
 AreLinesFor (MetFault fault) text lines = FaultLines fault text lines
 
--- text number `number`, which is `written`, in a session of these texts
 abbrev pub session_text : Catalog → Hidden → (texts : List (List ℕ)) → Journal → (number : ℕ) → (written : List ℕ) → SessionText
 session_text catalog kept texts journal number written = record {
   catalog = catalog;

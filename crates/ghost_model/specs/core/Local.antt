@@ -2,14 +2,9 @@
 -- taken begins what the host sends for the key's bytes. Together with the next move this leaves one journal.
 use Rattle.std.specs.Prelude.{◌≡◌, ℕ, Bool, true, false, ◌==◌, List, ◌++◌, length}
 use Rattle.std.specs.List.{list_all, concat}
-use Rattle.ghost_model.specs.core.Channel.{Move, Dial, Listen, Accept, Send, Take, Close, Answer, Made, Port, Piece, End, Failed, Entry, Journal}
+use Rattle.ghost_model.specs.core.Channel.{Move, Listen, Accept, Take, Answer, Made, Piece, Entry, Journal}
 use Rattle.ghost_model.specs.core.Moves.{taken, sent}
 use Rattle.ghost_model.specs.core.Host.{Holding, host_sends}
-
--- whether an answer is a piece of so many bytes
-abbrev pub is_piece_of : (size : ℕ) → Answer → Bool
-is_piece_of size (Piece bytes) = length bytes == size
-is_piece_of size _ = false
 
 abbrev pub is_made : Answer → Bool
 is_made Made = true
@@ -19,7 +14,8 @@ is_made _ = false
 abbrev pub is_answered_in_full : Move → Answer → Bool
 is_answered_in_full (Listen _) answer = false
 is_answered_in_full Accept answer = false
-is_answered_in_full (Take most) answer = is_piece_of most answer
+is_answered_in_full (Take most) (Piece bytes) = length bytes == most
+is_answered_in_full (Take most) _ = false
 is_answered_in_full _ answer = is_made answer
 
 abbrev pub is_full : Entry → Bool

@@ -5,9 +5,8 @@
 -- have no line.
 use Rattle.std.specs.Prelude.{ℕ, List, [], ◌∷◌, ◌++◌, flat_map, map, codes, decimal}
 use Rattle.hex.specs.Hex.{encode_lower}
-use Rattle.ghost_model.specs.core.Channel.{Move, Dial, Listen, Accept, Send, Take, Close, Answer, Made, Port, Piece, End, Failed, Entry, Journal}
+use Rattle.ghost_model.specs.core.Channel.{Move, Dial, Send, Take, Close, Answer, Made, Port, Piece, End, Failed, Entry, Journal}
 
--- the bytes that an answer gave
 abbrev pub piece_of : Answer → List ℕ
 piece_of (Piece bytes) = bytes
 piece_of _ = []
@@ -17,17 +16,8 @@ abbrev pub sent_by : Move → List (List ℕ)
 sent_by (Send bytes) = bytes ∷ []
 sent_by _ = []
 
-abbrev pub move_of : Entry → Move
-move_of entry = entry.move
-
-abbrev pub answer_of : Entry → Answer
-answer_of entry = entry.answer
-
-abbrev pub moves : Journal → List Move
-moves journal = map move_of journal
-
 abbrev pub answers : Journal → List Answer
-answers journal = map answer_of journal
+answers journal = map (λ entry. entry.answer) journal
 
 -- the pieces joined
 abbrev pub taken : Journal → List ℕ
@@ -47,7 +37,6 @@ answer_text Failed = codes "failed"
 abbrev pub line_end : List ℕ
 line_end = 10 ∷ []
 
--- the line of a move and its answer
 abbrev pub line_of : Move → Answer → List ℕ
 line_of (Dial _) answer = codes "dial " ++ (answer_text answer ++ line_end)
 line_of (Send bytes) answer = codes "send " ++ (encode_lower bytes ++ (codes " " ++ (answer_text answer ++ line_end)))

@@ -10,7 +10,7 @@ use Rattle.std.specs.List.{list_any}
 use Rattle.ghost_model.specs.core.Schema.{Schema, Kind, is_empty}
 use Rattle.ghost_model.specs.forms.Cells.{cell_width}
 use Rattle.ghost_model.specs.readings.CellReading.{decode_cell}
-use Rattle.ghost_model.specs.core.Channel.{Catalog, row_count_in, Ask, Frame, HelloFrame, AskFrame, MoreFrame, ByeFrame, WelcomeFrame, RowsFrame, DoneFrame, SorryFrame, Move, Dial, Send, Take, Close, Answer, End, Failed, Journal}
+use Rattle.ghost_model.specs.core.Channel.{Catalog, count_of, Ask, Frame, HelloFrame, AskFrame, MoreFrame, ByeFrame, WelcomeFrame, RowsFrame, DoneFrame, SorryFrame, Move, Dial, Send, Take, Close, Answer, End, Failed, Journal}
 use Rattle.ghost_model.specs.forms.Catalog.{catalog_bytes}
 use Rattle.ghost_model.specs.forms.Frames.{frame_bytes, frame_in, frame_version, version_in, kind_in, size_in, serial_in, most_payload}
 use Rattle.ghost_model.specs.core.Asks.{NumberedAsk, asked_of, RowCells, ask_payload, kinds_of, row_width, rows_in}
@@ -40,12 +40,6 @@ header_fits catalog (AwaitsReply asked serial later count last) header =
     && reply_size_fits (row_width catalog.schema asked.ask) (kind_in header) (size_in header)
 header_fits catalog AwaitsNothing header = false
 
--- the last WELCOME frame, which alone begins with 1, is the one that ends the catalog
-abbrev pub welcome_fits : (missing : List ℕ) (last : ℕ) (part : List ℕ) → Bool
-welcome_fits missing last part =
-    bytes_eq part (take (length part) missing) && last == (if length part == length missing then 1 else 0)
-
--- whether bytes are cells of these kinds
 abbrev pub are_cells : List Kind → List ℕ → Bool
 are_cells [] bytes = is_empty bytes
 are_cells (kind ∷ kinds) bytes =
@@ -58,19 +52,18 @@ rows_fit rows last kinds (row ∷ later) =
     nat_lt last row.identifier && nat_le row.identifier rows && are_cells kinds row.cells
     && rows_fit rows row.identifier kinds later
 
-abbrev pub rows_of_payload : Catalog → Ask → List ℕ → List RowCells
-rows_of_payload catalog ask payload = rows_in catalog.schema ask payload
-
 -- whether a frame of a reply may come after so many rows, the last with this identifier
 abbrev pub reply_fits : Catalog → Ask → (count last : ℕ) → Frame → Bool
 reply_fits catalog ask count last (RowsFrame _ payload) =
-    rows_fit (row_count_in catalog ask.table) last (kinds_of catalog.schema ask) (rows_of_payload catalog ask payload)
+    rows_fit (count_of catalog ask.table) last (kinds_of catalog.schema ask) (rows_in catalog.schema ask payload)
 reply_fits catalog ask count last (DoneFrame _ total) = total == count
 reply_fits catalog ask count last (SorryFrame _ code) = not (code == 0)
 reply_fits catalog ask count last _ = false
 
+-- the last WELCOME frame, which alone begins with 1, is the one that ends the catalog
 abbrev pub greeting_fits : (missing : List ℕ) → Frame → Bool
-greeting_fits missing (WelcomeFrame last part) = welcome_fits missing last part
+greeting_fits missing (WelcomeFrame last part) =
+    bytes_eq part (take (length part) missing) && last == (if length part == length missing then 1 else 0)
 greeting_fits missing _ = false
 
 -- whether a frame whose header fits may come where this is awaited
@@ -79,12 +72,10 @@ payload_fits catalog (AwaitsCatalog bytes) frame = greeting_fits bytes frame
 payload_fits catalog (AwaitsReply asked serial later count last) frame = reply_fits catalog asked.ask count last frame
 payload_fits catalog AwaitsNothing frame = false
 
--- what the bytes of the frame at hand amount to: its header or payload lacks so many bytes, or it is whole and valid, or
--- it is invalid
+-- what the bytes of the frame at hand amount to: header or payload lacks so many bytes, or all is valid, or it is not
 pub data Verdict : Type 0 where
   Lacking : (missing : ℕ) → Verdict
-  Complete : Verdict
-  Invalid : Verdict
+  Complete Invalid : Verdict
 
 abbrev pub verdict : Catalog → Awaits → List ℕ → Verdict
 verdict catalog awaits part =
@@ -110,7 +101,6 @@ abbrev pub of_later_texts : (text : ℕ) → List NumberedAsk → List NumberedA
 of_later_texts text [] = []
 of_later_texts text (asked ∷ later) = if asked.text == text then of_later_texts text later else asked ∷ later
 
--- the last identifier of some rows
 abbrev pub last_identifier : (last : ℕ) → List RowCells → ℕ
 last_identifier last [] = last
 last_identifier last (row ∷ later) = last_identifier row.identifier later
@@ -156,15 +146,10 @@ abbrev pub rows_after : (rows : List ℕ) → Frame → List ℕ
 rows_after rows (RowsFrame _ payload) = rows ++ payload
 rows_after rows _ = []
 
-abbrev pub ended_by_frame : NumberedAsk → (rows : List ℕ) → Frame → List EndedAsk
-ended_by_frame asked rows (DoneFrame _ _) = ended asked (Answered rows) ∷ []
-ended_by_frame asked rows (SorryFrame _ code) = ended asked (Refused code) ∷ []
-ended_by_frame asked rows _ = []
-
--- the ask, if any, that a valid frame ends
 abbrev pub ended_by : Awaits → (rows : List ℕ) → Frame → List EndedAsk
-ended_by (AwaitsReply asked serial later count last) rows frame = ended_by_frame asked rows frame
-ended_by _ rows frame = []
+ended_by (AwaitsReply asked serial later count last) rows (DoneFrame _ _) = ended asked (Answered rows) ∷ []
+ended_by (AwaitsReply asked serial later count last) rows (SorryFrame _ code) = ended asked (Refused code) ∷ []
+ended_by _ rows _ = []
 
 -- what received bytes amount to: what is awaited, the part of the frame at hand, the valid frames before it, the frames
 -- of the key that they make due, the bytes of the rows of the ask at hand, the asks that were ended, in order, and
@@ -219,10 +204,6 @@ at_first catalog = record {
 
 abbrev pub heard : Catalog → (asks : List NumberedAsk) → (received : List ℕ) → Heard
 heard catalog asks received = hear_all catalog asks (at_first catalog) received
-
--- the frames of the key that received bytes call for
-abbrev pub due : Catalog → (asks : List NumberedAsk) → (received : List ℕ) → List Frame
-due catalog asks received = (heard catalog asks received).due
 
 -- an invalid frame: its first byte, and the number of bytes taken before it
 pub record InvalidFrame : Type 0 where
@@ -285,7 +266,6 @@ move_from catalog at standing =
     else if standing.stopped || standing.heard.broken then Some Close
     else Some (send_or (take_or_close catalog standing.heard standing.heard.awaits) (slice_get standing.heard.due standing.sent))
 
--- the next move of a session with these asks
 abbrev pub next_with : Catalog → (at : List ℕ) → (asks : List NumberedAsk) → Journal → Option Move
 next_with catalog at asks journal = move_from catalog at (standing_after catalog asks journal)
 
@@ -303,7 +283,6 @@ GoesOn catalog at asks before (entry ∷ later) =
 abbrev pub IsProperWith : Catalog → (at : List ℕ) → (asks : List NumberedAsk) → Journal → Type 0
 IsProperWith catalog at asks journal = GoesOn catalog at asks [] journal
 
--- a journal is proper for these texts
 abbrev pub IsProper : Catalog → (at : List ℕ) → (texts : List (List ℕ)) → Journal → Type 0
 IsProper catalog at texts journal = IsProperWith catalog at (asked_of catalog.schema texts) journal
 

@@ -39,7 +39,6 @@ refusal_word NotLinked = codes "unlinked"
 abbrev pub refusal_line : (number : ℕ) → Refusal → List ℕ
 refusal_line number refusal = word_line number (refusal_word refusal)
 
--- the lines of a text that is answered by these rows
 abbrev pub answer_lines : (number : ℕ) → List Row → List (List ℕ)
 answer_lines number rows = map row_line rows ++ count_line number (length rows) ∷ []
 
@@ -60,6 +59,5 @@ lines_from schema database number (text ∷ texts) =
 abbrev pub printed_lines : Schema → (texts : List (List ℕ)) → Database → List (List ℕ)
 printed_lines schema texts database = lines_from schema database 1 texts
 
--- the bytes that the texts print
 abbrev pub printed : Schema → (texts : List (List ℕ)) → Database → List ℕ
 printed schema texts database = concat (printed_lines schema texts database)

@@ -5,41 +5,31 @@ use Rattle.ghost_model.specs.core.Values.{Value}
 use Rattle.std.specs.List.{list_any}
 use Rattle.ghost_model.specs.core.Schema.{Schema, parent}
 
--- a column of a table
 pub record Field : Type 0 where
   pub table : ℕ
   pub column : ℕ
 
 pub data Operator : Type 0 where
-  Equal : Operator
-  Unequal : Operator
-  Less : Operator
-  AtMost : Operator
-  More : Operator
-  AtLeast : Operator
+  Equal Unequal Less AtMost More AtLeast : Operator
 
 -- a condition between a column and a literal, or between two columns
 pub data Condition : Type 0 where
   Compare : Field → Operator → Value → Condition
   Join : Field → Field → Condition
 
--- the FROM tables in the order of the text, the selected columns (those that `*` stands for among them) and the
--- conditions in the order of the text, BETWEEN being two
+-- tables, columns (those that `*` stands for among them) and conditions in the order of the text, BETWEEN being two
 pub record Query : Type 0 where
   pub from : List ℕ
   pub select : List Field
   pub conditions : List Condition
 
--- whether a table is among these
 abbrev pub is_among : List ℕ → ℕ → Bool
 is_among tables table = list_any (λ other. other == table) tables
 
--- whether the table, if there is one, is among these
 abbrev pub is_some_among : List ℕ → Option ℕ → Bool
 is_some_among tables None = false
 is_some_among tables (Some table) = is_among tables table
 
--- the element of a list of one
 abbrev pub only : {X : Type 0} → List X → Option X
 only (x ∷ []) = Some x
 only _ = None

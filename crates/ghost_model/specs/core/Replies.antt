@@ -1,7 +1,7 @@
 -- What a text answers by the replies that came, whoever sent them. The key knows the identifiers and the hidden columns
 -- of all rows, and of each asked table the rows of its reply. So it is the plain meaning from another source: a condition on
 -- a visible column gives way to "the row of each asked table stands in its reply", and a visible value is the replied one.
-use Rattle.std.specs.Prelude.{ℕ, zero, suc, pos, Bool, true, ◌==◌, List, [], ◌∷◌, ◌++◌, length, map, filter_map, take, drop, Option, Some, None, is_some, slice_get, option_and_then, option_to_list, if◌then◌else◌}
+use Rattle.std.specs.Prelude.{ℕ, zero, suc, pos, Bool, true, ◌==◌, List, [], ◌∷◌, ◌++◌, length, map, filter_map, take, drop, Option, Some, None, is_some, slice_get, option_and_then, option_to_list, unwrap_or, if◌then◌else◌}
 use Rattle.ghost_model.specs.core.Schema.{Schema, Kind, columns_of, places_from, is_visible}
 use Rattle.ghost_model.specs.core.Values.{Value, Number, Row}
 use Rattle.ghost_model.specs.core.Query.{Query}
@@ -11,7 +11,7 @@ use Rattle.ghost_model.specs.core.Channel.{Catalog, Ask, Journal}
 use Rattle.ghost_model.specs.core.Asks.{NumberedAsk, RowCells, kinds_of, rows_in}
 use Rattle.ghost_model.specs.core.Moves.{taken}
 use Rattle.ghost_model.specs.core.NextMove.{Ending, Answered, Refused, EndedAsk, heard}
-use Rattle.ghost_model.specs.core.Database.{rows_or_none, row_numbered}
+use Rattle.ghost_model.specs.core.Database.{row_numbered}
 use Rattle.ghost_model.specs.core.Split.{Hidden, RowValues, value_at}
 use Rattle.ghost_model.specs.core.Meaning.{Source, answer_by}
 
@@ -21,7 +21,6 @@ values_in [] bytes = []
 values_in (kind ∷ kinds) bytes =
     option_to_list (decode_cell kind (take (cell_width kind) bytes)) ++ values_in kinds (drop (cell_width kind) bytes)
 
--- the reply to an ask: its rows, each with the values of the asked columns
 pub record Reply : Type 0 where
   pub ask : Ask
   pub rows : List RowValues
@@ -41,7 +40,6 @@ reply_for schema text end = if end.asked.text == text then reply_of schema end.a
 abbrev pub replies : Catalog → (asks : List NumberedAsk) → Journal → (text : ℕ) → List Reply
 replies catalog asks journal text = filter_map (reply_for catalog.schema text) (heard catalog asks (taken journal)).ended
 
--- the reply of a table
 abbrev pub reply_about : (table : ℕ) → List Reply → Option Reply
 reply_about table [] = None
 reply_about table (reply ∷ later) = if reply.ask.table == table then Some reply else reply_about table later
@@ -55,15 +53,13 @@ replied_value given table identifier column =
     option_and_then (λ reply. option_and_then (λ row. value_at reply.ask.columns row.values column) (row_replied identifier reply.rows))
     (reply_about table given)
 
--- the hidden columns of a table by place
 abbrev pub hidden_places : Schema → (table : ℕ) → List ℕ
 hidden_places schema table = places_from (λ column. column.hidden) 1 (drop 1 (columns_of schema table))
 
--- the value of a hidden column of a row
 abbrev pub hidden_value : Schema → Hidden → (table identifier column : ℕ) → Option Value
 hidden_value schema kept table identifier column =
     option_and_then (λ row. value_at (hidden_places schema table) row column)
-    (row_numbered (rows_or_none (slice_get kept.hidden table)) identifier)
+    (row_numbered (unwrap_or (slice_get kept.hidden table) []) identifier)
 
 -- what the key knows of a row: its identifier, a replied value or a hidden one
 abbrev pub known_value : Schema → Hidden → List Reply → (table identifier column : ℕ) → Option Value
@@ -77,16 +73,14 @@ abbrev pub stands_in : (identifier : ℕ) → Option Reply → Bool
 stands_in identifier None = true
 stands_in identifier (Some reply) = is_some (row_replied identifier reply.rows)
 
--- what the key knows: of all rows those are admitted that stand in the reply of their table, where that table was asked for,
--- and by these replies the conditions on visible columns were judged
+-- what the key knows: rows that stand in the reply of their table, if it was asked for, which judged the visible columns
 abbrev pub known : Schema → Hidden → List Reply → Source
 known schema kept given = record {
-  count = λ table. length (rows_or_none (slice_get kept.hidden table));
+  count = λ table. length (unwrap_or (slice_get kept.hidden table) []);
   value = known_value schema kept given;
   admits = λ one. stands_in one.identifier (reply_about one.table given);
   is_judged = λ column. is_visible schema column.table column.column;
 }
 
--- the answer of a query from the hidden part and the replies to its asks
 abbrev pub answer_from : Schema → Hidden → Query → List Reply → List Row
 answer_from schema kept asked given = answer_by (known schema kept given) schema asked

@@ -22,7 +22,6 @@ pub record Table : Type 0 where
 abbrev pub Schema : Type 0
 Schema = List Table
 
--- the columns of a table, none where there is no such table
 abbrev pub columns_or_none : Option Table → List Column
 columns_or_none None = []
 columns_or_none (Some table) = table.columns
@@ -33,7 +32,6 @@ columns_of schema table = columns_or_none (slice_get schema table)
 abbrev pub column_at : Schema → ℕ → ℕ → Option Column
 column_at schema table column = slice_get (columns_of schema table) column
 
--- the kind of a column, where there is one
 abbrev pub column_kind : Schema → (table column : ℕ) → Option Kind
 column_kind schema table column = option_map (λ column. column.kind) (column_at schema table column)
 
@@ -45,7 +43,6 @@ places_from test at (x ∷ xs) = if test x then at ∷ places_from test (at + 1)
 abbrev pub places_where : {X : Type 0} → (X → Bool) → List X → List ℕ
 places_where test xs = places_from test 0 xs
 
--- the place of each element of a list
 abbrev pub places_of : {X : Type 0} → List X → List ℕ
 places_of xs = places_where (λ _. true) xs
 
@@ -66,24 +63,12 @@ is_table table (Some other) = other == table
 abbrev pub references_to : ℕ → Table → List ℕ
 references_to child table = places_where (λ column. is_table child column.child) table.columns
 
--- the tables that hold a foreign key to this table
 abbrev pub holders_of : Schema → ℕ → List ℕ
 holders_of schema child = places_where (λ table. not (is_empty (references_to child table))) schema
 
 -- the table that holds the foreign key to this one; the root has none
 abbrev pub parent : Schema → ℕ → Option ℕ
 parent schema table = first_of (holders_of schema table)
-
--- the places, from `at` on, of the tables whose parent is this one; the last list has one element for each table from `at` on
-unfoldable pub children_from : Schema → (table at : ℕ) → List Table → List ℕ
-children_from schema table at [] = []
-children_from schema table at (_ ∷ later) =
-    if is_table table (parent schema at) then at ∷ children_from schema table (at + 1) later
-    else children_from schema table (at + 1) later
-
--- the tables that a table's foreign keys name, ascending
-abbrev pub children : Schema → ℕ → List ℕ
-children schema table = children_from schema table 0 schema
 
 -- a visible column is one that is neither hidden nor the identifier, which both sides know
 abbrev pub is_shown : Option Column → Bool

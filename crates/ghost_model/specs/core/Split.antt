@@ -2,14 +2,14 @@
 -- keys among them; the identifier stands in neither, since both sides know it. Each part has all rows of each table in
 -- order, so it tells their number. From the public part follow the visible image, which is the host's file, and the
 -- rows that an ask is to be replied with.
-use Rattle.std.specs.Prelude.{◌≡◌, ℕ, ◌+◌, ◌*◌, pos, Bool, true, false, not, ◌==◌, List, [], ◌∷◌, ◌++◌, length, map, drop, filter, flat_map, sum, sum_by, Option, Some, None, slice_get, unwrap_or, IsTrue, if◌then◌else◌}
+use Rattle.std.specs.Prelude.{◌≡◌, ℕ, ◌+◌, pos, Bool, true, false, not, ◌==◌, List, [], ◌∷◌, ◌++◌, length, map, drop, filter, flat_map, Option, Some, None, slice_get, unwrap_or, IsTrue, if◌then◌else◌}
 use Rattle.std.specs.List.{list_all, zip, enumerate_from}
 use Rattle.std.specs.Option.{option_map_or, option_or, some_prefix}
 use Rattle.std.specs.Cmp.Lexicographic.{pointwise}
 use Rattle.ghost_model.specs.core.Schema.{Schema, Table, Column, Kind, columns_of, places_from}
 use Rattle.ghost_model.specs.core.Values.{Value, Number, Text, Row, Rows, Database}
-use Rattle.ghost_model.specs.core.Database.{rows_or_none, row_counts, is_of_kind, holds, IsDatabase}
-use Rattle.ghost_model.specs.forms.Cells.{cell_width, encode_cell}
+use Rattle.ghost_model.specs.core.Database.{is_of_kind, holds}
+use Rattle.ghost_model.specs.forms.Cells.{encode_cell}
 use Rattle.ghost_model.specs.forms.Catalog.{catalog_bytes, IsCatalog}
 use Rattle.ghost_model.specs.core.Channel.{Catalog, Ask, Test}
 use Rattle.ghost_model.specs.core.Asks.{RowCells, kinds_of}
@@ -33,7 +33,6 @@ is_closed column = column.hidden
 abbrev pub part_of : (Column → Bool) → List Column → Row → Row
 part_of test columns row = map (λ held. held.1) (filter (λ held. test held.0) (zip (drop 1 columns) (drop 1 row)))
 
--- the same of each row of each table
 abbrev pub table_parts : (Column → Bool) → Schema → Database → List Rows
 table_parts test schema database = map (λ held. map (part_of test held.0.columns) held.1) (zip schema database)
 
@@ -67,25 +66,19 @@ abbrev pub rejoined_row : List Column → (identifier : ℕ) → (visible kept :
 rejoined_row columns identifier visible kept =
     Number (pos identifier) ∷ some_prefix (map (value_in_part columns visible kept) (column_places (λ _. true) columns))
 
-abbrev pub rejoined_table : List Column → (visible kept : Rows) → Rows
-rejoined_table columns visible kept =
-    map (λ row. rejoined_row columns row.0 row.1.0 row.1.1) (enumerate_from 1 (zip visible kept))
-
--- the database whose two parts these are
 abbrev pub rejoined : Schema → Public → Hidden → Database
 rejoined schema public kept =
-    map (λ table. rejoined_table table.0.columns table.1.0 table.1.1) (zip schema (zip public.visible kept.hidden))
+    map (λ table.
+    map (λ row. rejoined_row table.0.columns row.0 row.1.0 row.1.1) (enumerate_from 1 (zip table.1.0 table.1.1)))
+    (zip schema (zip public.visible kept.hidden))
 
--- the visible rows of a table
 abbrev pub public_rows : Public → (table : ℕ) → Rows
-public_rows public table = rows_or_none (slice_get public.visible table)
-
-abbrev pub meets_test : Test → Option Value → Bool
-meets_test test found = option_map_or (λ value. holds test.operator value test.value) found false
+public_rows public table = unwrap_or (slice_get public.visible table) []
 
 -- whether a visible row meets every condition of an ask
 abbrev pub meets_tests : (places : List ℕ) → List Test → Row → Bool
-meets_tests places tests row = list_all (λ test. meets_test test (value_at places row test.column)) tests
+meets_tests places tests row =
+    list_all (λ test. option_map_or (λ value. holds test.operator value test.value) (value_at places row test.column) false) tests
 
 -- a row of a reply: its identifier and the values of the asked columns
 pub record RowValues : Type 0 where
@@ -119,7 +112,6 @@ kind_of_column column = column.kind
 abbrev pub cells : List Kind → Row → List ℕ
 cells kinds row = flat_map (λ held. encode_cell held.0 held.1) (zip kinds row)
 
--- the kinds of the visible columns
 abbrev pub visible_kinds : Table → List Kind
 visible_kinds table = map kind_of_column (filter is_open (drop 1 table.columns))
 
@@ -131,15 +123,10 @@ cells_of_tables schema visible = flat_map (λ held. flat_map (cells (visible_kin
 abbrev pub image : Catalog → Public → List ℕ
 image cat public = catalog_bytes cat ++ cells_of_tables cat.schema public.visible
 
--- the same row with the cells of its values
-abbrev pub reply_row : Schema → Ask → RowValues → RowCells
-reply_row schema ask row = record { identifier = row.identifier; cells = cells (kinds_of schema ask) row.values }
-
--- the rows of the reply to an ask with their cells
 abbrev pub reply_rows : Schema → Public → Ask → List RowCells
-reply_rows schema public ask = map (reply_row schema ask) (visible_rows schema public ask)
+reply_rows schema public ask =
+    map (λ row. record { identifier = row.identifier; cells = cells (kinds_of schema ask) row.values }) (visible_rows schema public ask)
 
--- whether there is one value of each of these kinds
 abbrev pub are_of_kinds : List Kind → Row → Bool
 are_of_kinds kinds row = pointwise is_of_kind kinds row
 

@@ -1,6 +1,7 @@
 -- Cells and catalogs of the worked databases.
 use Rattle.std.specs.Prelude.{◌≡◌, pos, negsuc, [], ◌∷◌, ◌++◌, codes, length, map, replicate, Some, None}
-use Rattle.ghost_model.specs.core.Schema.{Integer, Chars, parent, children}
+use Rattle.ghost_model.specs.core.Schema.{Integer, Chars, parent}
+use Rattle.ghost_model.specs.laws.SchemaLaws.{children}
 use Rattle.ghost_model.specs.core.Values.{Number, Text}
 use Rattle.ghost_model.specs.forms.Cells.{encode_cell}
 use Rattle.ghost_model.specs.readings.CellReading.{decode_cell}

@@ -8,7 +8,8 @@ use Rattle.ghost_model.specs.core.Channel.{Frame, HelloFrame, AskFrame, MoreFram
 use Rattle.ghost_model.specs.core.Asks.{NumberedAsk, asked, asked_of, asks_of, ask_payload, RowCells}
 use Rattle.ghost_model.specs.readings.AskReading.{ask_in}
 use Rattle.ghost_model.specs.core.Moves.{lines, sent}
-use Rattle.ghost_model.specs.core.NextMove.{IsProper, IsProperWith, IsFinished, InvalidFrame, invalid_frame, heard, due}
+use Rattle.ghost_model.specs.core.NextMove.{IsProper, IsProperWith, IsFinished, InvalidFrame, invalid_frame, heard}
+use Rattle.ghost_model.specs.laws.ShortWords.{due}
 use Rattle.ghost_model.specs.forms.Frames.{frame_bytes, frame_kind, payload_of, Got, got_of, Found, Short, Bad}
 use Rattle.ghost_model.specs.forms.Catalog.{catalog_bytes}
 use Rattle.ghost_model.specs.core.Host.{Holding, host_of, host_says, bad_request}

@@ -3,9 +3,10 @@ use Rattle.std.specs.Prelude.{◌≡◌, ℕ, ◌-◌, ◌==◌, nat_lt, List, [
 use Rattle.std.specs.List.{concat}
 use Rattle.ghost_model.specs.core.Split.{Hidden, hidden_of}
 use Rattle.ghost_model.specs.forms.Runs.{Stores}
-use Rattle.ghost_model.specs.forms.Layout.{levels_of, above_of, column_file}
+use Rattle.ghost_model.specs.forms.Layout.{levels_of, above_of}
+use Rattle.ghost_model.specs.laws.ShortWords.{column_file, catalog_pages}
 use Rattle.ghost_model.specs.forms.Flash.{Holds, catalog_page, hidden_cells, AreValues, value_lists, list_records, directory_records, subtree_record, id_lists, ids}
-use Rattle.ghost_model.specs.forms.Work.{catalog_pages, file_pages, pages_built}
+use Rattle.ghost_model.specs.forms.Work.{file_pages, pages_built}
 use Rattle.ghost_model.specs.examples.Clinic.{clinic_schema, clinic_catalog, note_schema, note_catalog, clinic, notes}
 
 abbrev pub hidden_clinic : Hidden
@@ -150,6 +151,7 @@ pub record HoldingsOfTheClinic : Type 0 where
   pub whole : Holds clinic_page clinic_catalog hidden_clinic
   pub another_catalog : Holds (changed 0 0) clinic_catalog hidden_clinic → ⊥
   pub another_country : Holds (changed 64 0) clinic_catalog hidden_clinic → ⊥
+  pub another_entry_of_an_index : Holds (changed 66 0) clinic_catalog hidden_clinic → ⊥
   pub another_place_of_visits : Holds (changed 69 1) clinic_catalog hidden_clinic → ⊥
   pub another_visit_of_a_doctor : Holds (changed 70 1) clinic_catalog hidden_clinic → ⊥
   pub another_doctor : Holds (changed 81 1) clinic_catalog hidden_clinic → ⊥

@@ -4,7 +4,8 @@ use Rattle.ghost_model.specs.core.Schema.{Table, Integer}
 use Rattle.ghost_model.specs.core.Channel.{Catalog}
 use Rattle.ghost_model.specs.forms.Catalog.{catalog_bytes}
 use Rattle.ghost_model.specs.forms.Runs.{Run, run_pages}
-use Rattle.ghost_model.specs.forms.Layout.{levels_of, descendants_of, hidden_columns, column_file, subtree_table, index_header, index_directory, index_level, id_directory, id_level, ColumnFile, SubtreeTable, ClimbingIndex, IdIndex, structures, structure_pages, static_files, files_end, static_end, spool_area, spool_areas, scratch_areas, need}
+use Rattle.ghost_model.specs.forms.Layout.{levels_of, descendants_of, hidden_columns, ColumnFile, SubtreeTable, ClimbingIndex, IdIndex, structures, structure_pages, files_end, static_end, spool_area, need}
+use Rattle.ghost_model.specs.laws.ShortWords.{static_files, spool_areas, scratch_areas, column_file, subtree_table, index_header, index_directory, index_level, id_directory, id_level}
 use Rattle.ghost_model.specs.examples.Clinic.{id_column, number_column, key_column, clinic_schema, clinic_catalog, note_catalog}
 
 abbrev pub page_of_run : Run → ℕ

@@ -2,9 +2,9 @@
 -- the place of each rule that is broken, and which of two broken rules is named.
 use Rattle.std.specs.Prelude.{◌≡◌, ℕ, nat_le, true, false, length, List, [], ◌∷◌, ◌++◌, flat_map, replicate, codes, Ok, Err}
 use Rattle.ghost_model.specs.readings.SchemaReading.{schema_reading}
-use Rattle.ghost_model.specs.refusals.SchemaFaults.{most_schema_bytes, Syntax, Limit, DuplicateName, NoId, UnknownTable, TwoParents, Cycle, NotOneRoot, MeansSchema, IsSchemaFault}
+use Rattle.ghost_model.specs.refusals.SchemaFaults.{most_schema_bytes, BadSyntax, OverLimit, DuplicateName, NoId, UnknownChild, TwoParents, Cycle, NotOneRoot, MeansSchema, IsSchemaFault}
 use Rattle.ghost_model.specs.refusals.Grammar.{IsSyntaxFault}
-use Rattle.ghost_model.specs.refusals.SchemaGrammar.{spelling}
+use Rattle.ghost_model.specs.refusals.SchemaGrammar.{schema_spelling}
 use Rattle.ghost_model.specs.examples.Tokens.{spaces}
 use Rattle.ghost_model.specs.examples.Clinic.{clinic_schema, id_column, text_column, key_column}
 
@@ -49,44 +49,44 @@ pub record RelationsOfSchemas : Type 0 where
   pub no_fault : IsSchemaFault clinic_text (NotOneRoot 1) → ⊥
   pub the_first_fault : IsSchemaFault (codes "CREATE TABLE t (a INT, a INT);") (DuplicateName 0 1)
   pub no_later_fault : IsSchemaFault (codes "CREATE TABLE t (a INT, a INT);") (NoId 0) → ⊥
-  pub a_syntax_fault : IsSyntaxFault spelling (codes "CREATE TABLE t ();") 16
-  pub at_no_other_token : IsSyntaxFault spelling (codes "CREATE TABLE t ();") 15 → ⊥
+  pub a_syntax_fault : IsSyntaxFault schema_spelling (codes "CREATE TABLE t ();") 16
+  pub at_no_other_token : IsSyntaxFault schema_spelling (codes "CREATE TABLE t ();") 15 → ⊥
   pub bytes_within : nat_le (length (spaces 65536)) most_schema_bytes ≡ true
   pub one_byte_over : nat_le (length (spaces 65537)) most_schema_bytes ≡ false
 
 pub record SyntaxFaultsOfSchemas : Type 0 where
-  pub no_column : schema_reading (codes "CREATE TABLE t ();") ≡ Err (Syntax 16)
-  pub the_end : schema_reading (codes "CREATE TABLE t (id INTEGER) ") ≡ Err (Syntax 28)
-  pub white_space_before : schema_reading (codes " \n TABLE t") ≡ Err (Syntax 3)
-  pub a_reserved_word : schema_reading (codes "CREATE TABLE group (id INTEGER);") ≡ Err (Syntax 13)
-  pub digits_before_a_name : schema_reading (codes "CREATE TABLE 1st (id INTEGER);") ≡ Err (Syntax 13)
-  pub a_sign : schema_reading (codes "CREATE TABLE t (c CHAR(-1));") ≡ Err (Syntax 23)
-  pub half_a_key : schema_reading (codes "CREATE TABLE t (id INT PRIMARY, x INT);") ≡ Err (Syntax 30)
-  pub null : schema_reading (with_id (codes "t") (codes " NULL")) ≡ Err (Syntax 39)
-  pub a_key_of_text : schema_reading (codes "CREATE TABLE t (c CHAR(2) PRIMARY KEY);") ≡ Err (Syntax 26)
-  pub a_text_that_refers : schema_reading (codes "CREATE TABLE t (c CHAR(2) REFERENCES u);") ≡ Err (Syntax 26)
-  pub hidden_stands_last : schema_reading (codes "CREATE TABLE t (c INT HIDDEN REFERENCES u);") ≡ Err (Syntax 29)
-  pub references_stands_after : schema_reading (codes "CREATE TABLE t (c INT REFERENCES u PRIMARY KEY);") ≡ Err (Syntax 35)
-  pub not_the_identifier : schema_reading (codes "CREATE TABLE t (c INT REFERENCES u(no));") ≡ Err (Syntax 35)
-  pub a_comma_too_many : schema_reading (codes "CREATE TABLE t (id INT,);") ≡ Err (Syntax 23)
-  pub no_semicolon : schema_reading (codes "CREATE TABLE t (id INT) CREATE") ≡ Err (Syntax 24)
-  pub a_comment : schema_reading (codes "-- t\nCREATE TABLE t (id INT);") ≡ Err (Syntax 0)
-  pub an_open_literal : schema_reading (codes "CREATE TABLE t (id INT 'x);") ≡ Err (Syntax 23)
-  pub before_a_limit : schema_reading (codes "CREATE TABLE t (c CHAR(0)) t") ≡ Err (Syntax 27)
+  pub no_column : schema_reading (codes "CREATE TABLE t ();") ≡ Err (BadSyntax 16)
+  pub the_end : schema_reading (codes "CREATE TABLE t (id INTEGER) ") ≡ Err (BadSyntax 28)
+  pub white_space_before : schema_reading (codes " \n TABLE t") ≡ Err (BadSyntax 3)
+  pub a_reserved_word : schema_reading (codes "CREATE TABLE group (id INTEGER);") ≡ Err (BadSyntax 13)
+  pub digits_before_a_name : schema_reading (codes "CREATE TABLE 1st (id INTEGER);") ≡ Err (BadSyntax 13)
+  pub a_sign : schema_reading (codes "CREATE TABLE t (c CHAR(-1));") ≡ Err (BadSyntax 23)
+  pub half_a_key : schema_reading (codes "CREATE TABLE t (id INT PRIMARY, x INT);") ≡ Err (BadSyntax 30)
+  pub null : schema_reading (with_id (codes "t") (codes " NULL")) ≡ Err (BadSyntax 39)
+  pub a_key_of_text : schema_reading (codes "CREATE TABLE t (c CHAR(2) PRIMARY KEY);") ≡ Err (BadSyntax 26)
+  pub a_text_that_refers : schema_reading (codes "CREATE TABLE t (c CHAR(2) REFERENCES u);") ≡ Err (BadSyntax 26)
+  pub hidden_stands_last : schema_reading (codes "CREATE TABLE t (c INT HIDDEN REFERENCES u);") ≡ Err (BadSyntax 29)
+  pub references_stands_after : schema_reading (codes "CREATE TABLE t (c INT REFERENCES u PRIMARY KEY);") ≡ Err (BadSyntax 35)
+  pub not_the_identifier : schema_reading (codes "CREATE TABLE t (c INT REFERENCES u(no));") ≡ Err (BadSyntax 35)
+  pub a_comma_too_many : schema_reading (codes "CREATE TABLE t (id INT,);") ≡ Err (BadSyntax 23)
+  pub no_semicolon : schema_reading (codes "CREATE TABLE t (id INT) CREATE") ≡ Err (BadSyntax 24)
+  pub a_comment : schema_reading (codes "-- t\nCREATE TABLE t (id INT);") ≡ Err (BadSyntax 0)
+  pub an_open_literal : schema_reading (codes "CREATE TABLE t (id INT 'x);") ≡ Err (BadSyntax 23)
+  pub before_a_limit : schema_reading (codes "CREATE TABLE t (c CHAR(0)) t") ≡ Err (BadSyntax 27)
 
 pub record LimitsOfSchemas : Type 0 where
-  pub thirteen_tables : schema_reading (times 13 (with_id (codes "t") [])) ≡ Err Limit
+  pub thirteen_tables : schema_reading (times 13 (with_id (codes "t") [])) ≡ Err OverLimit
   pub twelve_tables : schema_reading (times 12 (with_id (codes "t") [])) ≡ Err (DuplicateName 1 0)
-  pub twenty_five_columns : schema_reading (with_id (codes "t") (times 24 (codes ",c INT"))) ≡ Err Limit
+  pub twenty_five_columns : schema_reading (with_id (codes "t") (times 24 (codes ",c INT"))) ≡ Err OverLimit
   pub twenty_four_columns : schema_reading (with_id (codes "t") (times 23 (codes ",c INT"))) ≡ Err (DuplicateName 0 2)
-  pub name_of_a_table : schema_reading (with_id (long_name 33) []) ≡ Err Limit
-  pub name_of_a_column : schema_reading (with_id (codes "t") (codes ", " ++ (long_name 33 ++ codes " INT"))) ≡ Err Limit
-  pub name_of_a_text_column : schema_reading (with_id (codes "t") (codes ", " ++ (long_name 33 ++ codes " CHAR(1)"))) ≡ Err Limit
-  pub name_that_is_referred_to : schema_reading (with_id (codes "t") (codes ", c INT REFERENCES " ++ long_name 33)) ≡ Err Limit
-  pub no_character : schema_reading (with_id (codes "t") (codes ", c CHAR(0)")) ≡ Err Limit
-  pub sixty_five_characters : schema_reading (with_id (codes "t") (codes ", c CHAR(65)")) ≡ Err Limit
-  pub very_many_characters : schema_reading (with_id (codes "t") (codes ", c CHAR(18446744073709551617)")) ≡ Err Limit
-  pub before_a_repeated_name : schema_reading (two_tables (codes ", c INT, c INT") (codes ", c CHAR(00)")) ≡ Err Limit
+  pub name_of_a_table : schema_reading (with_id (long_name 33) []) ≡ Err OverLimit
+  pub name_of_a_column : schema_reading (with_id (codes "t") (codes ", " ++ (long_name 33 ++ codes " INT"))) ≡ Err OverLimit
+  pub name_of_a_text_column : schema_reading (with_id (codes "t") (codes ", " ++ (long_name 33 ++ codes " CHAR(1)"))) ≡ Err OverLimit
+  pub name_that_is_referred_to : schema_reading (with_id (codes "t") (codes ", c INT REFERENCES " ++ long_name 33)) ≡ Err OverLimit
+  pub no_character : schema_reading (with_id (codes "t") (codes ", c CHAR(0)")) ≡ Err OverLimit
+  pub sixty_five_characters : schema_reading (with_id (codes "t") (codes ", c CHAR(65)")) ≡ Err OverLimit
+  pub very_many_characters : schema_reading (with_id (codes "t") (codes ", c CHAR(18446744073709551617)")) ≡ Err OverLimit
+  pub before_a_repeated_name : schema_reading (two_tables (codes ", c INT, c INT") (codes ", c CHAR(00)")) ≡ Err OverLimit
 
 pub record NamesOfSchemas : Type 0 where
   pub a_table_twice : schema_reading (times 2 (with_id (codes "t") (codes ", c INT, c INT"))) ≡ Err (DuplicateName 0 2)
@@ -103,16 +103,16 @@ pub record NamesOfSchemas : Type 0 where
   pub a_later_key : schema_reading (two_tables [] (codes ", c INT PRIMARY KEY")) ≡ Err (NoId 1)
   pub before_an_unknown_table :
       schema_reading (two_tables (codes ", c INT REFERENCES nowhere") (codes ", d INT PRIMARY KEY")) ≡ Err (NoId 1)
-  pub an_unknown_table : schema_reading (with_id (codes "t") (codes ", c INT REFERENCES nowhere(id)")) ≡ Err (UnknownTable 0 1)
+  pub an_unknown_table : schema_reading (with_id (codes "t") (codes ", c INT REFERENCES nowhere(id)")) ≡ Err (UnknownChild 0 1)
   pub the_first_unknown_table :
       schema_reading (two_tables [] (codes ", a INT REFERENCES a, c INT REFERENCES d, e INT REFERENCES f"))
-      ≡ Err (UnknownTable 1 2)
-  pub a_column_is_no_table : schema_reading (with_id (codes "t") (codes ", c INT REFERENCES id")) ≡ Err (UnknownTable 0 1)
+      ≡ Err (UnknownChild 1 2)
+  pub a_column_is_no_table : schema_reading (with_id (codes "t") (codes ", c INT REFERENCES id")) ≡ Err (UnknownChild 0 1)
 
 pub record TreesOfSchemas : Type 0 where
   pub before_two_parents :
       schema_reading (two_tables (codes ", c INT REFERENCES b, d INT REFERENCES b") (codes ", c INT REFERENCES d"))
-      ≡ Err (UnknownTable 1 1)
+      ≡ Err (UnknownChild 1 1)
   pub two_parents :
       schema_reading (two_tables (codes ", c INT REFERENCES c") (codes ", c INT REFERENCES c") ++ with_id (codes "c") [])
       ≡ Err (TwoParents 2)

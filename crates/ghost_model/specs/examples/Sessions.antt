@@ -10,7 +10,8 @@ use Rattle.ghost_model.specs.core.Host.{rows_frame, host_of}
 use Rattle.ghost_model.specs.core.Local.{IsServedBy}
 use Rattle.ghost_model.specs.core.Meaning.{answer}
 use Rattle.ghost_model.specs.core.Honest.{IsHonest}
-use Rattle.ghost_model.specs.core.Lines.{AreLines, ended_of, all_done, broken_word, rows_from_replies}
+use Rattle.ghost_model.specs.core.Lines.{AreLines, all_done, broken_word}
+use Rattle.ghost_model.specs.laws.ShortWords.{ended_of, rows_from_replies}
 use Rattle.ghost_model.specs.examples.Clinic.{clinic, clinic_schema, clinic_catalog, number, doctor_row, patient_row, visit_row}
 use Rattle.ghost_model.specs.examples.Channel.{hex, cardio_text, cardio_query, cardio_ask, cardio_test, cardio_journal, late_text, name_text, dialled, sends, takes, welcomed, closed}
 use Rattle.ghost_model.specs.core.Printed.{printed}
@@ -83,18 +84,25 @@ ending_journal =
     ∷ closed
     ∷ []
 
--- a row of the reply has identifier 4, and there are three doctors
-abbrev pub invalid_journal : Journal
-invalid_journal =
+-- a row of the reply has this identifier
+abbrev pub one_row_journal : (identifier : List ℕ) → Journal
+one_row_journal identifier =
     dialled []
     ∷ sends (HelloFrame 1)
     ∷ takes 8 (codes "1101016e00000000")
     ∷ welcomed clinic_catalog
     ∷ sends cardio_ask
     ∷ takes 8 (codes "1201000c00000001")
-    ∷ takes 12 (codes "0000000463617264696f0000")
+    ∷ takes 12 (identifier ++ codes "63617264696f0000")
     ∷ closed
     ∷ []
+
+-- identifier 4, and there are three doctors; and identifier 0
+abbrev pub invalid_journal : Journal
+invalid_journal = one_row_journal (codes "00000004")
+
+abbrev pub zero_journal : Journal
+zero_journal = one_row_journal (codes "00000000")
 
 -- the ask for the cardiologists, and what an honest host says to it
 abbrev pub cardio_wanted : Ask
@@ -130,6 +138,8 @@ pub record BrokenSessions : Type 0 where
   pub ended_is_proper : IsProper clinic_catalog [] cardio_texts ending_journal
   pub invalid : broken_word (ends_by invalid_journal) invalid_journal ≡ codes "protocol"
   pub invalid_is_proper : IsProper clinic_catalog [] cardio_texts invalid_journal
+  pub zero : broken_word (ends_by zero_journal) zero_journal ≡ codes "protocol"
+  pub zero_is_proper : IsProper clinic_catalog [] cardio_texts zero_journal
 
 -- a line by its text, and one of a visit and a specialty
 abbrev pub line : List ℕ → List ℕ

@@ -1,8 +1,9 @@
 -- What slots of the clinic's files may hold, and what they may not, kind by kind.
 use Rattle.std.specs.Prelude.{◌≡◌, Bool, true, false, List, [], ◌∷◌, ◌++◌, codes, ℕ, replicate, Option, Some, None, ◌&&◌, map, get_or, filter, nat_lt}
 use Rattle.std.specs.List.{list_all}
-use Rattle.ghost_model.specs.forms.Layout.{static_files}
-use Rattle.ghost_model.specs.forms.Slots.{File, Cells, Subtrees, IndexHeader, IndexDirectory, IndexLevel, IdDirectory, IdLevel, run_of_file, has_file, may_stand, may_follow, IsDamagedSlot}
+use Rattle.ghost_model.specs.forms.Layout.{File, Cells, Subtrees, IndexHeader, IndexDirectory, IndexLevel, IdDirectory, IdLevel, run_of_file}
+use Rattle.ghost_model.specs.laws.ShortWords.{static_files}
+use Rattle.ghost_model.specs.forms.Slots.{has_file, may_stand, may_follow, IsDamagedSlot}
 use Rattle.ghost_model.specs.examples.Clinic.{clinic_schema, clinic_catalog}
 use Rattle.ghost_model.specs.examples.Flash.{doctor_files, patient_files, visit_files, small, key}
 

@@ -43,7 +43,6 @@ table_text schema table =
 abbrev pub canonical_text : Schema → List ℕ
 canonical_text schema = flat_map (table_text schema) schema
 
--- the version of the format that there is
 abbrev pub catalog_version : ℕ
 catalog_version = 1
 
@@ -60,8 +59,7 @@ catalog_bytes cat =
     catalog_head cat.version cat.generation (length (canonical_text cat.schema))
     ++ (canonical_text cat.schema ++ counts_bytes cat.counts)
 
--- a catalog that both sides may share: its text means its schema, each table has a number of rows of at most a million,
--- its generation is not 0 and has four bytes, and its version is the one that there is
+-- a catalog that both sides may share
 pub record IsCatalog (cat : Catalog) : Type 0 where
   pub meant : MeansSchema (canonical_text cat.schema) cat.schema
   pub counted : length cat.counts ≡ length cat.schema
@@ -70,12 +68,10 @@ pub record IsCatalog (cat : Catalog) : Type 0 where
   pub generation_fits : cat.generation < 2 ^ 32
   pub one_version : cat.version ≡ catalog_version
 
--- bytes that spell a catalog
 pub record SpellsCatalog (bytes : List ℕ) (cat : Catalog) : Type 0 where
   pub proper : IsCatalog cat
   pub spelled : bytes ≡ catalog_bytes cat
 
--- bytes of which a prefix spells a catalog
 pub record BeginsWithCatalog (bytes : List ℕ) (cat : Catalog) : Type 0 where
   pub proper : IsCatalog cat
   pub rest : List ℕ

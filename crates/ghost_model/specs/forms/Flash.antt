@@ -4,23 +4,23 @@
 -- rows that have it and the rows of each table above that lead to such a row; an id index has the same for each
 -- identifier. At one level the lists of all entries stand one after another, and an entry of the directory says where
 -- its own begins and how long it is. The part that each file kind has is a word of its own; `Holds` is all of them.
-use Rattle.std.specs.Prelude.{◌≡◌, ℕ, ◌-◌, ◌*◌, ◌<◌, ◌≤◌, pos, true, false, List, [], ◌∷◌, ◌++◌, length, take, drop, map, filter, flat_map, replicate, get_or, slice_index, Contains, bytes_eq, Option, Some, slice_get, unwrap_or, IsTrue}
+use Rattle.std.specs.Prelude.{◌≡◌, ℕ, ◌-◌, ◌*◌, ◌<◌, ◌≤◌, pos, true, false, List, [], ◌∷◌, ◌++◌, length, take, drop, map, filter, flat_map, replicate, get_or, slice_index, Contains, bytes_eq, Option, slice_get, unwrap_or}
 use Rattle.std.specs.List.Sorted.{IsStrictlySortedBy}
 use Rattle.std.specs.List.{concat, range_with_len}
 use Rattle.std.specs.Option.{option_map_or}
 use Rattle.std.specs.Cmp.Lexicographic.{slice_cmp}
 use Rattle.std.specs.Ordering.{nat_cmp}
-use Rattle.ghost_model.specs.core.Schema.{Schema, Table, Kind, is_empty, is_table}
+use Rattle.ghost_model.specs.core.Schema.{Schema, is_empty, is_table}
 use Rattle.ghost_model.specs.core.Values.{Number, Row, Rows, Database}
 use Rattle.ghost_model.specs.core.Channel.{Catalog}
-use Rattle.ghost_model.specs.core.Database.{IsDatabase, rows_or_none, row_counts, leads}
+use Rattle.ghost_model.specs.core.Database.{IsDatabase, row_counts, leads}
 use Rattle.ghost_model.specs.forms.Cells.{encode_cell}
 use Rattle.ghost_model.specs.forms.Catalog.{catalog_bytes}
 use Rattle.ghost_model.specs.core.Asks.{kind_at}
-use Rattle.ghost_model.specs.core.Split.{Hidden, hidden_of, rejoined, value_at, kind_of_column, are_of_kinds}
+use Rattle.ghost_model.specs.core.Split.{Hidden, hidden_of, rejoined, value_at}
 use Rattle.ghost_model.specs.core.Replies.{hidden_places}
 use Rattle.ghost_model.specs.forms.Runs.{Run, page_bytes, number_cell, Stores}
-use Rattle.ghost_model.specs.forms.Layout.{below, is_hidden, count_of, levels_of, above_of, descendants_of, public_pages, column_file, subtree_table, index_header, index_directory, index_level, id_directory, id_level}
+use Rattle.ghost_model.specs.forms.Layout.{below, is_hidden, count_of, levels_of, above_of, descendants_of, public_pages, Cells, Subtrees, IndexHeader, IndexDirectory, IndexLevel, IdDirectory, IdLevel, run_of_file}
 
 -- The public pages: a page of the catalog's bytes, and 0xFF where there are none.
 abbrev pub catalog_part : Catalog → (place : ℕ) → List ℕ
@@ -34,10 +34,7 @@ HoldsCatalog page cat = (place : ℕ) → place < public_pages → page place �
 
 -- Column files. A row of the hidden part has a value for each hidden column in order.
 abbrev pub hidden_rows : Hidden → (table : ℕ) → Rows
-hidden_rows hidden table = rows_or_none (slice_get hidden.hidden table)
-
-abbrev pub hidden_kinds : Table → List Kind
-hidden_kinds table = map kind_of_column (filter (λ column. column.hidden) (drop 1 table.columns))
+hidden_rows hidden table = unwrap_or (slice_get hidden.hidden table) []
 
 -- the hidden part of a database that a catalog tells of
 pub record IsHidden (cat : Catalog) (hidden : Hidden) : Type 0 where
@@ -45,12 +42,6 @@ pub record IsHidden (cat : Catalog) (hidden : Hidden) : Type 0 where
   pub proper : IsDatabase cat.schema database
   pub counted : row_counts database ≡ cat.counts
   pub part : hidden ≡ hidden_of cat.schema database
-
--- so each table has as many rows as the catalog says, and a row one value for each hidden column, of its kind
-pub record GoesWith (cat : Catalog) (hidden : Hidden) : Type 0 where
-  pub counted : map length hidden.hidden ≡ cat.counts
-  pub kinds : (table place : ℕ) (declared : Table) (row : Row) → slice_get cat.schema table ≡ Some declared
-      → slice_get (hidden_rows hidden table) place ≡ Some row → IsTrue (are_of_kinds (hidden_kinds declared) row)
 
 -- the cell of a hidden column for a row of the hidden part
 abbrev pub hidden_cell : Schema → (table column : ℕ) → Row → List ℕ
@@ -64,18 +55,14 @@ hidden_cells schema hidden table column = map (hidden_cell schema table column) 
 abbrev pub HoldsColumns : (ℕ → List ℕ) → Catalog → Hidden → Type 0
 HoldsColumns page cat hidden =
     (table column : ℕ) → is_hidden cat.schema table column ≡ true
-    → Stores page (column_file cat table column) (hidden_cells cat.schema hidden table column)
+    → Stores page (run_of_file cat (Cells table column)) (hidden_cells cat.schema hidden table column)
 
--- Rows lead to rows along the foreign keys, which are hidden. So the hidden part tells it, whatever the visible values
--- are: here 0 stands for each of them, of which a row has at most 24.
+-- Rows lead to rows along hidden columns, whatever the visible values are: here 0 stands for each, at most 24 in a row.
 abbrev pub zeros : Row
 zeros = replicate 24 (Number (pos 0))
 
-abbrev pub zero_rows : Rows → Rows
-zero_rows rows = map (λ _. zeros) rows
-
 abbrev pub hidden_database : Schema → Hidden → Database
-hidden_database schema hidden = rejoined schema (record { visible = map zero_rows hidden.hidden }) hidden
+hidden_database schema hidden = rejoined schema (record { visible = map (λ rows. map (λ _. zeros) rows) hidden.hidden }) hidden
 
 abbrev pub leads_to : Schema → Hidden → (from identifier to : ℕ) → Option ℕ
 leads_to schema hidden from identifier to = leads schema (hidden_database schema hidden) from identifier to
@@ -92,10 +79,9 @@ subtree_record schema hidden table identifier =
 abbrev pub HoldsSubtrees : (ℕ → List ℕ) → Catalog → Hidden → Type 0
 HoldsSubtrees page cat hidden =
     (table : ℕ) → table < length cat.schema → is_empty (descendants_of cat.schema table) ≡ false
-    → Stores page (subtree_table cat table) (map (subtree_record cat.schema hidden table) (ids (count_of cat table)))
+    → Stores page (run_of_file cat (Subtrees table)) (map (subtree_record cat.schema hidden table) (ids (count_of cat table)))
 
--- Indexes. An index has entries, and at each of its levels a list of identifiers for each entry. The records of a level
--- file: the lists one after another
+-- Indexes: at each level a list of identifiers for each entry. The records of a level file are the lists one after another
 abbrev pub list_records : (lists : List (List ℕ)) → List (List ℕ)
 list_records lists = map number_cell (concat lists)
 
@@ -140,19 +126,14 @@ pub record AreValues (cells values : List (List ℕ)) : Type 0 where
 pub record HoldsIndex (page : ℕ → List ℕ) (cat : Catalog) (hidden : Hidden) (table column : ℕ) : Type 0 where
   pub values : List (List ℕ)
   pub are_values : AreValues (hidden_cells cat.schema hidden table column) values
-  pub header : Stores page (index_header cat table column) (number_cell (length values) ∷ [])
+  pub header : Stores page (run_of_file cat (IndexHeader table column)) (number_cell (length values) ∷ [])
   -- an entry for each value, at most as many as the directory has room for
   pub fits : length values ≤ count_of cat table
   pub entries :
-      HoldsLists page (record (index_directory cat table column) { count = length values }) (index_level cat table column)
+      HoldsLists page (record (run_of_file cat (IndexDirectory table column)) { count = length values }) (λ level. run_of_file cat (IndexLevel table column level))
       values (levels_of cat.schema table) (value_lists cat hidden table column values)
 
-abbrev pub HoldsIndexes : (ℕ → List ℕ) → Catalog → Hidden → Type 0
-HoldsIndexes page cat hidden =
-    (table column : ℕ) → is_hidden cat.schema table column ≡ true → HoldsIndex page cat hidden table column
-
--- Id indexes: indexes over the identifiers themselves, an entry for each, which needs no bytes of its own, and without the
--- level of the table itself. The lists of identifiers at the level of a table: that table's rows which lead to one, ascending
+-- Id indexes: an entry for each identifier. The lists at the level of a table: its rows which lead to one, ascending
 abbrev pub id_lists : Catalog → Hidden → (table from : ℕ) → List (List ℕ)
 id_lists cat hidden table from =
     map (λ identifier.
@@ -162,14 +143,14 @@ id_lists cat hidden table from =
 abbrev pub HoldsIdIndexes : (ℕ → List ℕ) → Catalog → Hidden → Type 0
 HoldsIdIndexes page cat hidden =
     (table : ℕ) → table < length cat.schema → is_empty (above_of cat.schema table) ≡ false
-    → HoldsLists page (id_directory cat table) (id_level cat table) (replicate (count_of cat table) [])
+    → HoldsLists page (run_of_file cat (IdDirectory table)) (λ level. run_of_file cat (IdLevel table level)) (replicate (count_of cat table) [])
     (above_of cat.schema table) (id_lists cat hidden table)
 
 -- the static pages hold the hidden part
 pub record HoldsFiles (page : ℕ → List ℕ) (cat : Catalog) (hidden : Hidden) : Type 0 where
   pub columns : HoldsColumns page cat hidden
   pub subtrees : HoldsSubtrees page cat hidden
-  pub indexes : HoldsIndexes page cat hidden
+  pub indexes : (table column : ℕ) → is_hidden cat.schema table column ≡ true → HoldsIndex page cat hidden table column
   pub id_indexes : HoldsIdIndexes page cat hidden
 
 -- the pages hold the catalog and the hidden part

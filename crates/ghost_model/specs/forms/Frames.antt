@@ -39,7 +39,6 @@ frame_version = 1
 abbrev pub header_bytes : (kind size serial : ℕ) → List ℕ
 header_bytes kind size serial = kind ∷ frame_version ∷ (to_be_bytes w16 size ++ to_be_bytes w32 serial)
 
--- the spelling of a frame
 abbrev pub frame_bytes : Frame → List ℕ
 frame_bytes frame = header_bytes (frame_kind frame) (length (payload_of frame)) (serial_of frame) ++ payload_of frame
 
@@ -57,12 +56,9 @@ size_allowed kind size =
     else if kind == 18 then nat_le 4 size && nat_le size most_payload
     else false
 
--- the kinds whose serial is 0; the other ones belong to an ask and have its serial
-abbrev pub has_no_serial : ℕ → Bool
-has_no_serial kind = kind == 1 || kind == 4 || kind == 17
-
+-- three kinds have the serial 0; the other ones belong to an ask and have its serial
 abbrev pub serial_allowed : (kind serial : ℕ) → Bool
-serial_allowed kind serial = if has_no_serial kind then serial == 0 else not (serial == 0)
+serial_allowed kind serial = if kind == 1 || kind == 4 || kind == 17 then serial == 0 else not (serial == 0)
 
 -- the parts of a header, of bytes that have a whole one
 abbrev pub kind_in : List ℕ → ℕ
@@ -77,7 +73,6 @@ size_in bytes = from_be_bytes w16 (take 2 (drop 2 bytes))
 abbrev pub serial_in : List ℕ → ℕ
 serial_in bytes = from_be_bytes w32 (take 4 (drop 4 bytes))
 
--- the payload that the header names, where it is whole
 abbrev pub payload_in : List ℕ → List ℕ
 payload_in bytes = take (size_in bytes) (drop 8 bytes)
 
@@ -94,27 +89,21 @@ payload_allowed kind payload =
     else if kind == 20 then not (slice_index payload 0 == 0)
     else true
 
--- the number that four bytes spell
-abbrev pub payload_number : List ℕ → ℕ
-payload_number bytes = from_be_bytes w32 (take 4 bytes)
-
--- the frame of a kind, a serial and a payload that may stand together
 abbrev pub frame_of_parts : (kind serial : ℕ) → List ℕ → Frame
 frame_of_parts kind serial payload =
-    if kind == 1 then HelloFrame (payload_number payload)
+    if kind == 1 then HelloFrame (from_be_bytes w32 (take 4 payload))
     else if kind == 2 then AskFrame serial payload
     else if kind == 3 then MoreFrame serial
     else if kind == 4 then ByeFrame
     else if kind == 17 then WelcomeFrame (slice_index payload 0) (drop 1 payload)
     else if kind == 18 then RowsFrame serial payload
-    else if kind == 19 then DoneFrame serial (payload_number payload)
+    else if kind == 19 then DoneFrame serial (from_be_bytes w32 (take 4 payload))
     else SorryFrame serial (slice_index payload 0)
 
 abbrev pub frame_in : List ℕ → Frame
 frame_in bytes = frame_of_parts (kind_in bytes) (serial_in bytes) (payload_in bytes)
 
--- what bytes amount to that begin with a frame: the frame, or how many bytes its header or payload lacks, or that the
--- header or the payload breaks a rule, by the first byte
+-- what bytes amount to: a frame, a part that lacks so many bytes, or one that breaks a rule, by its first byte
 pub data Got : Type 0 where
   Found : Frame → Got
   Short : (missing : ℕ) → Got
@@ -137,8 +126,7 @@ frame_number (HelloFrame generation) = generation
 frame_number (DoneFrame _ total) = total
 frame_number _ = 0
 
--- the parts of a frame fit their fields: its kind may have such a serial and payload, numbers fit four bytes, and the
--- payload is bytes
+-- the parts of a frame fit their fields
 pub record IsFrame (frame : Frame) : Type 0 where
   pub serial : serial_allowed (frame_kind frame) (serial_of frame) ≡ true
   pub size : size_allowed (frame_kind frame) (length (payload_of frame)) ≡ true

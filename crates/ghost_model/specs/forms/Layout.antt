@@ -2,11 +2,12 @@
 -- follow one another in the order of `structures`, each on pages of its own. The static part ends at a block. Then come
 -- the two halves of the spool, in each an area for each table that has a visible column, and then six scratch areas of one
 -- size; each of these areas is of whole blocks. A file or an area is a run: a first page, and so many records of one width.
-use Rattle.std.specs.Prelude.{ℕ, ◌+◌, ◌-◌, ◌*◌, ◌/◌, max, Bool, false, not, ◌&&◌, ◌==◌, List, [], ◌∷◌, ◌++◌, length, take, drop, map, filter, filter_map, flat_map, fold, sum_by, slice_index, get_or, if◌then◌else◌}
+use Rattle.std.specs.Prelude.{ℕ, ◌+◌, ◌-◌, ◌*◌, ◌/◌, max, Bool, false, ◌&&◌, ◌==◌, List, [], ◌∷◌, ◌++◌, length, take, drop, map, filter, filter_map, flat_map, fold, sum_by, get_or, if◌then◌else◌}
 use Rattle.std.specs.List.{list_any, range_with_len, before_first}
 use Rattle.std.specs.Option.{option_map_or}
 use Rattle.ghost_model.specs.core.Schema.{Schema, Column, columns_of, column_at, is_empty, is_visible, ancestor}
 use Rattle.ghost_model.specs.core.Channel.{Catalog}
+pub use Rattle.ghost_model.specs.core.Channel.{count_of}
 use Rattle.ghost_model.specs.forms.Cells.{cell_width}
 use Rattle.ghost_model.specs.forms.Runs.{Run, pages_of, block_pages}
 
@@ -17,18 +18,12 @@ below count = range_with_len 0 count
 abbrev pub tables_of : Schema → List ℕ
 tables_of schema = below (length schema)
 
--- how many columns a table has, its identifier among them
-abbrev pub column_count : Schema → (table : ℕ) → ℕ
-column_count schema table = length (columns_of schema table)
-
 abbrev pub is_hidden : Schema → (table column : ℕ) → Bool
 is_hidden schema table column = option_map_or (λ (held : Column). held.hidden) (column_at schema table column) false
 
--- the hidden columns of a table, by place
 abbrev pub hidden_columns : Schema → (table : ℕ) → List ℕ
-hidden_columns schema table = filter (is_hidden schema table) (below (column_count schema table))
+hidden_columns schema table = filter (is_hidden schema table) (below (length (columns_of schema table)))
 
--- the width of a column's cells
 abbrev pub width_at : Schema → (table column : ℕ) → ℕ
 width_at schema table column = option_map_or (λ (held : Column). cell_width held.kind) (column_at schema table column) 0
 
@@ -36,7 +31,6 @@ width_at schema table column = option_map_or (λ (held : Column). cell_width hel
 abbrev pub levels_of : Schema → (table : ℕ) → List ℕ
 levels_of schema table = filter_map (λ steps. ancestor schema steps table) (below (length schema))
 
--- the tables above a table, nearest first
 abbrev pub above_of : Schema → (table : ℕ) → List ℕ
 above_of schema table = drop 1 (levels_of schema table)
 
@@ -48,38 +42,27 @@ is_below schema table other = list_any (λ above. above == table) (above_of sche
 abbrev pub descendants_of : Schema → (table : ℕ) → List ℕ
 descendants_of schema table = filter (is_below schema table) (tables_of schema)
 
--- the number of rows of a table
-abbrev pub count_of : Catalog → (table : ℕ) → ℕ
-count_of cat table = slice_index cat.counts table
-
--- What stands on the flash for a table: the file of a hidden column, with a cell for each row; the subtree key table, where
--- tables lie below it, with the identifiers in these that each row leads to; the climbing index of a hidden column; and
--- the id index, where a table lies above it. (`structures_of` lists the two last kinds for every table; where no table lies
--- below or above, they have no page.)
+-- What stands on the flash for a table: the cells of a hidden column; where tables lie below it, the identifiers in these
+-- that each row leads to; the climbing index of a hidden column; and, where a table lies above it, the id index.
 pub data Structure : Type 0 where
   ColumnFile : (table column : ℕ) → Structure
   SubtreeTable : (table : ℕ) → Structure
   ClimbingIndex : (table column : ℕ) → Structure
   IdIndex : (table : ℕ) → Structure
 
--- those of a table in their order
-abbrev pub structures_of : Schema → (table : ℕ) → List Structure
-structures_of schema table =
-    map (ColumnFile table) (hidden_columns schema table)
-    ++ (SubtreeTable table ∷ (map (ClimbingIndex table) (hidden_columns schema table) ++ IdIndex table ∷ []))
-
--- all, table by table
 abbrev pub structures : Schema → List Structure
-structures schema = flat_map (structures_of schema) (tables_of schema)
+structures schema =
+    flat_map (λ table.
+    map (ColumnFile table) (hidden_columns schema table)
+    ++ (SubtreeTable table ∷ (map (ClimbingIndex table) (hidden_columns schema table) ++ IdIndex table ∷ []))) (tables_of schema)
 
 -- level files: one for each of some tables, with an identifier for each of its rows
 abbrev pub level_files : Catalog → (tables : List ℕ) → List (ℕ × ℕ)
 level_files cat tables = map (λ table. (count_of cat table, 4)) tables
 
--- The files of a structure in their order, each by the number of its records and their width. An index has a header of one
--- record, a directory with room for a record for each row, and level files for the table itself and those above it, nearest
--- first; a record of the directory has the cell and eight bytes for each level. An id index has no header, no cell, and no
--- level for the table itself. Where no table lies below or above, records have no bytes, and so the file has no page.
+-- The files of a structure, each by the number and width of its records. An index has a header, a directory with room for
+-- a record for each row, which has the cell and eight bytes for each level, and level files, nearest first. An id index has
+-- no header, no cell, and no level for the table itself. Where no table lies below or above, the file has no page.
 abbrev pub files_of : Catalog → Structure → List (ℕ × ℕ)
 files_of cat (ColumnFile table column) = (count_of cat table, width_at cat.schema table column) ∷ []
 files_of cat (SubtreeTable table) = (count_of cat table, 4 * length (descendants_of cat.schema table)) ∷ []
@@ -89,14 +72,12 @@ files_of cat (ClimbingIndex table column) =
 files_of cat (IdIndex table) =
     (count_of cat table, 8 * length (above_of cat.schema table)) ∷ level_files cat (above_of cat.schema table)
 
--- the pages of some files
 abbrev pub files_pages : (files : List (ℕ × ℕ)) → ℕ
 files_pages files = sum_by (λ file. pages_of file.0 file.1) files
 
 abbrev pub structure_pages : Catalog → Structure → ℕ
 structure_pages cat structure = files_pages (files_of cat structure)
 
--- whether two are the same structure
 abbrev pub is_same : Structure → Structure → Bool
 is_same (ColumnFile table column) (ColumnFile other at) = table == other && column == at
 is_same (SubtreeTable table) (SubtreeTable other) = table == other
@@ -120,42 +101,24 @@ run_of cat structure place = record {
   width = (get_or (files_of cat structure) place (0, 0)).1;
 }
 
--- the static files in the order of their pages
-abbrev pub static_files : Catalog → List Run
-static_files cat =
-    flat_map (λ structure. map (run_of cat structure) (below (length (files_of cat structure)))) (structures cat.schema)
+-- The static files by kind. The column is a hidden one, the table of a subtree key table has one below it, that of an id
+-- index one above it; others are no file. Levels are numbered upwards from 0, in an id index from its table's parent.
+pub data File : Type 0 where
+  Cells : (table column : ℕ) → File
+  Subtrees : (table : ℕ) → File
+  IndexHeader IndexDirectory : (table column : ℕ) → File
+  IndexLevel : (table column level : ℕ) → File
+  IdDirectory : (table : ℕ) → File
+  IdLevel : (table level : ℕ) → File
 
--- The files by name. The column is a hidden one, the table of a subtree key table has one below it, that of an id index one
--- above it; other names name no file. Levels are numbered upwards from 0, in an index the table itself, in an id index its
--- parent.
-abbrev pub column_file : Catalog → (table column : ℕ) → Run
-column_file cat table column = run_of cat (ColumnFile table column) 0
-
-abbrev pub subtree_table : Catalog → (table : ℕ) → Run
-subtree_table cat table = run_of cat (SubtreeTable table) 0
-
-abbrev pub index_header : Catalog → (table column : ℕ) → Run
-index_header cat table column = run_of cat (ClimbingIndex table column) 0
-
-abbrev pub index_directory : Catalog → (table column : ℕ) → Run
-index_directory cat table column = run_of cat (ClimbingIndex table column) 1
-
-abbrev pub index_level : Catalog → (table column level : ℕ) → Run
-index_level cat table column level = run_of cat (ClimbingIndex table column) (2 + level)
-
-abbrev pub id_directory : Catalog → (table : ℕ) → Run
-id_directory cat table = run_of cat (IdIndex table) 0
-
-abbrev pub id_level : Catalog → (table level : ℕ) → Run
-id_level cat table level = run_of cat (IdIndex table) (1 + level)
-
--- the pages of the file of a column, none where it is not hidden, and those of the files of a table's columns
-abbrev pub column_pages : Catalog → (table column : ℕ) → ℕ
-column_pages cat table column =
-    if is_hidden cat.schema table column then pages_of (count_of cat table) (width_at cat.schema table column) else 0
-
-abbrev pub columns_pages : Catalog → (table : ℕ) → ℕ
-columns_pages cat table = sum_by (column_pages cat table) (below (column_count cat.schema table))
+abbrev pub run_of_file : Catalog → File → Run
+run_of_file cat (Cells table column) = run_of cat (ColumnFile table column) 0
+run_of_file cat (Subtrees table) = run_of cat (SubtreeTable table) 0
+run_of_file cat (IndexHeader table column) = run_of cat (ClimbingIndex table column) 0
+run_of_file cat (IndexDirectory table column) = run_of cat (ClimbingIndex table column) 1
+run_of_file cat (IndexLevel table column level) = run_of cat (ClimbingIndex table column) (2 + level)
+run_of_file cat (IdDirectory table) = run_of cat (IdIndex table) 0
+run_of_file cat (IdLevel table level) = run_of cat (IdIndex table) (1 + level)
 
 -- the page after the static files
 unfoldable pub files_end : Catalog → ℕ
@@ -170,13 +133,12 @@ abbrev pub static_end : Catalog → ℕ
 static_end cat = in_blocks (files_end cat)
 
 abbrev pub visible_columns : Schema → (table : ℕ) → List ℕ
-visible_columns schema table = filter (is_visible schema table) (below (column_count schema table))
+visible_columns schema table = filter (is_visible schema table) (below (length (columns_of schema table)))
 
 -- a row of a reply: the identifier and at most all visible cells
 abbrev pub spool_width : Schema → (table : ℕ) → ℕ
 spool_width schema table = 4 + sum_by (width_at schema table) (visible_columns schema table)
 
--- the pages of a table's area in one half
 abbrev pub spool_pages : Catalog → (table : ℕ) → ℕ
 spool_pages cat table =
     if is_empty (visible_columns cat.schema table) then 0
@@ -193,12 +155,6 @@ spool_area cat half table = record {
   width = spool_width cat.schema table;
 }
 
-abbrev pub has_spool : Schema → (table : ℕ) → Bool
-has_spool schema table = not (is_empty (visible_columns schema table))
-
-abbrev pub spool_areas : Catalog → (half : ℕ) → List Run
-spool_areas cat half = map (spool_area cat half) (filter (has_spool cat.schema) (tables_of cat.schema))
-
 abbrev pub spool_end : Catalog → ℕ
 spool_end cat = static_end cat + 2 * half_pages cat
 
@@ -209,13 +165,9 @@ largest_count cat = fold max 0 cat.counts
 abbrev pub scratch_pages : Catalog → ℕ
 scratch_pages cat = in_blocks (pages_of (largest_count cat) 4)
 
--- scratch areas 0 to 5
 abbrev pub scratch_area : Catalog → (area : ℕ) → Run
 scratch_area cat area =
     record { first = spool_end cat + area * scratch_pages cat; count = largest_count cat; width = 4 }
-
-abbrev pub scratch_areas : Catalog → List Run
-scratch_areas cat = map (scratch_area cat) (below 6)
 
 -- the pages that a device must have
 abbrev pub need : Catalog → ℕ

@@ -30,7 +30,6 @@ pages_of count width = (count + (per_page width - 1)) / per_page width
 abbrev pub run_pages : Run → ℕ
 run_pages run = pages_of run.count run.width
 
--- the page after a run
 abbrev pub run_end : Run → ℕ
 run_end run = run.first + run_pages run
 
@@ -41,15 +40,12 @@ page_of run i = run.first + i / per_page run.width
 abbrev pub slot_of : Run → ℕ → ℕ
 slot_of run i = i % per_page run.width
 
--- the record in a slot of a page
 abbrev pub cell_in : (bytes : List ℕ) (width slot : ℕ) → List ℕ
 cell_in bytes width slot = slice_range bytes (slot * width) (slot * width + width)
 
--- the record that a run has at a place
 unfoldable pub record_at : (ℕ → List ℕ) → Run → ℕ → List ℕ
 record_at page run i = cell_in (page (page_of run i)) run.width (slot_of run i)
 
--- the records of a run are these
 pub record HasRecords (page : ℕ → List ℕ) (run : Run) (records : List (List ℕ)) : Type 0 where
   pub count : run.count ≡ length records
   pub each : (i : ℕ) → i < run.count → record_at page run i ≡ get_or records i []

@@ -12,29 +12,9 @@ use Rattle.ghost_model.specs.core.Channel.{Catalog}
 use Rattle.ghost_model.specs.core.Database.{is_row_among}
 use Rattle.ghost_model.specs.readings.CellReading.{decode_cell}
 use Rattle.ghost_model.specs.core.Asks.{kind_at}
-use Rattle.ghost_model.specs.forms.Runs.{Run, page_of, slot_of, record_at, number_in, found_in}
-use Rattle.ghost_model.specs.forms.Layout.{is_hidden, width_at, count_of, levels_of, above_of, descendants_of, column_file, subtree_table, index_header, index_directory, index_level, id_directory, id_level}
+use Rattle.ghost_model.specs.forms.Runs.{page_of, slot_of, record_at, number_in, found_in}
+use Rattle.ghost_model.specs.forms.Layout.{is_hidden, width_at, count_of, levels_of, above_of, descendants_of, File, Cells, Subtrees, IndexHeader, IndexDirectory, IndexLevel, IdDirectory, IdLevel, run_of_file}
 
--- the static files by kind, as the layout names them
-pub data File : Type 0 where
-  Cells : (table column : ℕ) → File
-  Subtrees : (table : ℕ) → File
-  IndexHeader : (table column : ℕ) → File
-  IndexDirectory : (table column : ℕ) → File
-  IndexLevel : (table column level : ℕ) → File
-  IdDirectory : (table : ℕ) → File
-  IdLevel : (table level : ℕ) → File
-
-abbrev pub run_of_file : Catalog → File → Run
-run_of_file cat (Cells table column) = column_file cat table column
-run_of_file cat (Subtrees table) = subtree_table cat table
-run_of_file cat (IndexHeader table column) = index_header cat table column
-run_of_file cat (IndexDirectory table column) = index_directory cat table column
-run_of_file cat (IndexLevel table column level) = index_level cat table column level
-run_of_file cat (IdDirectory table) = id_directory cat table
-run_of_file cat (IdLevel table level) = id_level cat table level
-
--- whether a schema has such a file
 abbrev pub has_file : Schema → File → Bool
 has_file schema (Cells table column) = is_hidden schema table column
 has_file schema (Subtrees table) = not (is_empty (descendants_of schema table))
@@ -79,10 +59,7 @@ abbrev pub are_rows : Catalog → (tables bytes : List ℕ) → Bool
 are_rows cat [] bytes = true
 are_rows cat (table ∷ tables) bytes = is_row cat table (number_in bytes 0) && are_rows cat tables (drop 4 bytes)
 
--- where a list begins and how long it is, and where the one after it begins, by eight bytes of a directory
-abbrev pub first_listed : List ℕ → ℕ
-first_listed bytes = number_in bytes 0
-
+-- where a list ends, by eight bytes of a directory: its first place and its length
 abbrev pub list_end : List ℕ → ℕ
 list_end bytes = number_in bytes 0 + number_in bytes 4
 
@@ -94,12 +71,12 @@ are_places cat (table ∷ tables) bytes = nat_le (list_end bytes) (count_of cat 
 -- whether lists begin where those before them end
 abbrev pub follow : (tables before bytes : List ℕ) → Bool
 follow [] before bytes = true
-follow (_ ∷ tables) before bytes = first_listed bytes == list_end before && follow tables (drop 8 before) (drop 8 bytes)
+follow (_ ∷ tables) before bytes = number_in bytes 0 == list_end before && follow tables (drop 8 before) (drop 8 bytes)
 
 -- whether they begin where their level files do
 abbrev pub begin : (tables bytes : List ℕ) → Bool
 begin [] bytes = true
-begin (_ ∷ tables) bytes = first_listed bytes == 0 && begin tables (drop 8 bytes)
+begin (_ ∷ tables) bytes = number_in bytes 0 == 0 && begin tables (drop 8 bytes)
 
 abbrev pub places_keep_order : (tables : List ℕ) → (before : Option (List ℕ)) → List ℕ → Bool
 places_keep_order tables None bytes = begin tables bytes
@@ -129,12 +106,8 @@ abbrev pub ascends : (before : Option (List ℕ)) → List ℕ → Bool
 ascends None bytes = true
 ascends (Some before) bytes = is_lt (slice_cmp nat_cmp before bytes)
 
--- whether they may stand there after those before them: in a directory those of the slot before, in a level file those
--- before in the same list, if there are any
+-- whether they may stand there after those before: in a directory of the slot before, in a level file of the same list
 abbrev pub may_follow : Catalog → File → (before : Option (List ℕ)) → List ℕ → Bool
-may_follow cat (Cells table column) before bytes = true
-may_follow cat (Subtrees table) before bytes = true
-may_follow cat (IndexHeader table column) before bytes = true
 may_follow cat (IndexDirectory table column) before bytes =
     ascends (option_map (cell_part cat.schema table column) before) (cell_part cat.schema table column bytes)
     && places_keep_order (levels_of cat.schema table) (option_map (places_part cat.schema table column) before)
@@ -142,8 +115,8 @@ may_follow cat (IndexDirectory table column) before bytes =
 may_follow cat (IndexLevel table column level) before bytes = ascends before bytes
 may_follow cat (IdDirectory table) before bytes = places_keep_order (above_of cat.schema table) before bytes
 may_follow cat (IdLevel table level) before bytes = ascends before bytes
+may_follow cat _ before bytes = true
 
--- the record in a slot of a file
 abbrev pub in_slot : (ℕ → List ℕ) → Catalog → File → (place : ℕ) → List ℕ
 in_slot page cat file place = record_at page (run_of_file cat file) place
 
@@ -158,29 +131,23 @@ slots_in page cat (IndexLevel table column level) = count_of cat (slice_index (l
 slots_in page cat (IdDirectory table) = count_of cat table
 slots_in page cat (IdLevel table level) = count_of cat (slice_index (above_of cat.schema table) level)
 
--- the record before it, if it is not the first
 abbrev pub before_slot : (ℕ → List ℕ) → Catalog → File → (place : ℕ) → Option (List ℕ)
 before_slot page cat file zero = None
 before_slot page cat file (suc place) = Some (in_slot page cat file place)
 
--- some entry's list has a record of a level file and the one before it. Where its list is the directory says in eight
--- bytes, after so many bytes for the cell and for the levels below
+-- some entry's list has a record of a level file and the one before it, as the directory says after so many bytes
 pub record AreInOneList (page : ℕ → List ℕ) (cat : Catalog) (directory : File) (skipped place : ℕ) : Type 0 where
   pub entry : ℕ
   pub there : entry < slots_in page cat directory
-  pub after_first : first_listed (drop skipped (in_slot page cat directory entry)) < place
+  pub after_first : number_in (drop skipped (in_slot page cat directory entry)) 0 < place
   pub before_end : place < list_end (drop skipped (in_slot page cat directory entry))
 
 -- whether the order of a file binds a slot to the one before it: in a level file within a list alone
 abbrev pub IsBound : (ℕ → List ℕ) → Catalog → File → (place : ℕ) → Type 0
-IsBound page cat (Cells table column) place = ⊤
-IsBound page cat (Subtrees table) place = ⊤
-IsBound page cat (IndexHeader table column) place = ⊤
-IsBound page cat (IndexDirectory table column) place = ⊤
 IsBound page cat (IndexLevel table column level) place =
     AreInOneList page cat (IndexDirectory table column) (width_at cat.schema table column + 8 * level) place
-IsBound page cat (IdDirectory table) place = ⊤
 IsBound page cat (IdLevel table level) place = AreInOneList page cat (IdDirectory table) (8 * level) place
+IsBound page cat _ place = ⊤
 
 -- the slot of a record breaks the order of its file
 pub record IsOutOfOrder (page : ℕ → List ℕ) (cat : Catalog) (file : File) (place : ℕ) : Type 0 where
@@ -196,7 +163,6 @@ pub record IsDamagedIn (cat : Catalog) (page : ℕ → List ℕ) (file : File) (
   pub damaged : (may_stand cat file (in_slot page cat file place) ≡ false) ⊎ IsOutOfOrder page cat file place
   pub found_is : found ≡ found_in (in_slot page cat file place)
 
--- a slot of some file
 pub record IsDamagedSlot (cat : Catalog) (page : ℕ → List ℕ) (number slot found : ℕ) : Type 0 where
   pub file : File
   pub place : ℕ

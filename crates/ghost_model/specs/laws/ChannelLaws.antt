@@ -1,5 +1,5 @@
 -- Laws of frames, asks and next moves. Nothing here need be believed: each is proved.
-use Rattle.std.specs.Prelude.{◌≡◌, ℕ, ◌+◌, ◌-◌, ◌^◌, ◌<◌, Bool, true, false, ◌&&◌, List, [], ◌++◌, length, take, map, flat_map, Some, Ok, ◌%◌, All, ◌*◌, ◌≤◌}
+use Rattle.std.specs.Prelude.{◌≡◌, ℕ, ◌+◌, ◌^◌, ◌<◌, Bool, true, false, ◌&&◌, List, [], ◌++◌, length, take, map, flat_map, Some, Ok, ◌%◌, All, ◌*◌, ◌≤◌}
 use Rattle.ghost_model.specs.core.Channel.{Frame, Ask, Catalog, Journal}
 use Rattle.std.specs.List.{list_all}
 use Rattle.ghost_model.specs.core.Schema.{Schema, is_visible}
@@ -8,8 +8,9 @@ use Rattle.ghost_model.specs.readings.QueryReading.{reading}
 use Rattle.ghost_model.specs.forms.Frames.{AreBytes, IsFrame, frame_bytes, got_of, Found}
 use Rattle.ghost_model.specs.core.Asks.{NumberedAsk, asked_of, RowCells, ask_payload, row_width, rows_in, asks_of, is_proper_ask, row_bytes}
 use Rattle.ghost_model.specs.readings.AskReading.{ask_in}
-use Rattle.ghost_model.specs.core.Moves.{taken, sent, moves, answers}
-use Rattle.ghost_model.specs.core.NextMove.{Awaits, header_fits, payload_fits, Heard, heard_frame, hear_all, heard, due, IsProperWith}
+use Rattle.ghost_model.specs.core.Moves.{taken, sent, answers}
+use Rattle.ghost_model.specs.laws.ShortWords.{moves, due}
+use Rattle.ghost_model.specs.core.NextMove.{Awaits, header_fits, payload_fits, Heard, heard_frame, hear_all, heard, IsProperWith}
 
 -- no frame's spelling is a proper prefix of another's
 abbrev pub FramesArePrefixFree : Type 0

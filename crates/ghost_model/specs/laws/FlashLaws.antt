@@ -1,8 +1,8 @@
 -- Laws of the hidden part as the flash holds it: the hidden part of a database goes with its catalog, its cells are as
 -- wide as their columns and read as its values, and rows lead to the same rows by it as by the whole database.
-use Rattle.std.specs.Prelude.{◌≡◌, ℕ, suc, ◌<◌, true, List, [], length, get_or, map, count_by, replicate, Some, slice_get}
+use Rattle.std.specs.Prelude.{◌≡◌, ℕ, suc, ◌<◌, true, List, [], length, get_or, map, count_by, replicate, Some, slice_get, drop, filter, IsTrue}
 use Rattle.std.specs.Option.{option_map_or}
-use Rattle.ghost_model.specs.core.Schema.{Schema}
+use Rattle.ghost_model.specs.core.Schema.{Schema, Table, Kind}
 use Rattle.ghost_model.specs.core.Values.{Row, Database}
 use Rattle.ghost_model.specs.core.Channel.{Catalog}
 use Rattle.ghost_model.specs.laws.SchemaTrees.{IsTree}
@@ -10,12 +10,13 @@ use Rattle.ghost_model.specs.core.Database.{IsDatabase, rows_of, row_counts, val
 use Rattle.ghost_model.specs.readings.CellReading.{decode_cell}
 use Rattle.ghost_model.specs.forms.Cells.{encode_cell}
 use Rattle.ghost_model.specs.core.Asks.{kind_at}
-use Rattle.ghost_model.specs.core.Split.{Hidden, hidden_of, value_at}
+use Rattle.ghost_model.specs.core.Split.{Hidden, hidden_of, value_at, kind_of_column, are_of_kinds}
 use Rattle.ghost_model.specs.core.Replies.{hidden_places, hidden_value}
 use Rattle.ghost_model.specs.forms.Runs.{number_cell, record_at}
 use Rattle.ghost_model.specs.laws.RunLaws.{AgreeOn}
-use Rattle.ghost_model.specs.forms.Layout.{below, is_hidden, width_at, count_of, levels_of, above_of, public_pages, files_end, column_file, subtree_table, index_directory, id_directory}
-use Rattle.ghost_model.specs.forms.Flash.{GoesWith, HoldsCatalog, HoldsColumns, HoldsFiles, hidden_cells, leads_to, subtree_record, directory_record, value_lists, id_lists}
+use Rattle.ghost_model.specs.forms.Layout.{below, is_hidden, width_at, count_of, levels_of, above_of, public_pages, files_end}
+use Rattle.ghost_model.specs.laws.ShortWords.{column_file, subtree_table, index_directory, id_directory}
+use Rattle.ghost_model.specs.forms.Flash.{HoldsCatalog, HoldsColumns, HoldsFiles, hidden_cells, leads_to, subtree_record, directory_record, value_lists, id_lists, hidden_rows}
 
 -- how many hidden columns a table has before a column
 abbrev pub hidden_before : Schema → (table column : ℕ) → ℕ
@@ -26,6 +27,15 @@ abbrev pub HiddenValuesByPlace : Type 0
 HiddenValuesByPlace =
     (schema : Schema) → IsTree schema → (table column : ℕ) → is_hidden schema table column ≡ true → (row : Row)
     → value_at (hidden_places schema table) row column ≡ slice_get row (hidden_before schema table column)
+
+abbrev pub hidden_kinds : Table → List Kind
+hidden_kinds table = map kind_of_column (filter (λ column. column.hidden) (drop 1 table.columns))
+
+-- each table has as many rows as the catalog says, and a row one value for each hidden column, of its kind
+pub record GoesWith (cat : Catalog) (hidden : Hidden) : Type 0 where
+  pub counted : map length hidden.hidden ≡ cat.counts
+  pub kinds : (table place : ℕ) (declared : Table) (row : Row) → slice_get cat.schema table ≡ Some declared
+      → slice_get (hidden_rows hidden table) place ≡ Some row → IsTrue (are_of_kinds (hidden_kinds declared) row)
 
 abbrev pub HiddenPartsGoWithCatalogs : Type 0
 HiddenPartsGoWithCatalogs =

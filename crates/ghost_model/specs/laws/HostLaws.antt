@@ -1,8 +1,8 @@
 -- Laws of hosts: what a host sends is honest, is cut into its frames again, and is heard whole. Nothing here need be
 -- believed: each is proved.
-use Rattle.std.specs.Prelude.{◌≡◌, ℕ, ◌+◌, ◌-◌, ◌/◌, List, [], ◌∷◌, ◌++◌, length, map, flat_map, All, nat_lt, nat_le, ◌&&◌, true, false, ◌*◌, ◌^◌, ◌≤◌, ◌<◌}
+use Rattle.std.specs.Prelude.{◌≡◌, ℕ, ◌+◌, ◌/◌, List, [], ◌∷◌, ◌++◌, length, map, flat_map, All, nat_lt, nat_le, ◌&&◌, true, false, ◌*◌, ◌^◌, ◌≤◌, ◌<◌}
 use Rattle.std.specs.List.{list_all}
-use Rattle.ghost_model.specs.core.Channel.{Catalog, row_count_in, Ask, Frame, WelcomeFrame, DoneFrame}
+use Rattle.ghost_model.specs.core.Channel.{Catalog, count_of, Ask, Frame, WelcomeFrame, DoneFrame}
 use Rattle.ghost_model.specs.forms.Catalog.{catalog_bytes}
 use Rattle.ghost_model.specs.forms.Frames.{IsFrame, AreBytes, frame_bytes, payload_of, most_payload}
 use Rattle.ghost_model.specs.core.Asks.{RowCells, row_bytes, row_width, kinds_of, NumberedAsk}
@@ -47,7 +47,7 @@ FramesAreCut = (frames : List Frame) → All IsFrame frames → frames_of (flat_
 pub record IsGroup (catalog : Catalog) (ask : Ask) (last : ℕ) (rows : List RowCells) : Type 0 where
   pub some : 0 < length rows
   pub fits : length rows * row_width catalog.schema ask ≤ most_payload
-  pub ascends : next.rows_fit (row_count_in catalog ask.table) last (kinds_of catalog.schema ask) rows ≡ true
+  pub ascends : next.rows_fit (count_of catalog ask.table) last (kinds_of catalog.schema ask) rows ≡ true
   pub widths : All (IsReplyRow catalog.schema ask) rows
   pub bytes : AreBytes (flat_map row_bytes rows)
 

@@ -9,6 +9,7 @@ use Rattle.ghost_model.specs.laws.SchemaTrees.{IsTree}
 use Rattle.ghost_model.specs.refusals.LoadFaults.{most_rows}
 use Rattle.ghost_model.specs.forms.Catalog.{IsCatalog}
 use Rattle.ghost_model.specs.forms.Runs.{Run, per_page, run_pages, run_end, page_of, slot_of, page_bytes}
+use Rattle.ghost_model.specs.laws.ShortWords as short
 use Rattle.ghost_model.specs.forms.Layout
 use Rattle.ghost_model.specs.laws.LayoutSums
 
@@ -26,13 +27,13 @@ abbrev pub block_room : Run → ℕ
 block_room run = Layout.in_blocks (run_pages run)
 
 pub record FollowOneAnother (cat : Catalog) : Type 0 where
-  pub files : Follow run_pages Layout.public_pages (Layout.static_files cat) (Layout.files_end cat)
+  pub files : Follow run_pages Layout.public_pages (short.static_files cat) (Layout.files_end cat)
   pub rounded : Layout.files_end cat ≤ Layout.static_end cat
   pub first_half :
-      Follow block_room (Layout.static_end cat) (Layout.spool_areas cat 0) (Layout.static_end cat + Layout.half_pages cat)
+      Follow block_room (Layout.static_end cat) (short.spool_areas cat 0) (Layout.static_end cat + Layout.half_pages cat)
   pub second_half :
-      Follow block_room (Layout.static_end cat + Layout.half_pages cat) (Layout.spool_areas cat 1) (Layout.spool_end cat)
-  pub scratch : Follow block_room (Layout.spool_end cat) (Layout.scratch_areas cat) (Layout.need cat)
+      Follow block_room (Layout.static_end cat + Layout.half_pages cat) (short.spool_areas cat 1) (Layout.spool_end cat)
+  pub scratch : Follow block_room (Layout.spool_end cat) (short.scratch_areas cat) (Layout.need cat)
 
 abbrev pub FilesFollow : Type 0
 FilesFollow = (cat : Catalog) → FollowOneAnother cat
@@ -55,24 +56,24 @@ FollowingRunsStandApart =
 pub record LieAsSummed (cat : Catalog) : Type 0 where
   pub column_file :
       (table column : ℕ) → Layout.is_hidden cat.schema table column ≡ true
-      → (Layout.column_file cat table column).first ≡ LayoutSums.column_begin cat table column
+      → (short.column_file cat table column).first ≡ LayoutSums.column_begin cat table column
   pub subtree_table :
-      (table : ℕ) → table < length cat.schema → (Layout.subtree_table cat table).first ≡ LayoutSums.subtree_begin cat table
+      (table : ℕ) → table < length cat.schema → (short.subtree_table cat table).first ≡ LayoutSums.subtree_begin cat table
   pub index_header :
       (table column : ℕ) → Layout.is_hidden cat.schema table column ≡ true
-      → (Layout.index_header cat table column).first ≡ LayoutSums.index_begin cat table column
+      → (short.index_header cat table column).first ≡ LayoutSums.index_begin cat table column
   pub index_directory :
       (table column : ℕ) → Layout.is_hidden cat.schema table column ≡ true
-      → (Layout.index_directory cat table column).first ≡ LayoutSums.index_begin cat table column + 1
+      → (short.index_directory cat table column).first ≡ LayoutSums.index_begin cat table column + 1
   pub index_level :
       (table column level : ℕ) → Layout.is_hidden cat.schema table column ≡ true
       → level < length (Layout.levels_of cat.schema table)
-      → Layout.index_level cat table column level ≡ LayoutSums.index_level cat table column level
+      → short.index_level cat table column level ≡ LayoutSums.summed_index_level cat table column level
   pub id_directory :
-      (table : ℕ) → table < length cat.schema → (Layout.id_directory cat table).first ≡ LayoutSums.id_index_begin cat table
+      (table : ℕ) → table < length cat.schema → (short.id_directory cat table).first ≡ LayoutSums.id_index_begin cat table
   pub id_level :
       (table level : ℕ) → table < length cat.schema → level < length (Layout.above_of cat.schema table)
-      → Layout.id_level cat table level ≡ LayoutSums.id_level cat table level
+      → short.id_level cat table level ≡ LayoutSums.summed_id_level cat table level
   pub files_end : Layout.files_end cat ≡ LayoutSums.table_begin cat (length cat.schema)
 
 abbrev pub FilesLieAsSummed : Type 0
@@ -83,13 +84,13 @@ pub record LieInOrder (cat : Catalog) : Type 0 where
   -- only columns that there are, are hidden
   pub there_are :
       (table column : ℕ) → Layout.is_hidden cat.schema table column ≡ true
-      → (table < length cat.schema) × (column < Layout.column_count cat.schema table)
+      → (table < length cat.schema) × (column < short.column_count cat.schema table)
   pub next_table : (table : ℕ) → LayoutSums.table_begin cat (table + 1) ≡ LayoutSums.table_begin cat table + LayoutSums.table_pages cat table
   pub tables : (table later : ℕ) → table ≤ later → LayoutSums.table_begin cat table ≤ LayoutSums.table_begin cat later
   pub next_column :
       (table column : ℕ)
       → LayoutSums.column_pages_before cat table (column + 1)
-      ≡ LayoutSums.column_pages_before cat table column + Layout.column_pages cat table column
+      ≡ LayoutSums.column_pages_before cat table column + LayoutSums.column_pages cat table column
   pub next_index :
       (table column : ℕ)
       → LayoutSums.index_pages_before cat table (column + 1)
@@ -110,19 +111,19 @@ pub record LieInOrder (cat : Catalog) : Type 0 where
   -- the column files of one table
   pub column_files :
       (table column later : ℕ) → Layout.is_hidden cat.schema table column ≡ true → column < later
-      → run_end (Layout.column_file cat table column) ≤ LayoutSums.column_begin cat table later
+      → run_end (short.column_file cat table column) ≤ LayoutSums.column_begin cat table later
   -- those of a table before its other files
   pub within_table :
       (table column : ℕ) → Layout.is_hidden cat.schema table column ≡ true
-      → run_end (Layout.column_file cat table column) ≤ LayoutSums.subtree_begin cat table
+      → run_end (short.column_file cat table column) ≤ LayoutSums.subtree_begin cat table
   -- those of a table before the files of a later one, and before the end
   pub before_tables :
       (table later column : ℕ) → Layout.is_hidden cat.schema table column ≡ true → table < later
-      → run_end (Layout.column_file cat table column) ≤ LayoutSums.table_begin cat later
-  pub after_public : (table column : ℕ) → Layout.public_pages ≤ (Layout.column_file cat table column).first
+      → run_end (short.column_file cat table column) ≤ LayoutSums.table_begin cat later
+  pub after_public : (table column : ℕ) → Layout.public_pages ≤ (short.column_file cat table column).first
   pub within :
       (table column : ℕ) → Layout.is_hidden cat.schema table column ≡ true
-      → run_end (Layout.column_file cat table column) ≤ Layout.files_end cat
+      → run_end (short.column_file cat table column) ≤ Layout.files_end cat
   pub static : Layout.files_end cat ≤ Layout.static_end cat
   pub spool : Layout.static_end cat ≤ Layout.spool_end cat
   pub scratch : Layout.spool_end cat ≤ Layout.need cat
@@ -163,7 +164,7 @@ CatalogsAreLimited = (cat : Catalog) → IsCatalog cat → IsLimited cat
 
 -- the widths of records
 pub record AreNarrow (cat : Catalog) : Type 0 where
-  pub columns : (table : ℕ) → Layout.column_count cat.schema table ≤ 24
+  pub columns : (table : ℕ) → short.column_count cat.schema table ≤ 24
   pub levels : (table : ℕ) → length (Layout.levels_of cat.schema table) ≤ 12
   pub above : (table : ℕ) → length (Layout.above_of cat.schema table) ≤ 12
   pub descendants : (table : ℕ) → length (Layout.descendants_of cat.schema table) ≤ 12
@@ -178,9 +179,9 @@ pub record AreNarrow (cat : Catalog) : Type 0 where
 pub record AreFew (cat : Catalog) : Type 0 where
   pub rows : (table : ℕ) → Layout.count_of cat table ≤ 1000000
   pub largest : Layout.largest_count cat ≤ 1000000
-  pub column : (table column : ℕ) → Layout.column_pages cat table column ≤ 1000000
+  pub column : (table column : ℕ) → LayoutSums.column_pages cat table column ≤ 1000000
   pub columns_before : (table column : ℕ) → column ≤ 24 → LayoutSums.column_pages_before cat table column ≤ 24000000
-  pub columns : (table : ℕ) → Layout.columns_pages cat table ≤ 24000000
+  pub columns : (table : ℕ) → LayoutSums.columns_pages cat table ≤ 24000000
   pub subtree : (table : ℕ) → LayoutSums.subtree_pages cat table ≤ 1000000
   pub level : (table : ℕ) → LayoutSums.level_pages cat table ≤ 1954
   pub levels : (tables : List ℕ) → length tables ≤ 12 → LayoutSums.levels_pages cat tables ≤ 23448

@@ -4,7 +4,16 @@ use Rattle.std.specs.Prelude.{ℕ, ◌+◌, ◌*◌, List, length, take, sum_by,
 use Rattle.ghost_model.specs.core.Schema.{Schema, is_empty}
 use Rattle.ghost_model.specs.core.Channel.{Catalog}
 use Rattle.ghost_model.specs.forms.Runs.{Run, pages_of}
-use Rattle.ghost_model.specs.forms.Layout.{below, is_hidden, width_at, column_count, levels_of, above_of, descendants_of, count_of, public_pages, column_pages, columns_pages, spool_pages}
+use Rattle.ghost_model.specs.forms.Layout.{below, is_hidden, width_at, levels_of, above_of, descendants_of, count_of, public_pages, spool_pages}
+use Rattle.ghost_model.specs.laws.ShortWords.{column_count}
+
+-- the pages of the file of a column, none where it is not hidden, and those of the files of a table's columns
+abbrev pub column_pages : Catalog → (table column : ℕ) → ℕ
+column_pages cat table column =
+    if is_hidden cat.schema table column then pages_of (count_of cat table) (width_at cat.schema table column) else 0
+
+abbrev pub columns_pages : Catalog → (table : ℕ) → ℕ
+columns_pages cat table = sum_by (column_pages cat table) (below (column_count cat.schema table))
 
 -- the pages of the column files of the columns before one
 abbrev pub column_pages_before : Catalog → (table column : ℕ) → ℕ
@@ -89,12 +98,12 @@ level_file cat begin tables level = record {
   width = 4;
 }
 
-abbrev pub index_level : Catalog → (table column level : ℕ) → Run
-index_level cat table column level =
+abbrev pub summed_index_level : Catalog → (table column level : ℕ) → Run
+summed_index_level cat table column level =
     level_file cat (index_begin cat table column + 1 + directory_pages cat table column) (levels_of cat.schema table) level
 
-abbrev pub id_level : Catalog → (table level : ℕ) → Run
-id_level cat table level =
+abbrev pub summed_id_level : Catalog → (table level : ℕ) → Run
+summed_id_level cat table level =
     level_file cat (id_index_begin cat table + id_directory_pages cat table) (above_of cat.schema table) level
 
 -- the pages of the areas of the tables before one in one half of the spool

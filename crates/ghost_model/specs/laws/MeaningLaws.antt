@@ -1,6 +1,6 @@
 -- Laws of databases and their meaning: what rows lead to, one row of an answer for each row of the top table, a database as
 -- its two parts, and files that keep every rule.
-use Rattle.std.specs.Prelude.{◌≡◌, ℕ, ◌+◌, ◌*◌, ◌≤◌, ◌<◌, List, [], Option, Some, length, map, sum, sum_by, option_and_then}
+use Rattle.std.specs.Prelude.{◌≡◌, ℕ, ◌+◌, ◌*◌, ◌≤◌, ◌<◌, List, [], Some, length, map, sum, sum_by, option_and_then}
 use Rattle.std.specs.List.{zip}
 use Rattle.ghost_model.specs.core.Schema.{Schema, Column, parent, ancestor}
 use Rattle.ghost_model.specs.core.Values.{Row, Database}
@@ -12,7 +12,8 @@ use Rattle.ghost_model.specs.core.Meaning.{all_of, answer_of_row}
 use Rattle.ghost_model.specs.forms.Cells.{cell_width}
 use Rattle.ghost_model.specs.forms.Catalog.{catalog_bytes}
 use Rattle.ghost_model.specs.refusals.QueryMeaning.{Means}
-use Rattle.ghost_model.specs.refusals.LoadFaults.{FileLimit, IsFirst, place, most_rows, most_bytes, load_faults, file_faults}
+use Rattle.ghost_model.specs.refusals.LoadFaults.{FileLimit, place, most_rows, most_bytes, load_faults, file_faults}
+use Rattle.ghost_model.specs.laws.LoadLaws.{IsFirst}
 use Rattle.ghost_model.specs.laws.SchemaTrees.{IsTree}
 
 -- a table is another one or lies below it: following parents from it comes there

@@ -1,17 +1,16 @@
 -- Laws of whole sessions, each of the key and its host together. A host in the key's own process leaves one journal,
 -- what it sends is what an honest host sends, and what an honest host's replies answer is the meaning of a text.
-use Rattle.std.specs.Prelude.{◌≡◌, ℕ, suc, ◌≤◌, true, false, List, ◌++◌, length, map, take, slice_get, Some, Ok}
+use Rattle.std.specs.Prelude.{◌≡◌, ℕ, suc, true, false, List, ◌++◌, map, take, slice_get, Some, Ok}
 use Rattle.std.specs.List.{list_any, concat}
 use Rattle.ghost_model.specs.core.Schema.{Schema}
 use Rattle.ghost_model.specs.laws.SchemaTrees.{IsTree}
 use Rattle.ghost_model.specs.core.Values.{Database}
-use Rattle.ghost_model.specs.core.Database.{IsDatabase, row_counts}
+use Rattle.ghost_model.specs.core.Database.{IsDatabase}
 use Rattle.ghost_model.specs.core.Query.{Query}
 use Rattle.ghost_model.specs.refusals.QueryMeaning.{Means}
 use Rattle.ghost_model.specs.readings.QueryReading.{reading}
 use Rattle.ghost_model.specs.core.Meaning.{answer}
 use Rattle.ghost_model.specs.core.Channel.{Catalog, Ask, Journal}
-use Rattle.ghost_model.specs.forms.Catalog.{IsCatalog}
 use Rattle.ghost_model.specs.core.Asks.{asks_of, asked_of}
 use Rattle.ghost_model.specs.core.Moves.{answers, taken, sent}
 use Rattle.ghost_model.specs.core.NextMove.{IsProper, IsFinished, is_stop}
@@ -20,7 +19,8 @@ use Rattle.ghost_model.specs.core.Host.{Holding, host_of, host_sends}
 use Rattle.ghost_model.specs.core.Local.{IsServedBy}
 use Rattle.ghost_model.specs.core.Honest.{IsSetting, IsCatalogOf, IsHonest}
 use Rattle.ghost_model.specs.core.Replies.{Reply, replies, answer_from}
-use Rattle.ghost_model.specs.core.Lines.{ended_of, all_done}
+use Rattle.ghost_model.specs.core.Lines.{all_done}
+use Rattle.ghost_model.specs.laws.ShortWords.{ended_of}
 
 -- at each point of the session every take was answered in full, and what was taken by then begins what the host sends
 -- for the bytes that the key had sent by then

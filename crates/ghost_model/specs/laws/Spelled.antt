@@ -4,7 +4,7 @@
 -- the tokens of every text are such symbols and then its end.
 use Rattle.std.specs.Prelude.{◌≡◌, ℕ, Bool, true, false, not, ◌&&◌, ◌||◌, ◌==◌, List, [], ◌∷◌, ◌++◌, flat_map, if◌then◌else◌, codes, bytes_eq, is_none}
 use Rattle.std.specs.List.{list_any, list_all}
-use Rattle.ghost_model.specs.refusals.Tokens.{Symbol, Word, Reserved, Name, Digits, Quoted, Open, Closing, Comma, Point, Semicolon, Star, PlusSign, MinusSign, EqualSign, UnequalSign, LessSign, AtMostSign, MoreSign, AtLeastSign, NoToken, EndOfText, begins_name, is_name_byte, is_numeral, is_printable, in_lower_case, keyword_text, keyword_of, other_reserved, symbols}
+use Rattle.ghost_model.specs.refusals.Tokens.{Symbol, Word, Reserved, Name, Digits, Quoted, Open, Closing, Comma, Point, Semicolon, Star, PlusSign, MinusSign, EqualSign, UnequalSign, LessSign, AtMostSign, MoreSign, AtLeastSign, NoToken, EndOfText, begins_name, is_name_byte, is_numeral, is_printable, in_lower_case, Keyword, AndWord, BetweenWord, CharWord, CreateWord, FromWord, HiddenWord, IntegerWord, PrimaryKeyWord, PrimaryWord, ReferencesWord, SelectWord, TableWord, WhereWord, keyword_of, other_reserved, symbols}
 
 abbrev pub begins_as_name : List ℕ → Bool
 begins_as_name [] = false
@@ -29,6 +29,22 @@ is_spelled _ = true
 -- a character inside a literal: `'` stands twice
 abbrev pub inside_literal : ℕ → List ℕ
 inside_literal byte = if byte == 39 then 39 ∷ 39 ∷ [] else byte ∷ []
+
+-- the word of each keyword, in lower case
+abbrev pub keyword_text : Keyword → List ℕ
+keyword_text AndWord = codes "and"
+keyword_text BetweenWord = codes "between"
+keyword_text CharWord = codes "char"
+keyword_text CreateWord = codes "create"
+keyword_text FromWord = codes "from"
+keyword_text HiddenWord = codes "hidden"
+keyword_text IntegerWord = codes "integer"
+keyword_text PrimaryKeyWord = codes "key"
+keyword_text PrimaryWord = codes "primary"
+keyword_text ReferencesWord = codes "references"
+keyword_text SelectWord = codes "select"
+keyword_text TableWord = codes "table"
+keyword_text WhereWord = codes "where"
 
 -- a symbol as it is written; one of several writings, where there are several
 abbrev pub symbol_text : Symbol → List ℕ

@@ -4,10 +4,11 @@ use Rattle.std.specs.Prelude.{◌≡◌, ℕ, ◌+◌, ◌≤◌, List, length, 
 use Rattle.ghost_model.specs.core.Channel.{Catalog}
 use Rattle.ghost_model.specs.core.Split.{Hidden}
 use Rattle.ghost_model.specs.forms.Runs.{pages_of}
-use Rattle.ghost_model.specs.forms.Layout.{below, is_hidden, column_count, levels_of, tables_of, columns_pages}
+use Rattle.ghost_model.specs.forms.Layout.{below, is_hidden, levels_of, tables_of}
+use Rattle.ghost_model.specs.laws.ShortWords.{column_count}
+use Rattle.ghost_model.specs.laws.LayoutSums.{columns_pages, directory_width, levels_pages, subtree_pages, id_index_pages}
 use Rattle.ghost_model.specs.forms.Flash.{hidden_cells, AreValues}
 use Rattle.ghost_model.specs.forms.Work.{value_count, file_pages}
-use Rattle.ghost_model.specs.laws.LayoutSums.{directory_width, levels_pages, subtree_pages, id_index_pages}
 
 -- the pages of the index of a column, none where it is not hidden
 abbrev pub index_written : Catalog → Hidden → (table column : ℕ) → ℕ

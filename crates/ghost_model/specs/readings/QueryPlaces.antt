@@ -7,7 +7,8 @@ use Rattle.std.specs.Prelude.{ℕ, List, [], ◌∷◌, ◌++◌, Option, Some, 
 use Rattle.ghost_model.specs.core.Query as query
 use Rattle.ghost_model.specs.core.Query.{Operator}
 use Rattle.ghost_model.specs.refusals.Tokens.{Symbol, Token, tokens, Word, Name, Digits, Quoted, Comma, Point, Star, PlusSign, MinusSign, EqualSign, UnequalSign, LessSign, AtMostSign, MoreSign, AtLeastSign, EndOfText, SelectWord, FromWord, WhereWord, AndWord, BetweenWord}
-use Rattle.ghost_model.specs.refusals.Grammar.{separated, begun}
+use Rattle.ghost_model.specs.refusals.Grammar.{separated}
+use Rattle.ghost_model.specs.readings.Begun.{begun}
 use Rattle.ghost_model.specs.refusals.QueryGrammar.{ColumnText, Bare, Qualified, Sign, Positive, Negative, LiteralText, Unsigned, Signed, Written, ConditionText, Compares, LiesBetween, Joins, Selection, All, Columns, QueryText, spell_column, spell_sign, spell_operator, spell_literal, spell_condition, spell_table, spell_selection, spelling}
 
 -- in a selected column: before it, after its table and the point, and after it
@@ -33,8 +34,7 @@ pub data ConditionPart : Type 0 where
 
 -- in a text: lists hold the columns, tables or conditions that stand whole before the one at hand
 pub data QueryPlace : Type 0 where
-  Start : QueryPlace
-  HasStar : QueryPlace
+  Start HasStar : QueryPlace
   InSelect : List ColumnText → ColumnPart → QueryPlace
   WantsTable : Selection → List (List ℕ) → QueryPlace
   HasTable : Selection → List (List ℕ) → List ℕ → QueryPlace

@@ -4,7 +4,6 @@
 use Rattle.std.specs.Prelude.{◌≡◌, ℕ, ◌+◌, ◌<◌, List, [], ◌∷◌, ◌++◌, length, take, flat_map, Some}
 use Rattle.ghost_model.specs.refusals.Tokens.{Symbol, symbols, offset_of}
 
--- the symbols of a text are those of a tree
 abbrev pub Spells : {Tree : Type 0} → (Tree → List Symbol) → List ℕ → Tree → Type 0
 Spells spelling text tree = symbols text ≡ spelling tree
 
@@ -31,7 +30,3 @@ pub record IsSyntaxFault {Tree : Type 0} (spelling : Tree → List Symbol) (text
 -- one or more items with a symbol between each two
 abbrev pub separated : {X : Type 0} → Symbol → (X → List Symbol) → X → List X → List Symbol
 separated by spell x xs = spell x ++ flat_map (λ other. by ∷ spell other) xs
-
--- items that each have a symbol after them
-abbrev pub begun : {X : Type 0} → Symbol → (X → List Symbol) → List X → List Symbol
-begun by spell xs = flat_map (λ x. spell x ++ by ∷ []) xs

@@ -3,7 +3,7 @@
 -- many rows, then the number of its fields, then field by field with the identifier first; the foreign keys come after
 -- all files, by table, record and column. `load_fault` is the first of them. No other is ever answered, so what the list
 -- says after it is of no account: rows that break a rule are still looked at by the rules that come later.
-use Rattle.std.specs.Prelude.{◌≡◌, ℕ, ◌+◌, ◌<◌, ◌≤◌, ℤ, pos, Bool, true, false, ◌==◌, nat_le, List, [], ◌∷◌, ◌++◌, length, map, flat_map, Option, Some, None, bytes_eq, Result, Ok, Err, is_some}
+use Rattle.std.specs.Prelude.{ℕ, ◌+◌, ℤ, pos, Bool, true, false, ◌==◌, nat_le, List, [], ◌∷◌, ◌++◌, length, map, flat_map, Option, Some, None, bytes_eq, is_some}
 use Rattle.std.specs.List.{zip, enumerate_from}
 use Rattle.std.specs.Option.{option_map_or}
 use Rattle.std.specs.Cmp.Lexicographic.{pointwise}
@@ -11,7 +11,7 @@ use Rattle.std.specs.Ordering.{int_eq}
 use Rattle.ghost_model.specs.core.Schema.{Schema, Column, Kind, Integer, Chars, first_of}
 use Rattle.ghost_model.specs.refusals.Tokens.{in_lower_case}
 use Rattle.ghost_model.specs.core.Values.{Value, Row, Rows, Database}
-use Rattle.ghost_model.specs.core.Database.{is_text, is_row_among, row_count, records_of, integer_of, database_of, IsDatabase}
+use Rattle.ghost_model.specs.core.Database.{is_text, is_row_among, row_count, records_of, integer_of, database_of}
 
 -- a table by its place, a record by its number in the file from 1, and a column; 0 where none applies
 pub record Place : Type 0 where
@@ -23,14 +23,7 @@ abbrev pub place : (table rec column : ℕ) → Place
 place table rec column = record { table = table; rec = rec; column = column }
 
 pub data LoadFault : Type 0 where
-  FileLimit : Place → LoadFault
-  Header : Place → LoadFault
-  RowLimit : Place → LoadFault
-  FieldCount : Place → LoadFault
-  BadId : Place → LoadFault
-  BadInt : Place → LoadFault
-  BadChars : Place → LoadFault
-  BadReference : Place → LoadFault
+  FileLimit Header RowLimit FieldCount BadId BadInt BadChars BadReference : Place → LoadFault
 
 -- the bytes of a file, at most
 abbrev pub most_bytes : ℕ
@@ -59,14 +52,11 @@ abbrev pub is_number : ℕ → Option ℤ → Bool
 is_number number found = option_map_or (λ other. int_eq other (pos number)) found false
 
 -- the first field is the row's number
-abbrev pub id_faults : (table row : ℕ) → List ℕ → List LoadFault
-id_faults table row text = unless (is_number row (integer_of text)) (BadId (place table (row + 1) 0))
-
 abbrev pub fields_faults : (table row : ℕ) → List Column → List (List ℕ) → List LoadFault
 fields_faults table row [] fields = []
 fields_faults table row (_ ∷ _) [] = []
 fields_faults table row (_ ∷ columns) (text ∷ fields) =
-    id_faults table row text ++ field_faults table (row + 1) 1 columns fields
+    unless (is_number row (integer_of text)) (BadId (place table (row + 1) 0)) ++ field_faults table (row + 1) 1 columns fields
 
 -- row number `row` is the record after it, since the header is the first
 abbrev pub row_faults : (table row : ℕ) → List Column → List (List ℕ) → List LoadFault
@@ -80,12 +70,9 @@ unfoldable pub rows_faults : (table row : ℕ) → List Column → List (List (L
 rows_faults table row columns records =
     flat_map (λ held. row_faults table held.0 columns held.1) (enumerate_from row records)
 
-abbrev pub name_of : Column → List ℕ
-name_of column = column.name
-
 -- the names of the columns in order, without regard to case
 abbrev pub is_header : List Column → List (List ℕ) → Bool
-is_header columns fields = pointwise bytes_eq (map in_lower_case fields) (map name_of columns)
+is_header columns fields = pointwise bytes_eq (map in_lower_case fields) (map (λ column. column.name) columns)
 
 -- the first record is the header
 abbrev pub record_faults : (table : ℕ) → List Column → List (List (List ℕ)) → List LoadFault
@@ -122,28 +109,9 @@ unfoldable pub references_from : Database → (table : ℕ) → Schema → List 
 references_from database table schema later =
     flat_map (λ held. table_references database held.0 2 held.1.0.columns held.1.1) (enumerate_from table (zip schema later))
 
-abbrev pub reference_faults : Schema → Database → List LoadFault
-reference_faults schema database = references_from database 0 schema database
-
--- all faults of the files of a schema's tables, in reading order
 abbrev pub load_faults : Schema → (files : List (List ℕ)) → List LoadFault
-load_faults schema files = files_faults 0 schema files ++ reference_faults schema (database_of schema files)
+load_faults schema files = files_faults 0 schema files ++ references_from (database_of schema files) 0 schema (database_of schema files)
 
 -- the fault that is answered; none where the files keep every rule
 abbrev pub load_fault : Schema → (files : List (List ℕ)) → Option LoadFault
 load_fault schema files = first_of (load_faults schema files)
-
--- a fault stands first among the faults
-pub record IsFirst (fault : LoadFault) (faults : List LoadFault) : Type 0 where
-  pub later : List LoadFault
-  pub first : faults ≡ fault ∷ later
-
--- an answer that tells of a broken rule tells of the first; one that tells of none, as want of memory, may always come
-abbrev pub TellsFirst : Option LoadFault → List LoadFault → Type 0
-TellsFirst None faults = Unit {0}
-TellsFirst (Some fault) faults = IsFirst fault faults
-
--- a result judges the faults: it is good exactly where there are none. `told` is the broken rule that an error tells of
-abbrev pub Judges : {T E : Type 0} → (told : E → Option LoadFault) → Result T E → List LoadFault → Type 0
-Judges told (Ok _) faults = faults ≡ []
-Judges told (Err error) faults = TellsFirst (told error) faults

@@ -13,8 +13,7 @@ pub data ColumnText : Type 0 where
   Qualified : List ℕ → List ℕ → ColumnText
 
 pub data Sign : Type 0 where
-  Positive : Sign
-  Negative : Sign
+  Positive Negative : Sign
 
 -- a number by its digits, with or without a sign, or a text by its value
 pub data LiteralText : Type 0 where

@@ -2,7 +2,7 @@
 -- meaning. The rules are tested one after another, each over the whole text. A column may stand without its table
 -- where exactly one FROM table has it. `*` is every column of the FROM tables in the order of the text, identifiers and
 -- foreign keys among them. BETWEEN is two conditions.
-use Rattle.std.specs.Prelude.{◌≡◌, ℕ, ℤ, pos, neg_ℤ, Bool, true, false, not, ◌&&◌, ◌||◌, ◌==◌, nat_lt, List, [], ◌∷◌, ◌++◌, length, map, filter, filter_map, flat_map, sum_by, Option, Some, None, is_none, option_map, option_and_then, option_to_list, bytes_eq}
+use Rattle.std.specs.Prelude.{◌≡◌, ℕ, ℤ, pos, neg_ℤ, Bool, true, false, not, ◌&&◌, ◌||◌, ◌==◌, nat_lt, List, [], ◌∷◌, ◌++◌, length, map, filter, filter_map, flat_map, sum_by, Option, Some, is_none, option_map, option_and_then, option_to_list, bytes_eq}
 use Rattle.std.specs.List.{list_any, list_all}
 use Rattle.ghost_model.specs.core.Schema.{Schema, Kind, Integer, Chars, columns_of, column_at, column_kind, places_where, places_of, first_of, is_empty, is_table, parent}
 use Rattle.ghost_model.specs.refusals.Tokens.{number_of}
@@ -15,13 +15,7 @@ use Rattle.ghost_model.specs.refusals.QueryGrammar.{ColumnText, Bare, Qualified,
 -- why a text is refused, in the order in which the rules are tested; a syntax fault has its offset in the text
 pub data Refusal : Type 0 where
   Syntax : ℕ → Refusal
-  Limit : Refusal
-  UnknownTable : Refusal
-  UnknownColumn : Refusal
-  Ambiguous : Refusal
-  KindMismatch : Refusal
-  BadLiteral : Refusal
-  NotLinked : Refusal
+  Limit UnknownTable UnknownColumn Ambiguous KindMismatch BadLiteral NotLinked : Refusal
 
 -- names
 
@@ -31,12 +25,9 @@ field table column = record { table = table; column = column }
 abbrev pub table_named : Schema → List ℕ → Option ℕ
 table_named schema name = first_of (places_where (λ table. bytes_eq table.name name) schema)
 
-abbrev pub column_named : Schema → ℕ → List ℕ → Option ℕ
-column_named schema table name = first_of (places_where (λ column. bytes_eq column.name name) (columns_of schema table))
-
--- the column of a table that has this name, if there is one
 abbrev pub fields_named : Schema → List ℕ → ℕ → List Field
-fields_named schema name table = option_to_list (option_map (field table) (column_named schema table name))
+fields_named schema name table =
+    option_to_list (option_map (field table) (first_of (places_where (λ column. bytes_eq column.name name) (columns_of schema table))))
 
 abbrev pub fields_of : Schema → ℕ → List Field
 fields_of schema table = map (field table) (places_of (columns_of schema table))
@@ -113,9 +104,6 @@ column_name (Qualified table name) = name
 abbrev pub table_names : QueryText → List (List ℕ)
 table_names tree = from_names tree ++ flat_map qualifier_of (columns_in tree)
 
-abbrev pub names_in : QueryText → List (List ℕ)
-names_in tree = table_names tree ++ map column_name (columns_in tree)
-
 -- how many conditions with a literal a condition of a text is
 abbrev pub literal_conditions : ConditionText → ℕ
 literal_conditions (Compares column operator literal) = 1
@@ -131,7 +119,7 @@ selected_count schema tree (Columns column more) = length (column ∷ more)
 abbrev pub is_over_limit : Schema → List ℕ → QueryText → Bool
 is_over_limit schema text tree =
     nat_lt 4096 (length text)
-    || list_any (λ name. nat_lt 32 (length name)) (names_in tree)
+    || list_any (λ name. nat_lt 32 (length name)) (table_names tree ++ map column_name (columns_in tree))
     || nat_lt 12 (length (from_names tree))
     || nat_lt 16 (sum_by literal_conditions tree.conditions)
     || nat_lt 32 (selected_count schema tree tree.selection)
@@ -155,7 +143,6 @@ is_ambiguous schema tree =
     has_repeat (from_tables schema tree)
     || list_any (λ column. nat_lt 1 (length (meanings schema (from_tables schema tree) column))) (columns_in tree)
 
--- whether a value is of another kind than a column's
 abbrev pub is_other_kind : Option Kind → Value → Bool
 is_other_kind (Some Integer) (Text text) = true
 is_other_kind (Some (Chars most)) (Number number) = true
@@ -171,12 +158,6 @@ is_too_large kind (Text text) = false
 abbrev pub literal_fails : Schema → (Option Kind → Value → Bool) → Condition → Bool
 literal_fails schema test (Compare column operator value) = test (column_kind schema column.table column.column) value
 literal_fails schema test (Join left right) = false
-
-abbrev pub has_kind_mismatch : Schema → QueryText → Bool
-has_kind_mismatch schema tree = list_any (literal_fails schema is_other_kind) (resolved schema tree).conditions
-
-abbrev pub has_bad_literal : Schema → QueryText → Bool
-has_bad_literal schema tree = list_any (literal_fails schema is_too_large) (resolved schema tree).conditions
 
 -- the top table and the joins
 
@@ -209,15 +190,14 @@ is_unlinked schema query =
     || is_none (top_of schema query)
     || list_any (lacks_join schema query) query.from
 
--- the rules that the tree of a text may break, in their order
 abbrev pub rules_of_queries : Schema → List ℕ → QueryText → List (Option Refusal)
 rules_of_queries schema text tree =
     broken_if (is_over_limit schema text tree) Limit
     ∷ broken_if (has_unknown_table schema tree) UnknownTable
     ∷ broken_if (has_unknown_column schema tree) UnknownColumn
     ∷ broken_if (is_ambiguous schema tree) Ambiguous
-    ∷ broken_if (has_kind_mismatch schema tree) KindMismatch
-    ∷ broken_if (has_bad_literal schema tree) BadLiteral
+    ∷ broken_if (list_any (literal_fails schema is_other_kind) (resolved schema tree).conditions) KindMismatch
+    ∷ broken_if (list_any (literal_fails schema is_too_large) (resolved schema tree).conditions) BadLiteral
     ∷ broken_if (is_unlinked schema (resolved schema tree)) NotLinked
     ∷ []
 

@@ -1,14 +1,14 @@
 -- Why a text means no schema. There are eight rules, tested in their order: the fault of a text is of the first rule
 -- that it breaks, and of one rule it is the first place in text order. The first rule is the grammar; the others speak
 -- of the tree that the text spells. A text that breaks none means the schema of its tree.
-use Rattle.std.specs.Prelude.{◌≡◌, ℕ, zero, suc, ◌+◌, nat_lt, Bool, true, false, not, ◌&&◌, ◌||◌, ◌==◌, List, [], ◌∷◌, ◌++◌, length, map, take, find, sum_by, count_by, slice_get, codes, bytes_eq, Option, Some, None, is_none, option_map, option_and_then}
+use Rattle.std.specs.Prelude.{◌≡◌, ℕ, suc, ◌+◌, nat_lt, Bool, true, false, not, ◌&&◌, ◌||◌, ◌==◌, List, [], ◌∷◌, ◌++◌, length, map, take, find, sum_by, count_by, slice_get, codes, bytes_eq, Option, Some, None, is_none, option_map}
 use Rattle.std.specs.List.{list_any}
 use Rattle.ghost_model.specs.refusals.Tokens.{is_between, number_of}
 use Rattle.ghost_model.specs.core.Query.{Field}
 use Rattle.ghost_model.specs.core.Schema.{Schema, Table, places_of, is_table, references_to, parent, ancestor}
 use Rattle.ghost_model.specs.refusals.Rules.{broken_if, MeetsAll, BreaksFirst}
 use Rattle.ghost_model.specs.refusals.Grammar.{Spells, IsSyntaxFault}
-use Rattle.ghost_model.specs.refusals.SchemaGrammar.{To, ColumnDeclaration, CharColumn, IntegerColumn, TableText, SchemaText, spelling}
+use Rattle.ghost_model.specs.refusals.SchemaGrammar.{To, ColumnDeclaration, CharColumn, IntegerColumn, TableText, SchemaText, schema_spelling}
 use Rattle.ghost_model.specs.refusals.SchemaMeaning.{declared_table, columns_written, schema_of}
 
 -- the bytes of a schema's text, at most; a longer one is not read
@@ -17,16 +17,16 @@ most_schema_bytes = 65536
 
 -- tables and columns by their places. The fault of a table's name has column 0
 pub data SchemaFault : Type 0 where
-  Syntax : (at : ℕ) → SchemaFault
-  Limit : SchemaFault
+  BadSyntax : (at : ℕ) → SchemaFault
+  OverLimit : SchemaFault
   DuplicateName : (table column : ℕ) → SchemaFault
   NoId : (table : ℕ) → SchemaFault
-  UnknownTable : (table column : ℕ) → SchemaFault
+  UnknownChild : (table column : ℕ) → SchemaFault
   TwoParents : (child : ℕ) → SchemaFault
   Cycle : (table : ℕ) → SchemaFault
   NotOneRoot : (roots : ℕ) → SchemaFault
 
--- Limit: more than 12 tables, more than 24 columns in a table, a name of more than 32 bytes, wherever it stands, or a
+-- OverLimit: more than 12 tables, more than 24 columns in a table, a name of more than 32 bytes, wherever it stands, or a
 -- CHAR whose length is not 1 to 64
 abbrev pub is_long : List ℕ → Bool
 is_long name = nat_lt 32 (length name)
@@ -60,15 +60,11 @@ abbrev pub columns_at : Option TableText → List ColumnDeclaration
 columns_at None = []
 columns_at (Some table) = columns_written table
 
-abbrev pub table_repeats : SchemaText → ℕ → Bool
-table_repeats tables place = repeats (map (λ (table : TableText). table.name) tables) place
-
-abbrev pub column_repeats : SchemaText → Field → Bool
-column_repeats tables field = repeats (map declared_name (columns_at (slice_get tables field.table))) field.column
-
 -- column 0 has no earlier column, so it speaks of its table's name
 abbrev pub is_duplicate : SchemaText → Field → Bool
-is_duplicate tables field = (field.column == 0 && table_repeats tables field.table) || column_repeats tables field
+is_duplicate tables field =
+    (field.column == 0 && repeats (map (λ (table : TableText). table.name) tables) field.table)
+    || repeats (map declared_name (columns_at (slice_get tables field.table))) field.column
 
 -- NoId: the first column is not `id INTEGER PRIMARY KEY`, without REFERENCES and HIDDEN, or a later one has PRIMARY KEY
 abbrev pub is_identifier : ColumnDeclaration → Bool
@@ -83,25 +79,15 @@ abbrev pub table_lacks_id : Option TableText → Bool
 table_lacks_id None = false
 table_lacks_id (Some table) = not (is_identifier table.first) || list_any is_primary table.others
 
-abbrev pub lacks_id : SchemaText → ℕ → Bool
-lacks_id tables place = table_lacks_id (slice_get tables place)
-
--- UnknownTable: a REFERENCES names no table
+-- UnknownChild: a REFERENCES names no table
 abbrev pub refers_nowhere : SchemaText → Option ColumnDeclaration → Bool
 refers_nowhere tables (Some (IntegerColumn name primary (Some (To table says_id)) hidden)) =
     is_none (declared_table tables table)
 refers_nowhere tables _ = false
 
-abbrev pub is_unknown : SchemaText → Field → Bool
-is_unknown tables field =
-    refers_nowhere tables (slice_get (columns_at (slice_get tables field.table)) field.column)
-
 -- TwoParents: two foreign keys name a table, be it from two tables or from one
 abbrev pub references_naming : Schema → ℕ → ℕ
 references_naming schema child = sum_by (λ (table : Table). length (references_to child table)) schema
-
-abbrev pub is_shared : SchemaText → ℕ → Bool
-is_shared tables child = nat_lt 1 (references_naming (schema_of tables) child)
 
 -- Cycle: following parents from a table returns to it, in at most as many steps as there are tables
 abbrev pub returns : Schema → ℕ → Bool
@@ -122,41 +108,32 @@ fields_from at (table ∷ later) =
 abbrev pub fields : SchemaText → List Field
 fields tables = fields_from 0 tables
 
--- the faults of a place
-abbrev pub duplicate_at : Field → SchemaFault
-duplicate_at field = DuplicateName field.table field.column
-
-abbrev pub unknown_at : Field → SchemaFault
-unknown_at field = UnknownTable field.table field.column
-
-abbrev pub wrong_roots : ℕ → Option SchemaFault
-wrong_roots roots = broken_if (not (roots == 1)) (NotOneRoot roots)
-
 -- the rules that a tree may break, in their order, each with its fault at the first place that breaks it
 abbrev pub rules_of_schemas : SchemaText → List (Option SchemaFault)
 rules_of_schemas tables =
-    broken_if (is_over tables) Limit
-    ∷ option_map duplicate_at (find (is_duplicate tables) (fields tables))
-    ∷ option_map NoId (find (lacks_id tables) (places_of tables))
-    ∷ option_map unknown_at (find (is_unknown tables) (fields tables))
-    ∷ option_map TwoParents (find (is_shared tables) (places_of tables))
+    broken_if (is_over tables) OverLimit
+    ∷ option_map (λ field. DuplicateName field.table field.column) (find (is_duplicate tables) (fields tables))
+    ∷ option_map NoId (find (λ place. table_lacks_id (slice_get tables place)) (places_of tables))
+    ∷ option_map (λ field. UnknownChild field.table field.column)
+    (find (λ field. refers_nowhere tables (slice_get (columns_at (slice_get tables field.table)) field.column)) (fields tables))
+    ∷ option_map TwoParents (find (λ child. nat_lt 1 (references_naming (schema_of tables) child)) (places_of tables))
     ∷ option_map Cycle (find (returns (schema_of tables)) (places_of tables))
-    ∷ wrong_roots (roots_of (schema_of tables))
+    ∷ broken_if (not (roots_of (schema_of tables) == 1)) (NotOneRoot (roots_of (schema_of tables)))
     ∷ []
 
 -- the text spells a tree that meets the rules, and this is the schema of that tree
 pub record MeansSchema (text : List ℕ) (schema : Schema) : Type 0 where
   pub tables : SchemaText
-  pub spells : Spells spelling text tables
+  pub spells : Spells schema_spelling text tables
   pub obeys : MeetsAll (rules_of_schemas tables)
   pub means : schema_of tables ≡ schema
 
 -- the text spells a tree that breaks a rule, and this is the fault of the first one that it breaks
 pub record HasFault (text : List ℕ) (fault : SchemaFault) : Type 0 where
   pub tables : SchemaText
-  pub spells : Spells spelling text tables
+  pub spells : Spells schema_spelling text tables
   pub breaks : BreaksFirst (rules_of_schemas tables) fault
 
 abbrev pub IsSchemaFault : List ℕ → SchemaFault → Type 0
-IsSchemaFault text (Syntax at) = IsSyntaxFault spelling text at
+IsSchemaFault text (BadSyntax at) = IsSyntaxFault schema_spelling text at
 IsSchemaFault text fault = HasFault text fault

@@ -24,35 +24,28 @@ pub record TableText : Type 0 where
 abbrev pub SchemaText : Type 0
 SchemaText = List TableText
 
-abbrev pub spell_hidden : Bool → List Symbol
-spell_hidden false = []
-spell_hidden true = Word HiddenWord ∷ []
-
-abbrev pub spell_primary : Bool → List Symbol
-spell_primary false = []
-spell_primary true = Word PrimaryWord ∷ Word PrimaryKeyWord ∷ []
-
-abbrev pub spell_id : Bool → List Symbol
-spell_id false = []
-spell_id true = Open ∷ Name (codes "id") ∷ Closing ∷ []
+-- symbols that may be left out
+abbrev pub spell_if : Bool → List Symbol → List Symbol
+spell_if false symbols = []
+spell_if true symbols = symbols
 
 abbrev pub spell_reference : Option Reference → List Symbol
 spell_reference None = []
-spell_reference (Some (To table says_id)) = Word ReferencesWord ∷ Name table ∷ spell_id says_id
+spell_reference (Some (To table says_id)) = Word ReferencesWord ∷ Name table ∷ spell_if says_id (Open ∷ Name (codes "id") ∷ Closing ∷ [])
 
-abbrev pub spell_column : ColumnDeclaration → List Symbol
-spell_column (CharColumn name digits hidden) =
-    Name name ∷ Word CharWord ∷ Open ∷ Digits digits ∷ Closing ∷ spell_hidden hidden
-spell_column (IntegerColumn name primary reference hidden) =
-    Name name ∷ Word IntegerWord ∷ (spell_primary primary ++ (spell_reference reference ++ spell_hidden hidden))
+abbrev pub spell_declaration : ColumnDeclaration → List Symbol
+spell_declaration (CharColumn name digits hidden) =
+    Name name ∷ Word CharWord ∷ Open ∷ Digits digits ∷ Closing ∷ spell_if hidden (Word HiddenWord ∷ [])
+spell_declaration (IntegerColumn name primary reference hidden) =
+    Name name ∷ Word IntegerWord ∷ (spell_if primary (Word PrimaryWord ∷ Word PrimaryKeyWord ∷ []) ++ (spell_reference reference ++ spell_if hidden (Word HiddenWord ∷ [])))
 
 abbrev pub spell_heading : List ℕ → List Symbol
 spell_heading name = Word CreateWord ∷ Word TableWord ∷ Name name ∷ Open ∷ []
 
-abbrev pub spell_table : TableText → List Symbol
-spell_table table =
-    spell_heading table.name ++ (separated Comma spell_column table.first table.others ++ Closing ∷ Semicolon ∷ [])
+abbrev pub spell_declared_table : TableText → List Symbol
+spell_declared_table table =
+    spell_heading table.name ++ (separated Comma spell_declaration table.first table.others ++ Closing ∷ Semicolon ∷ [])
 
 -- the symbols of a schema's text; a text of no table is one
-abbrev pub spelling : SchemaText → List Symbol
-spelling tables = flat_map spell_table tables ++ EndOfText ∷ []
+abbrev pub schema_spelling : SchemaText → List Symbol
+schema_spelling tables = flat_map spell_declared_table tables ++ EndOfText ∷ []

@@ -11,46 +11,18 @@ use Rattle.std.specs.Char.{to_ascii_lowercase}
 
 -- the reserved words that the grammars use; INT is another spelling of INTEGER
 pub data Keyword : Type 0 where
-  AndWord : Keyword
-  BetweenWord : Keyword
-  CharWord : Keyword
-  CreateWord : Keyword
-  FromWord : Keyword
-  HiddenWord : Keyword
-  IntegerWord : Keyword
-  PrimaryKeyWord : Keyword
-  PrimaryWord : Keyword
-  ReferencesWord : Keyword
-  SelectWord : Keyword
-  TableWord : Keyword
-  WhereWord : Keyword
+  AndWord BetweenWord CharWord CreateWord FromWord HiddenWord IntegerWord : Keyword
+  PrimaryKeyWord PrimaryWord ReferencesWord SelectWord TableWord WhereWord : Keyword
 
--- what the grammars are about: a token without its place. A name stands in lower case, a number by its digits, a
--- text literal by its value, in which `''` is one `'`
+-- a token without its place: a name in lower case, a number by its digits, a literal by its value, `''` being one `'`
 pub data Symbol : Type 0 where
   Word : Keyword → Symbol
   Reserved : Symbol
-  Name : List ℕ → Symbol
-  Digits : List ℕ → Symbol
-  Quoted : List ℕ → Symbol
-  Open : Symbol
-  Closing : Symbol
-  Comma : Symbol
-  Point : Symbol
-  Semicolon : Symbol
-  Star : Symbol
-  PlusSign : Symbol
-  MinusSign : Symbol
-  EqualSign : Symbol
-  UnequalSign : Symbol
-  LessSign : Symbol
-  AtMostSign : Symbol
-  MoreSign : Symbol
-  AtLeastSign : Symbol
-  NoToken : Symbol
-  EndOfText : Symbol
+  Name Digits Quoted : List ℕ → Symbol
+  Open Closing Comma Point Semicolon Star PlusSign MinusSign : Symbol
+  EqualSign UnequalSign LessSign AtMostSign MoreSign AtLeastSign : Symbol
+  NoToken EndOfText : Symbol
 
--- a token and the offset of its first byte in the text
 pub record Token : Type 0 where
   pub symbol : Symbol
   pub at : ℕ
@@ -64,7 +36,6 @@ is_space byte = byte == 32 || byte == 9 || byte == 10 || byte == 13
 abbrev pub is_digit : ℕ → Bool
 is_digit byte = is_between 48 57 byte
 
--- one or more digits
 abbrev pub is_numeral : List ℕ → Bool
 is_numeral [] = false
 is_numeral (digit ∷ digits) = list_all is_digit (digit ∷ digits)
@@ -87,30 +58,18 @@ is_printable byte = is_between 32 126 byte
 abbrev pub in_lower_case : List ℕ → List ℕ
 in_lower_case bytes = map to_ascii_lowercase bytes
 
--- the word of each keyword, in lower case
-abbrev pub keyword_text : Keyword → List ℕ
-keyword_text AndWord = codes "and"
-keyword_text BetweenWord = codes "between"
-keyword_text CharWord = codes "char"
-keyword_text CreateWord = codes "create"
-keyword_text FromWord = codes "from"
-keyword_text HiddenWord = codes "hidden"
-keyword_text IntegerWord = codes "integer"
-keyword_text PrimaryKeyWord = codes "key"
-keyword_text PrimaryWord = codes "primary"
-keyword_text ReferencesWord = codes "references"
-keyword_text SelectWord = codes "select"
-keyword_text TableWord = codes "table"
-keyword_text WhereWord = codes "where"
-
-abbrev pub keywords : List Keyword
+abbrev pub keywords : List (Keyword × List ℕ)
 keywords =
-    AndWord ∷ BetweenWord ∷ CharWord ∷ CreateWord ∷ FromWord ∷ HiddenWord ∷ IntegerWord ∷ PrimaryKeyWord ∷ PrimaryWord ∷ ReferencesWord ∷ SelectWord ∷ TableWord ∷ WhereWord ∷ []
+    (AndWord, codes "and") ∷ (BetweenWord, codes "between") ∷ (CharWord, codes "char") ∷ (CreateWord, codes "create")
+    ∷ (FromWord, codes "from") ∷ (HiddenWord, codes "hidden") ∷ (IntegerWord, codes "integer") ∷ (PrimaryKeyWord, codes "key")
+    ∷ (PrimaryWord, codes "primary") ∷ (ReferencesWord, codes "references") ∷ (SelectWord, codes "select")
+    ∷ (TableWord, codes "table") ∷ (WhereWord, codes "where") ∷ []
 
 -- the keyword that a word in lower case is; INT is INTEGER too
 abbrev pub keyword_of : List ℕ → Option Keyword
 keyword_of word =
-    if bytes_eq word (codes "int") then Some IntegerWord else find (λ keyword. bytes_eq word (keyword_text keyword)) keywords
+    if bytes_eq word (codes "int") then Some IntegerWord
+    else option_map (λ keyword. keyword.0) (find (λ keyword. bytes_eq word keyword.1) keywords)
 
 -- the reserved words that the grammars do not use yet
 abbrev pub other_reserved : List (List ℕ)
@@ -118,15 +77,11 @@ other_reserved =
     codes "by" ∷ codes "count" ∷ codes "group" ∷ codes "in" ∷ codes "is" ∷ codes "max" ∷ codes "min" ∷ codes "not"
     ∷ codes "null" ∷ codes "or" ∷ codes "sum" ∷ []
 
--- a word that is no keyword: a name, or one of the other reserved words
-abbrev pub name_or_reserved : List ℕ → Symbol
-name_or_reserved word = if list_any (bytes_eq word) other_reserved then Reserved else Name word
-
 -- what a word in lower case is: a keyword, another reserved word, or a name
 abbrev pub symbol_of_word : List ℕ → Symbol
-symbol_of_word word = option_map_or Word (keyword_of word) (name_or_reserved word)
+symbol_of_word word =
+    option_map_or Word (keyword_of word) (if list_any (bytes_eq word) other_reserved then Reserved else Name word)
 
--- a symbol and how many bytes it takes
 pub record Read : Type 0 where
   pub symbol : Symbol
   pub bytes : ℕ
@@ -134,8 +89,7 @@ pub record Read : Type 0 where
 abbrev pub read : Symbol → ℕ → Read
 read symbol bytes = record { symbol = symbol; bytes = bytes }
 
--- a literal whose opening `'` was read: its value and the bytes that it takes, its last `'` among them. `ended` says
--- that the byte before was a `'`: it ends the literal where no second one follows
+-- a literal whose opening `'` was read. `ended`: the byte before was a `'`, which ends it where no second one follows
 unfoldable pub quoted_from : (ended : Bool) (value : List ℕ) (count : ℕ) → List ℕ → Read
 quoted_from true value count [] = read (Quoted value) count
 quoted_from true value count (b ∷ bs) =
@@ -203,6 +157,5 @@ symbol_of token = token.symbol
 abbrev pub symbols : List ℕ → List Symbol
 symbols text = map symbol_of (tokens text)
 
--- the offset of the token at a place
 abbrev pub offset_of : List ℕ → ℕ → Option ℕ
 offset_of text place = option_map (λ token. token.at) (slice_get (tokens text) place)

@@ -1,4 +1,5 @@
 use Rattle.std.proofs.Common.{◌<◌, ap, ◌∙◌, subst, length, arith}
+use Rattle.ghost_model.specs.laws.ShortWords as short
 use Rattle.ghost_model.specs.forms.Layout as layout
 use Rattle.flash_layout.specs.Limits.{HasLayout}
 use Rattle.climbing_index.proofs.LevelFiles.{one_more}
@@ -14,7 +15,7 @@ level_file-requires c =
 
 pub loop-level-preserved : goal.loop-level-preserved
 loop-level-preserved c = record {
-  so_far = one_more (layout.index_level c.args.laid.now c.args.table c.args.column) c.loop-level.level c.loop-level.levels.items c.push.new.self.items c.level_file.result
+  so_far = one_more (short.index_level c.args.laid.now c.args.table c.args.column) c.loop-level.level c.loop-level.levels.items c.push.new.self.items c.level_file.result
       c.push.ensures.items c.loop-level.invariant.so_far (c.level_file.ensures.file ∙ c.index_level.ensures.run);
   room = omega (arith, c.push.ensures.len, c.loop-level.invariant.room);
 }

@@ -1,4 +1,5 @@
 use Rattle.std.proofs.Common.{◌≡◌, sym, subst, refl, Err, arith, rules}
+use Rattle.ghost_model.specs.laws.ShortWords as short
 use Rattle.ghost_model.specs.forms.Layout as layout
 use Rattle.ghost_model.specs.laws.LayoutSums as sums
 use Rattle.flash_build.specs.Building.{Wrote}
@@ -17,12 +18,12 @@ returns-in_err-write_column-clause-wrote g c =
     let column = c.loop-column.column in
     let same : c.from_residual.result ≡ Err c.in_err-write_column.field-0.0 = search rules in
     let ends =
-    column_ends cat c.args.table column (layout.column_count cat.schema c.args.table)
+    column_ends cat c.args.table column (short.column_count cat.schema c.args.table)
     (omega (arith, c.loop-column-test.true, c.columns-column-end.ensures.count)) in
     let step = wrote_after (Err c.in_err-write_column.field-0.0) (omega arith) (omega arith) c.loop-column.invariant.wrote c.in_err-write_column.ensures.wrote in
-    subst (λ r. Wrote (sums.table_begin cat c.args.table) (sums.subtree_begin cat c.args.table) (layout.columns_pages cat c.args.table)
+    subst (λ r. Wrote (sums.table_begin cat c.args.table) (sums.subtree_begin cat c.args.table) (sums.columns_pages cat c.args.table)
     (g.F.Flash.state c.args.flash.now) (g.F.Flash.state c.write_column.new.flash) r) (sym same)
-    (fails c.in_err-write_column.field-0.0 step (sums.table_begin cat c.args.table) (sums.subtree_begin cat c.args.table) (layout.columns_pages cat c.args.table) (omega arith) (omega (arith, ends)) (omega (arith, ends)))
+    (fails c.in_err-write_column.field-0.0 step (sums.table_begin cat c.args.table) (sums.subtree_begin cat c.args.table) (sums.columns_pages cat c.args.table) (omega arith) (omega (arith, ends)) (omega (arith, ends)))
 
 pub loop-column-preserved : goal.loop-column-preserved
 loop-column-preserved g c =

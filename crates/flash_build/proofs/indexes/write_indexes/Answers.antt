@@ -1,4 +1,5 @@
 use Rattle.std.proofs.Common.{◌≡◌, ◌<◌, sym, subst, refl, Err, arith, rules}
+use Rattle.ghost_model.specs.laws.ShortWords as short
 use Rattle.ghost_model.specs.forms.Layout as layout
 use Rattle.ghost_model.specs.laws.LayoutSums as sums
 use Rattle.ghost_model.specs.laws.WorkLaws.{indexes_written}
@@ -19,13 +20,13 @@ returns-in_err-write_any-clause-wrote g c =
     let column = c.loop-column.column in
     let e = c.in_err-write_any.field-0.0 in
     let same : c.from_residual.result ≡ Err e = search rules in
-    let less : column < layout.column_count cat.schema table = omega (arith, c.loop-column-test.true, c.columns-column-end.ensures.count) in
-    let ends = index_ends cat table column (layout.column_count cat.schema table) less in
-    let rise = written_rise cat c.args.hidden.now table column (layout.column_count cat.schema table) less in
+    let less : column < short.column_count cat.schema table = omega (arith, c.loop-column-test.true, c.columns-column-end.ensures.count) in
+    let ends = index_ends cat table column (short.column_count cat.schema table) less in
+    let rise = written_rise cat c.args.hidden.now table column (short.column_count cat.schema table) less in
     let step = wrote_after (Err e) (omega arith) (omega arith) c.loop-column.invariant.wrote c.in_err-write_any.ensures.wrote in
-    subst (λ r. Wrote (sums.indexes_begin cat table) (sums.id_index_begin cat table) (indexes_written cat c.args.hidden.now table (layout.column_count cat.schema table))
+    subst (λ r. Wrote (sums.indexes_begin cat table) (sums.id_index_begin cat table) (indexes_written cat c.args.hidden.now table (short.column_count cat.schema table))
     (g.F.Flash.state c.args.flash.now) (g.F.Flash.state c.write_any.new.flash) r) (sym same)
-    (fails e step (sums.indexes_begin cat table) (sums.id_index_begin cat table) (indexes_written cat c.args.hidden.now table (layout.column_count cat.schema table)) (omega arith) (omega (arith, ends)) (omega (arith, rise)))
+    (fails e step (sums.indexes_begin cat table) (sums.id_index_begin cat table) (indexes_written cat c.args.hidden.now table (short.column_count cat.schema table)) (omega arith) (omega (arith, ends)) (omega (arith, rise)))
 
 pub loop-column-preserved : goal.loop-column-preserved
 loop-column-preserved g c =

@@ -3,7 +3,7 @@ use Rattle.edge_traits.specs.Devices.{Counts}
 use Rattle.edge_traits.proofs.DeviceFrames.{counts_none, counts_next}
 use Rattle.flash_build.proofs.Writes.{changes_same, counts_as}
 use Rattle.flash_build.proofs.CatalogPages.{blank_place, holds_more, changes_down}
-use Rattle.ghost_model.specs.forms.Work.{catalog_pages}
+use Rattle.ghost_model.specs.laws.ShortWords.{catalog_pages}
 use Rattle.flash_build.proofs.sealing.write_later_pages.Goals as goal
 
 pub loop-left-init : goal.loop-left-init

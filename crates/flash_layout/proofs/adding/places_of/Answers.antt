@@ -10,6 +10,6 @@ returns-clause-most c =
     let small = laid.few.table_begin (c.args.table + 1) (omega (arith, few, c.requires.there)) in
     let cat = c.args.cat.now in
     let table = c.args.table in
-    let begin : c.index_begins-indexes.result.after ≡ sums.table_begin cat table + layout.columns_pages cat table + sums.subtree_pages cat table + sums.indexes_pages cat table = c.index_begins-indexes.ensures.after in
-    let next : sums.table_begin cat (table + 1) ≡ sums.table_begin cat table + (layout.columns_pages cat table + (sums.subtree_pages cat table + (sums.indexes_pages cat table + sums.id_index_pages cat table))) = laid.order.next_table table in
+    let begin : c.index_begins-indexes.result.after ≡ sums.table_begin cat table + sums.columns_pages cat table + sums.subtree_pages cat table + sums.indexes_pages cat table = c.index_begins-indexes.ensures.after in
+    let next : sums.table_begin cat (table + 1) ≡ sums.table_begin cat table + (sums.columns_pages cat table + (sums.subtree_pages cat table + (sums.indexes_pages cat table + sums.id_index_pages cat table))) = laid.order.next_table table in
     omega (arith, begin, next, small, c.id_index_pages.ensures.value)

@@ -1,5 +1,6 @@
 use Rattle.std.proofs.Common.{refl}
-use Rattle.ghost_model.specs.core.Schema.{places_from, children_from}
+use Rattle.ghost_model.specs.core.Schema.{places_from}
+use Rattle.ghost_model.specs.laws.SchemaLaws.{children_from}
 use Rattle.ghost_model.proofs.cells.tree_of_the_clinic.Goals as goal
 
 pub returns : goal.returns

@@ -1,7 +1,8 @@
 use Rattle.std.proofs.Common.{◌≡◌, ℕ, zero, suc, ◌<◌, Option, Some, List, [], ◌∷◌, ◌++◌, length, take, sym, ◌∙◌, ap, subst, refl, arith, add-one}
 use Rattle.ghost_model.specs.core.Channel.{Catalog, Move, Answer, Entry, Journal}
 use Rattle.ghost_model.specs.core.Asks.{NumberedAsk}
-use Rattle.ghost_model.specs.core.Moves.{moves, answers}
+use Rattle.ghost_model.specs.core.Moves.{answers}
+use Rattle.ghost_model.specs.laws.ShortWords.{moves}
 use Rattle.ghost_model.specs.core.NextMove.{GoesOn, next_with}
 use Rattle.ghost_model.proofs.channel.two_worlds.Goals as goal
 

@@ -1,8 +1,7 @@
 use Rattle.std.proofs.Common.{refl, inl, inr, arith}
-use Rattle.ghost_model.specs.forms.Layout.{first_page}
+use Rattle.ghost_model.specs.forms.Layout.{first_page, Cells, IndexDirectory}
 use Rattle.ghost_model.specs.core.Schema.{places_from, ancestor}
 use Rattle.ghost_model.specs.forms.Runs.{number_in, record_at, found_in}
-use Rattle.ghost_model.specs.forms.Slots.{Cells, IndexDirectory}
 use Rattle.ghost_model.proofs.flash.damaged_slots.Goals as goal
 
 pub returns : goal.returns

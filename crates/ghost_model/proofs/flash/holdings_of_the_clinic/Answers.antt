@@ -9,10 +9,11 @@ use Rattle.std.proofs.lemmas.Bool.Decides.{nat_tests}
 use Rattle.ghost_model.specs.core.Schema.{places_from, ancestor}
 use Rattle.ghost_model.specs.core.Database.{leads_within}
 use Rattle.ghost_model.specs.forms.Runs.{number_cell, record_at, records_in, Stores}
-use Rattle.ghost_model.specs.forms.Layout.{levels_of, above_of, is_hidden, column_file, subtree_table, index_header, index_directory, index_level, id_directory, id_level, first_page}
-use Rattle.ghost_model.specs.forms.Flash.{HoldsCatalog, HoldsColumns, HoldsSubtrees, HoldsIndex, HoldsIndexes, HoldsIdIndexes, AreValues, catalog_page, hidden_cells, subtree_record, ids, directory_records, value_lists, id_lists, list_records}
+use Rattle.ghost_model.specs.forms.Layout.{levels_of, above_of, is_hidden, first_page}
+use Rattle.ghost_model.specs.laws.ShortWords.{column_file, subtree_table, index_header, index_directory, index_level, id_directory, id_level}
+use Rattle.ghost_model.specs.forms.Flash.{HoldsCatalog, HoldsColumns, HoldsSubtrees, HoldsIndex, HoldsIdIndexes, AreValues, catalog_page, hidden_cells, subtree_record, ids, directory_records, value_lists, id_lists, list_records}
 use Rattle.ghost_model.specs.examples.Clinic.{clinic_schema, clinic_catalog}
-use Rattle.ghost_model.specs.examples.Flash.{hidden_clinic, countries, names, purposes, doctors, key, doctor_files, patient_files, visit_files, filled, clinic_page}
+use Rattle.ghost_model.specs.examples.Flash.{hidden_clinic, countries, names, purposes, doctors, key, doctor_files, patient_files, visit_files, filled, clinic_page, changed}
 use Rattle.ghost_model.proofs.flash.holdings_of_the_clinic.Goals as goal
 
 once : (P : ℕ → Type 0) → P 0 → (i : ℕ) → i < 1 → P i
@@ -167,7 +168,7 @@ patient_index = record {
   };
 }
 
-indexes : HoldsIndexes clinic_page clinic_catalog hidden_clinic
+indexes : (table column : ℕ) → is_hidden clinic_catalog.schema table column ≡ true → HoldsIndex clinic_page clinic_catalog hidden_clinic table column
 indexes = of_hidden (HoldsIndex clinic_page clinic_catalog hidden_clinic) country_index name_index purpose_index doctor_index patient_index
 
 id_indexes : HoldsIdIndexes clinic_page clinic_catalog hidden_clinic
@@ -185,12 +186,32 @@ id_indexes (suc zero) low h = record {
 id_indexes (suc (suc zero)) low h = absurd (cc (h))
 id_indexes (suc (suc (suc table))) low h = absurd (omega (arith, low))
 
+-- the directory of the index of doctor.country begins with a country, FR or ES, whatever its values are
+begins_otherwise : (value rest : List ℕ) (k : ℕ) → k < 3 → slice_index_or (hidden_cells clinic_schema hidden_clinic 0 2) k value ≡ value → 0 ≡ slice_index (value ++ rest) 0 → ⊥
+unfolding places_from
+begins_otherwise value rest zero low is clash = let begins : 70 ≡ slice_index (value ++ rest) 0 = ap (λ bytes. slice_index (bytes ++ rest) 0) is in omega (arith, begins, clash)
+begins_otherwise value rest (suc zero) low is clash = let begins : 69 ≡ slice_index (value ++ rest) 0 = ap (λ bytes. slice_index (bytes ++ rest) 0) is in omega (arith, begins, clash)
+begins_otherwise value rest (suc (suc zero)) low is clash = let begins : 69 ≡ slice_index (value ++ rest) 0 = ap (λ bytes. slice_index (bytes ++ rest) 0) is in omega (arith, begins, clash)
+begins_otherwise value rest (suc (suc (suc k))) low is clash = omega (arith, low)
+
+another_entry : (values : List (List ℕ)) → AreValues (hidden_cells clinic_schema hidden_clinic 0 2) values
+    → ((i : ℕ) → i < length values
+    → record_at (changed 66 0) (record (index_directory clinic_catalog 0 2) { count = length values }) i
+    ≡ get_or (directory_records values (levels_of clinic_schema 0) (value_lists clinic_catalog hidden_clinic 0 2 values)) i [])
+    → ⊥
+unfolding places_from ancestor leads_within record_at first_page
+another_entry [] are each = let there : Contains [] (70 ∷ 82 ∷ []) = are.all (70 ∷ 82 ∷ []) (0, omega arith, refl) in let low = there.1 in omega (arith, low)
+another_entry (value ∷ values) are each =
+    let there : Contains (hidden_cells clinic_schema hidden_clinic 0 2) value = are.only value (0, omega arith, refl) in
+    begins_otherwise value _ there.0 there.1 there.2 (ap (λ bytes. slice_index bytes 0) (each 0 (omega arith)))
+
 pub returns : goal.returns
 unfolding places_from ancestor leads_within record_at digits first_page
 returns c = record {
   whole = record { catalog = catalog; files = record { columns = columns; subtrees = subtrees; indexes = indexes; id_indexes = id_indexes } };
   another_catalog = λ h. let clash : 0 ≡ 71 = ap (λ bytes. slice_index bytes 0) (h.catalog 0 (omega arith)) in absurd (omega (arith, clash));
   another_country = λ h. let clash : 0 ≡ 70 = ap (λ bytes. slice_index bytes 0) ((h.files.columns 0 2 refl).has.each 0 (omega arith)) in absurd (omega (arith, clash));
+  another_entry_of_an_index = λ h. let index = h.files.indexes 0 2 refl in another_entry index.values index.are_values index.entries.places.has.each;
   another_place_of_visits = λ h. let clash : 1 ≡ 0 = ap (λ bytes. slice_index bytes 0) ((h.files.id_indexes 0 (omega arith) refl).places.has.each 0 (omega arith)) in absurd (omega (arith, clash));
   another_visit_of_a_doctor = λ h. let clash : 1 ≡ 0 = ap (λ bytes. slice_index bytes 0) (((h.files.id_indexes 0 (omega arith) refl).levels 0 (omega arith)).has.each 0 (omega arith)) in absurd (omega (arith, clash));
   another_doctor = λ h. let clash : 1 ≡ 0 = ap (λ bytes. slice_index bytes 0) ((h.files.subtrees 2 (omega arith) refl).has.each 0 (omega arith)) in absurd (omega (arith, clash));

@@ -2,7 +2,7 @@ use Rattle.std.proofs.Common.{◌≡◌, refl, ap, ℕ, zero, suc, ◌<◌, List
 use Rattle.std.specs.Fmt.{digits}
 use Rattle.ghost_model.specs.core.Schema.{places_from, ancestor}
 use Rattle.ghost_model.specs.forms.Runs.{Run, record_at, HasBlankRest}
-use Rattle.ghost_model.specs.forms.Layout.{column_file}
+use Rattle.ghost_model.specs.laws.ShortWords.{column_file}
 use Rattle.ghost_model.specs.forms.Flash.{hidden_cells}
 use Rattle.ghost_model.specs.examples.Clinic.{clinic_schema, clinic_catalog}
 use Rattle.ghost_model.specs.examples.Flash.{hidden_clinic, country_page}

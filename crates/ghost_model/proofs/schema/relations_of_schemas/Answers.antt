@@ -1,7 +1,7 @@
 use Rattle.std.proofs.Common.{◌≡◌, ℕ, List, codes, Result, Ok, Err, refl}
 use Rattle.ghost_model.specs.core.Schema.{places_from, ancestor}
 use Rattle.ghost_model.specs.refusals.Tokens.{tokens_from, quoted_from}
-use Rattle.ghost_model.specs.readings.SchemaPlaces.{syntax_from, syntax_of}
+use Rattle.ghost_model.specs.readings.SchemaPlaces.{syntax_from, schema_syntax_of}
 use Rattle.ghost_model.specs.refusals.SchemaFaults.{DuplicateName, NoId, NotOneRoot, fields_from}
 use Rattle.ghost_model.specs.readings.SchemaReading.{schema_reading}
 use Rattle.ghost_model.specs.examples.Clinic.{clinic_schema}
@@ -24,7 +24,7 @@ twice_reads : schema_reading twice ≡ Err (DuplicateName 0 1)
 unfolding tokens_from quoted_from syntax_from places_from ancestor fields_from
 twice_reads = refl
 
-broken_reads : syntax_of broken ≡ Err 16
+broken_reads : schema_syntax_of broken ≡ Err 16
 unfolding tokens_from quoted_from syntax_from
 broken_reads = refl
 
@@ -41,7 +41,7 @@ returns c = record {
   the_first_fault = (one_schema.refused twice (DuplicateName 0 1)).0 twice_reads;
   no_later_fault = λ f. other_rule (same_told (schema_reading twice) (DuplicateName 0 1) (NoId 0) twice_reads ((one_schema.refused twice (NoId 0)).1 f));
   a_syntax_fault = (schema_places.fault broken 16).0 broken_reads;
-  at_no_other_token = λ f. let same : 16 ≡ 15 = same_told (syntax_of broken) 16 15 broken_reads ((schema_places.fault broken 15).1 f) in absurd (cc);
+  at_no_other_token = λ f. let same : 16 ≡ 15 = same_told (schema_syntax_of broken) 16 15 broken_reads ((schema_places.fault broken 15).1 f) in absurd (cc);
   bytes_within = refl;
   one_byte_over = refl;
 }

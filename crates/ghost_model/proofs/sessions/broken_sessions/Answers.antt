@@ -14,4 +14,4 @@ use Rattle.ghost_model.proofs.sessions.broken_sessions.Goals as goal
 
 pub returns : goal.returns
 unfolding digits encode_with decode_pairs rows_from tests_in places_from hear_all rows_fit tokens_from quoted_from read_from combinations replies_from AreReplies
-returns c = record { ended = refl; ended_is_proper = (refl, (refl, (refl, (refl, (refl, (refl, (refl, (refl, tt)))))))); invalid = refl; invalid_is_proper = (refl, (refl, (refl, (refl, (refl, (refl, (refl, (refl, tt)))))))) }
+returns c = record { ended = refl; ended_is_proper = (refl, (refl, (refl, (refl, (refl, (refl, (refl, (refl, tt)))))))); invalid = refl; invalid_is_proper = (refl, (refl, (refl, (refl, (refl, (refl, (refl, (refl, tt)))))))); zero = refl; zero_is_proper = (refl, (refl, (refl, (refl, (refl, (refl, (refl, (refl, tt)))))))) }

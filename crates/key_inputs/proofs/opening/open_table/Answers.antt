@@ -1,7 +1,8 @@
 use Rattle.std.proofs.Common.{◌≡◌, true, [], ◌∙◌, subst}
 use Rattle.ghost_model.specs.core.Database.{records_of}
 use Rattle.ghost_model.specs.core.Schema.{columns_of}
-use Rattle.ghost_model.specs.refusals.LoadFaults.{TellsFirst, file_faults}
+use Rattle.ghost_model.specs.refusals.LoadFaults.{file_faults}
+use Rattle.ghost_model.specs.laws.LoadLaws.{TellsFirst}
 use Rattle.csv_split.specs.Faults.{told}
 use Rattle.edge_traits.specs.Files.{HasFile}
 use Rattle.key_inputs.specs.Openings.{table_file}

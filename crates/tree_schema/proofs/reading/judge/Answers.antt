@@ -2,7 +2,7 @@ use Rattle.std.proofs.Common.{◌≡◌, rules, Ok, None, map, sym, ap, ◌∙�
 use Rattle.ghost_model.specs.refusals.SchemaMeaning as meaning
 use Rattle.ghost_model.specs.refusals.Rules.{first_broken}
 use Rattle.ghost_model.specs.refusals.SchemaFaults as faults
-use Rattle.ghost_model.specs.readings.SchemaReading.{judged, schema_or}
+use Rattle.ghost_model.specs.readings.SchemaReading.{schema_judged, schema_or}
 use Rattle.tree_schema.specs.Drafts.{table_of}
 use Rattle.tree_schema.specs.Faults.{fault_of_tree}
 use Rattle.tree_schema.specs.Views as views
@@ -22,7 +22,7 @@ of-requires c =
     record {
       declared = record {
         text = c.requires.spelled.text;
-        means = ap judged c.requires.spelled.reads ∙ ap (schema_or (meaning.schema_of (map table_of c.args.drafts.now))) decided ∙ ap Ok (sym c.tables_of-tables.ensures.tables);
+        means = ap schema_judged c.requires.spelled.reads ∙ ap (schema_or (meaning.schema_of (map table_of c.args.drafts.now))) decided ∙ ap Ok (sym c.tables_of-tables.ensures.tables);
       };
     }
 

@@ -2,19 +2,20 @@ use Rattle.std.proofs.Common.{◌≡◌, ℕ, false, [], Option, Some, None, map
 use Rattle.std.proofs.lemmas.Option.{slice_get_past}
 use Rattle.ghost_model.specs.refusals.SchemaGrammar.{ColumnDeclaration, TableText, SchemaText}
 use Rattle.ghost_model.specs.refusals.SchemaMeaning.{columns_written}
+use Rattle.ghost_model.specs.laws.ShortWords as short
 use Rattle.ghost_model.specs.refusals.SchemaFaults as faults
 use Rattle.tree_schema.specs.Drafts.{column_of, table_of}
 use Rattle.tree_schema.specs.Faults.{field_at}
 use Rattle.tree_schema.proofs.RuleSteps.{item_at, no_item, mapped_item}
 use Rattle.tree_schema.proofs.rules.is_unknown.Goals as goal
 
-known_nowhere : (tables : SchemaText) (table column : ℕ) → slice_get tables table ≡ None → faults.is_unknown tables (field_at table column) ≡ false
+known_nowhere : (tables : SchemaText) (table column : ℕ) → slice_get tables table ≡ None → short.is_unknown tables (field_at table column) ≡ false
 known_nowhere tables table column e =
     ap (λ o. faults.refers_nowhere tables (slice_get (faults.columns_at o) column)) e
     ∙ ap (faults.refers_nowhere tables) (slice_get_past {X = ColumnDeclaration} [] column (omega arith))
 
 unknown_at : (tables : SchemaText) (table column : ℕ) (t : TableText) (found : Option ColumnDeclaration) → slice_get tables table ≡ Some t → slice_get (columns_written t) column ≡ found
-    → faults.is_unknown tables (field_at table column) ≡ faults.refers_nowhere tables found
+    → short.is_unknown tables (field_at table column) ≡ faults.refers_nowhere tables found
 unknown_at tables table column t found e f =
     ap (λ o. faults.refers_nowhere tables (slice_get (faults.columns_at o) column)) e ∙ ap (faults.refers_nowhere tables) f
 

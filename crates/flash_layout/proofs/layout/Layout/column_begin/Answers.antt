@@ -1,5 +1,6 @@
 use Rattle.std.proofs.Common.{◌≡◌, ◌∙◌, ap, length, arith}
 use Rattle.std.proofs.lemmas.List.FromFn.{length-map-range_with_len}
+use Rattle.ghost_model.specs.laws.ShortWords as short
 use Rattle.ghost_model.specs.forms.Layout as layout
 use Rattle.ghost_model.specs.laws.LayoutSums as sums
 use Rattle.flash_layout.proofs.ByPlace.{at_place}
@@ -10,8 +11,8 @@ bounds-deref-column c =
     let cat = c.args.self.now in
     let table = c.args.table in
     let there = c.laws.ensures.layout.order.there_are table c.args.column c.requires.hidden in
-    let count : length c.deref.result.now ≡ layout.column_count cat.schema table =
-    ap length (c.deref.ensures.0 ∙ c.places.ensures.places.columns) ∙ length-map-range_with_len (sums.column_begin cat table) 0 (layout.column_count cat.schema table) in
+    let count : length c.deref.result.now ≡ short.column_count cat.schema table =
+    ap length (c.deref.ensures.0 ∙ c.places.ensures.places.columns) ∙ length-map-range_with_len (sums.column_begin cat table) 0 (short.column_count cat.schema table) in
     omega (arith, there.1, count)
 
 pub returns : goal.returns
@@ -19,4 +20,4 @@ returns c =
     let cat = c.args.self.now in
     let table = c.args.table in
     let there = c.laws.ensures.layout.order.there_are table c.args.column c.requires.hidden in
-    record { value = at_place (sums.column_begin cat table) (layout.column_count cat.schema table) c.args.column c.deref.result.now 0 (c.deref.ensures.0 ∙ c.places.ensures.places.columns) there.1 }
+    record { value = at_place (sums.column_begin cat table) (short.column_count cat.schema table) c.args.column c.deref.result.now 0 (c.deref.ensures.0 ∙ c.places.ensures.places.columns) there.1 }
