@@ -21,3 +21,9 @@ abbrev pub CallsAtFault : {T : Type 0} → (before now : ℕ) → Result T PageF
 CallsAtFault before now (Ok value) = ⊤
 CallsAtFault before now (Err Flash) = Rose before now
 CallsAtFault before now (Err (Damaged page slot found)) = ⊤
+
+-- where a slot is blamed no call was made
+abbrev pub QuietAtDamage : {T : Type 0} → (before now : ℕ) → Result T PageFault → Type 0
+QuietAtDamage before now (Ok value) = ⊤
+QuietAtDamage before now (Err Flash) = ⊤
+QuietAtDamage before now (Err (Damaged page slot found)) = now ≡ before
