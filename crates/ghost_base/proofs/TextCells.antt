@@ -1,9 +1,8 @@
 -- A text and the zero bytes after it spell that text and no other.
-use Rattle.std.proofs.Common.{◌≡◌, ◌-◌, ℕ, nat_eq, take, suc, zero, ◌≤◌, true, ◌==◌, List, [], ◌∷◌, ◌++◌, length, drop, replicate, IsTrue, refl, sym, ap, ◌∙◌, arith, eqb-true, take-append-drop, length-append, length-drop}
+use Rattle.std.proofs.Common.{◌≡◌, ◌-◌, ℕ, suc, zero, ◌≤◌, true, ◌==◌, List, [], ◌∷◌, ◌++◌, length, drop, replicate, IsTrue, refl, sym, ap, ◌∙◌, arith, eqb-true, take-append-drop, length-append, length-drop}
 use Rattle.std.specs.List.{list_all, prefix_len}
 use Rattle.std.specs.Cmp.{first_so, second_so}
-use Rattle.std.specs.Cmp.Lexicographic.{pointwise}
-use Rattle.std.proofs.lemmas.List.{take-replicate, drop-replicate}
+use Rattle.std.proofs.lemmas.List.{drop-replicate}
 use Rattle.std.proofs.lemmas.List.Sums.{take_while-cons}
 use Rattle.std.proofs.lemmas.List.Folds.{length-prefix_len}
 use Rattle.std.proofs.lemmas.Bool.Decides.{nat_tests}
@@ -36,17 +35,9 @@ drop_front (x ∷ xs) ys = drop_front xs ys
 pub padded_is_text_cell : (text : List ℕ) (n : ℕ) → IsTrue (list_all is_printable text) → is_text_cell (text ++ replicate n 0) ≡ true
 padded_is_text_cell text n h = rw (text_of_padded text n h, h, drop_front text (replicate n 0), padding_is_zero n) refl
 
-pointwise_zeros : (xs : List ℕ) → pointwise nat_eq xs (replicate (length xs) 0) ≡ list_all (λ byte. byte == 0) xs
-pointwise_zeros [] = refl
-pointwise_zeros (x ∷ xs) = rw (pointwise_zeros xs) refl
-
 -- behind some of 64 zero bytes the others are zero
 pub zeros_behind : (n : ℕ) → drop {A = ℕ} n (replicate 64 0) ≡ replicate (64 - n) 0
 zeros_behind n = drop-replicate n 64 0
-
--- bytes are zero where they are like as many zero bytes
-pub like_zeros : (xs : List ℕ) → length xs ≤ 64 → pointwise nat_eq xs (take (length xs) (replicate 64 0)) ≡ list_all (λ byte. byte == 0) xs
-like_zeros xs short = ap (λ zero_bytes. pointwise nat_eq xs zero_bytes) (take-replicate (length xs) 64 0 short) ∙ pointwise_zeros xs
 
 zeros : (xs : List ℕ) → list_all (λ byte. byte == 0) xs ≡ true → xs ≡ replicate (length xs) 0
 zeros [] h = refl
