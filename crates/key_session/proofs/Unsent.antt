@@ -321,10 +321,10 @@ module _ (catalog : Catalog) (at : List ℕ) (asks : List NumberedAsk) where
       ap (λ (l : Standing). l.stopped) more
       ∙ neither_over l.stopped (is_stop made.answer)
       (λ (stopped : l.stopped ≡ true).
-          let close : made.move ≡ Close = closes_stopped journal made.move stopped (made_by [] journal made goes) in
-          let new : Standing = standing_after catalog asks (journal ++ made ∷ []) in
-          none_closed new.opened new.closed at _ move (ap (λ (l : Standing). l.opened) more)
-          (ap (λ (l : Standing). l.closed) more ∙ second_over l.closed (is_close made.move) (is_close_of made.move close)) next)
+      let close : made.move ≡ Close = closes_stopped journal made.move stopped (made_by [] journal made goes) in
+      let new : Standing = standing_after catalog asks (journal ++ made ∷ []) in
+      none_closed new.opened new.closed at _ move (ap (λ (l : Standing). l.opened) more)
+      (ap (λ (l : Standing). l.closed) more ∙ second_over l.closed (is_close made.move) (is_close_of made.move close)) next)
       answered
 
 -- ---- no ask of the text was ended
