@@ -13,3 +13,4 @@ pub mod IdEntries
 pub mod ValueEntries
 pub mod FirstLevels
 pub mod TextHeads
+pub mod ShortTexts

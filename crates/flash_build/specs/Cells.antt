@@ -1,5 +1,5 @@
 -- The cells of a hidden column, as its values stand in the hidden part: at one place of each row.
-use Rattle.std.specs.Prelude.{◌≡◌, ℕ, ℤ, ◌≤◌, List, [], map, Option, Some, None, option_and_then, slice_get, IsTrue}
+use Rattle.std.specs.Prelude.{◌≡◌, ℕ, ℤ, ◌≤◌, List, [], length, map, Option, Some, None, option_and_then, slice_get, IsTrue}
 use Rattle.std.specs.Option.{option_map_or}
 use Rattle.ghost_model.specs.core.Schema.{Kind}
 use Rattle.csv_split.specs.declared.cells.Cells.{Cells}
@@ -31,3 +31,7 @@ ReadAsNumbers (Some (cells.Texts held)) numbers = numbers ≡ []
 -- each of some byte lists is a text of at most so many characters
 abbrev pub AreTexts : (most : ℕ) → (texts : List (List ℕ)) → Type 0
 AreTexts most texts = (place : ℕ) (text : List ℕ) → slice_get texts place ≡ Some text → IsTrue (is_text most text)
+
+-- no byte list is longer than a head
+abbrev pub AreShort : (texts : List (List ℕ)) → Type 0
+AreShort texts = (place : ℕ) (text : List ℕ) → slice_get texts place ≡ Some text → length text ≤ 8

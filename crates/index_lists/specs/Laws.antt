@@ -13,7 +13,7 @@ use Rattle.ghost_model.specs.forms.Runs.{number_cell}
 use Rattle.ghost_model.specs.forms.Layout.{count_of}
 use Rattle.ghost_model.specs.forms.Flash.{IsHidden, ids, hidden_cells, leads_to, value_lists, id_lists, list_place, AreValues}
 use Rattle.index_lists.specs.Ranks.{AreRanks, identifier_of, number_cells, of_referred}
-use Rattle.index_lists.specs.Numbering.{InOrder}
+use Rattle.index_lists.specs.Numbering.{InOrder, front, head_of}
 use Rattle.index_lists.specs.Lists.{AreListed, lists_of, start_of}
 
 -- each row of a table leads to a row of a table below it, or to itself
@@ -91,3 +91,9 @@ KeyOrdersAreLists =
     (keys : List ℤ) (count : ℕ) (rows : List ℕ) → count < 2 ^ 32
     → All (λ key. IsTrue (is_row_among count (Number key))) keys → InOrder (number_cells keys) rows
     → AreListed (map (λ identifier. identifier - 1) (map identifier_of keys)) count rows
+
+-- cells with one head begin with the same eight bytes
+abbrev pub HeadsShowFronts : Type 0
+HeadsShowFronts =
+    (one other : List ℕ) → All (λ byte. byte < 256) one → All (λ byte. byte < 256) other
+    → head_of one ≡ head_of other → front 8 one ≡ front 8 other

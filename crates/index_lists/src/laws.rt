@@ -1,6 +1,6 @@
 //! The laws of lists by ranks.
 
-ghost use Rattle.index_lists.specs.Laws.{ValueListsByRanks, IdListsByRanks, LevelsCompose, ListsStandBetween, RowsLeadToThemselves, RowsLeadByKeys, LeadsGoOn, KeyOrdersAreLists};
+ghost use Rattle.index_lists.specs.Laws.{ValueListsByRanks, IdListsByRanks, LevelsCompose, ListsStandBetween, RowsLeadToThemselves, RowsLeadByKeys, LeadsGoOn, KeyOrdersAreLists, HeadsShowFronts};
 
 use ghost_base::laws::cell_order_is_value_order;
 
@@ -45,3 +45,8 @@ pub fn key_orders_are_lists()
 {
     cell_order_is_value_order();
 }
+
+/// Cells with one head begin with the same eight bytes.
+pub fn heads_show_fronts()
+    ensures { HeadsShowFronts }
+{}
