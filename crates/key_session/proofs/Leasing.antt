@@ -143,6 +143,7 @@ made_with before now old worked b later lease another frame last due.Slice made 
   pump = made.pump;
   turn = made.turn;
   few = made.few;
+  counted = made.counted;
   kept = made.kept;
   fewer = made.fewer;
   sliced = made.sliced;
