@@ -1,12 +1,12 @@
 -- A session that is under way.
-use Rattle.std.specs.Prelude.{◌≡◌, ◌≢◌, ℕ, ⊤, ◌≤◌, ◌<◌, ◌+◌, ◌-◌, ◌*◌, ◌%◌, ◌&&◌, ◌||◌, nat_lt, nat_le, Bool, true, false, not, List, [], ◌∷◌, ◌++◌, length, get_or, count_by, slice_get, Option, None, Some, Ok, is_some, option_map, if◌then◌else◌}
+use Rattle.std.specs.Prelude.{◌≡◌, ◌≢◌, ℕ, ⊤, ◌≤◌, ◌<◌, ◌+◌, ◌*◌, ◌%◌, ◌&&◌, ◌||◌, nat_lt, nat_le, Bool, true, false, not, List, [], ◌∷◌, ◌++◌, length, get_or, count_by, slice_get, Option, None, Some, Ok, is_some, option_map, if◌then◌else◌}
 use Rattle.ghost_model.specs.core.Query.{Query}
 use Rattle.ghost_model.specs.readings.QueryReading.{reading}
 use Rattle.ghost_model.specs.core.Channel.{Catalog, Journal, Entry}
 use Rattle.ghost_model.specs.core.Asks.{NumberedAsk, asked_of}
 use Rattle.ghost_model.specs.core.NextMove.{standing_after, heard}
 use Rattle.ghost_model.specs.core.Replies.{replies}
-use Rattle.edge_traits.specs.Devices.{Device, Counts as CountsCalls}
+use Rattle.edge_traits.specs.Devices.{Device}
 use Rattle.page_pool.specs.Pools.{Pool, IsIdle, IsOut, bytes_at, others_out}
 use Rattle.visible_spool.specs.declared.half.Half.{Half}
 use Rattle.key_lines.specs.Handing.{Handed}
@@ -21,7 +21,7 @@ use Rattle.channel_pump.specs.declared.state.ReplyState.TheVariants as state_is
 use Rattle.channel_pump.specs.Sessions as moves
 use Rattle.key_session.specs.Filling.{FillsPages}
 use Rattle.key_session.specs.Hearing.{WritesHalf, pages_on}
-use Rattle.key_session.specs.Spending.{CountsStay, SpendsCalls, spent_by}
+use Rattle.key_session.specs.Spending.{AreCountedBy, CountsStay, SpendsCalls, spent_by}
 use Rattle.key_session.specs.Kept.{is_lost, lease_of, with_lease}
 use Rattle.key_session.specs.declared.buffers.Buffers.{Buffers}
 use Rattle.key_session.specs.declared.buffers.Buffers.TheVariants as buffers
@@ -352,7 +352,7 @@ pub record MakesSlice (before after : SessionSide) (old new : Session) : Type 0 
   pub turn : TakesTurn before.sink after.sink before.flash.calls after.flash.calls
   pub few : after.flash.calls ≤ before.flash.calls + 8
   -- as long as the text goes on its job counts each of them
-  pub counted : is_some new.teller.running ≡ true → CountsCalls (spent_by new.teller.running - spent_by old.teller.running) before.flash.calls after.flash.calls
+  pub counted : is_some new.teller.running ≡ true → AreCountedBy (spent_by old.teller.running) (spent_by new.teller.running) before.flash.calls after.flash.calls
   pub kept : KeepsBy old.teller.plan old.cat.now before.flash after.flash
   pub fewer : left_of new.teller + 1 ≤ left_of old.teller
   pub sliced : IsSliced old.pace new.pace

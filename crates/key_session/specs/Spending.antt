@@ -1,5 +1,5 @@
 -- What is spent for the texts of a session: the calls of the flash that their jobs make, by the plan `pre`.
-use Rattle.std.specs.Prelude.{◌≡◌, ℕ, suc, ◌+◌, ◌≤◌, min, Bool, true, List, take, sum_by, slice_get, Option, Some, None, Ok}
+use Rattle.std.specs.Prelude.{◌≡◌, ℕ, suc, ◌+◌, ◌-◌, ◌≤◌, min, Bool, true, List, take, sum_by, slice_get, Option, Some, None, Ok}
 use Rattle.ghost_model.specs.core.Causes.{Rose, last_count}
 use Rattle.ghost_model.specs.core.Schema.{Schema}
 use Rattle.ghost_model.specs.core.Values.{Database}
@@ -12,7 +12,7 @@ use Rattle.ghost_model.specs.laws.ShortWords.{ended_of}
 use Rattle.ghost_model.specs.core.Replies.{replies}
 use Rattle.ghost_model.specs.core.Split.{public_of}
 use Rattle.ghost_model.specs.laws.SessionLaws.{whole_replies}
-use Rattle.edge_traits.specs.Devices.{Device}
+use Rattle.edge_traits.specs.Devices.{Device, Counts}
 use Rattle.key_exec.specs.Plans.{by_pre}
 use Rattle.key_exec.specs.Reading.{KnowsBy}
 use Rattle.key_exec.specs.Telling.{spent_of}
@@ -24,6 +24,11 @@ use Rattle.key_session.specs.declared.teller.Teller.{Teller}
 pub record CountsStay (before now : Device) : Type 0 where
   pub calls : min before.calls last_count ≤ now.calls
   pub faults : min before.faults last_count ≤ now.faults
+
+-- what a job counts rose by the calls of the flash
+pub record AreCountedBy (spent total before now : ℕ) : Type 0 where
+  pub rises : spent ≤ total
+  pub counts : Counts (total - spent) before now
 
 -- for the text that is told now, if there is one
 abbrev pub spent_by : Option Telling → ℕ

@@ -1,6 +1,6 @@
 //! A session, step by step.
 
-ghost use Rattle.std.specs.Prelude.{◌≡◌, ◌≢◌, ◌<◌, ◌≤◌, ◌+◌, ◌-◌, ◌*◌, ℕ, List, [], Bool, true, false, None, Some, is_some, min, length, option_map};
+ghost use Rattle.std.specs.Prelude.{◌≡◌, ◌≢◌, ◌<◌, ◌≤◌, ◌+◌, ◌*◌, ℕ, List, [], Bool, true, false, None, Some, is_some, min, length, option_map};
 ghost use Rattle.ghost_model.specs.core.Asks.{NumberedAsk, asked_of};
 ghost use Rattle.ghost_model.specs.core.Causes.{Rose, last_count};
 ghost use Rattle.ghost_model.specs.core.Channel as channel;
@@ -8,7 +8,7 @@ ghost use Rattle.ghost_model.specs.core.Channel.{Journal};
 ghost use Rattle.ghost_model.specs.core.Moves.{taken};
 ghost use Rattle.ghost_model.specs.core.NextMove.{heard, standing_after};
 ghost use Rattle.ghost_model.specs.core.Texts.{texts_of};
-ghost use Rattle.edge_traits.specs.Devices.{Device, ChangesOnly, Counts};
+ghost use Rattle.edge_traits.specs.Devices.{Device, ChangesOnly};
 ghost use Rattle.ghost_model.specs.forms.Layout as layout;
 ghost use Rattle.channel_pump.specs.Here.{moves_left};
 ghost use Rattle.channel_pump.specs.Marks.{asked_at};
@@ -35,7 +35,7 @@ ghost use Rattle.key_session.specs.declared.buffers.Buffers.TheVariants as buffe
 ghost use Rattle.key_session.specs.Order.{IsSliced, IsUnpaced, is_closed, is_first};
 ghost use Rattle.key_session.specs.Pacing.{RunsAtPace};
 ghost use Rattle.key_session.specs.Running.{is_sink, status_with, blames_flash, is_damaged, spares_flash};
-ghost use Rattle.key_session.specs.Spending.{CountsStay, SpendsCalls, spent_by};
+ghost use Rattle.key_session.specs.Spending.{AreCountedBy, CountsStay, SpendsCalls, spent_by};
 ghost use Rattle.key_session.specs.Telling.{SessionSide, session_side};
 
 use crate::Replies;
@@ -315,7 +315,7 @@ impl<'a> Session<'a> {
         ensures turn { TakesTurn (handed self.old.teller.printer.failed (O.faults out.old) (O.written out.old)) (handed self.new.teller.printer.failed (O.faults out.new) (O.written out.new))
             (F.state flash.old).calls (F.state flash.new).calls }
         ensures few { (F.state flash.new).calls ≤ (F.state flash.old).calls + 8 }
-        ensures counted { is_some self.new.teller.running ≡ true → Counts (spent_by self.new.teller.running - spent_by self.old.teller.running) (F.state flash.old).calls (F.state flash.new).calls }
+        ensures counted { is_some self.new.teller.running ≡ true → AreCountedBy (spent_by self.old.teller.running) (spent_by self.new.teller.running) (F.state flash.old).calls (F.state flash.new).calls }
         ensures kept { KeepsBy self.old.teller.plan self.old.cat.now (F.state flash.old) (F.state flash.new) }
         ensures spends { (texts : List (List ℕ)) (journal : Journal) (since : SessionSide) → IsNext self.old.cat.now texts journal self.old.pump (self.old.teller.count + 1)
             → IsLive by_pre F.told texts journal since (session_side self.old.teller.printer.failed (O.faults out.old) (O.written out.old) (F.state flash.old)) pool.old self.old

@@ -1,6 +1,6 @@
 //! The texts of a session, told one after another, a step at a time.
 
-ghost use Rattle.std.specs.Prelude.{◌≡◌, ◌<◌, ◌≤◌, ◌+◌, ◌-◌, ◌%◌, ℕ, List, Bool, true, false, length, is_some};
+ghost use Rattle.std.specs.Prelude.{◌≡◌, ◌<◌, ◌≤◌, ◌+◌, ◌%◌, ℕ, List, Bool, true, false, length, is_some};
 ghost use Rattle.ghost_model.specs.core.Channel as channel;
 ghost use Rattle.ghost_model.specs.core.Channel.{Journal};
 ghost use Rattle.channel_pump.specs.declared.state.Pump as pumps;
@@ -8,7 +8,7 @@ ghost use Rattle.ghost_model.specs.core.Asks.{asked_of};
 ghost use Rattle.ghost_model.specs.core.Moves.{taken};
 ghost use Rattle.ghost_model.specs.forms.Frames.{AreBytes};
 ghost use Rattle.ghost_model.specs.laws.SchemaTrees.{IsTree};
-ghost use Rattle.edge_traits.specs.Devices.{Device, Counts};
+ghost use Rattle.edge_traits.specs.Devices.{Device};
 ghost use Rattle.channel_pump.specs.State.{IsAfter};
 ghost use Rattle.key_lines.specs.Handing.{handed};
 ghost use Rattle.leakless_plan.specs.declared.plan.Plan.{Plan};
@@ -20,7 +20,7 @@ ghost use Rattle.visible_spool.specs.Sparing.{IsHalf};
 ghost use Rattle.key_session.specs.Kept.{half_in, lease_of};
 ghost use Rattle.key_session.specs.declared.replies.Replies as held;
 ghost use Rattle.key_session.specs.Going.{CanRun, IsSomeRun, IsNext, IsAmid, IsBegun, EndsText, RunIsSpared, leases_of, left_of, unbegun};
-ghost use Rattle.key_session.specs.Spending.{CountsStay, SpendsCalls, spent_by};
+ghost use Rattle.key_session.specs.Spending.{AreCountedBy, CountsStay, SpendsCalls, spent_by};
 ghost use Rattle.key_session.specs.Telling.{SessionSide, session_side};
 
 use crate::Replies;
@@ -122,7 +122,7 @@ impl<'a> Teller<'a> {
             → KeepsBy by cat (F.state flash.old) (F.state flash.new) }
         ensures others { KeepsOthers (others_out pool.old (leases_of self.old.running)) pool.old pool.new }
         ensures few { (F.state flash.new).calls ≤ (F.state flash.old).calls + 8 }
-        ensures counted { is_some self.new.running ≡ true → Counts (spent_by self.new.running - spent_by self.old.running) (F.state flash.old).calls (F.state flash.new).calls }
+        ensures counted { is_some self.new.running ≡ true → AreCountedBy (spent_by self.old.running) (spent_by self.new.running) (F.state flash.old).calls (F.state flash.new).calls }
         ensures spends { (cat : channel.Catalog) (texts : List (List ℕ)) (journal : Journal) (since : SessionSide) (pump : pumps.Pump) (replies : held.Replies)
             → IsTree cat.schema → CanRun by_pre F.told cat (F.state flash.old) pool.old (self.old.count + 1) (lease_of replies) self.old.running
             → IsBegun by_pre F.told cat texts journal since (session_side self.old.printer.failed (O.faults out.old) (O.written out.old) (F.state flash.old)) pool.old pump self.old replies

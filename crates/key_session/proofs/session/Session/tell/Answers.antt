@@ -1,4 +1,4 @@
-use Rattle.std.proofs.Common.{◌+◌, ◌-◌, ◌∙◌, ℕ, List, sym, subst, arith, Bool}
+use Rattle.std.proofs.Common.{◌+◌, ◌∙◌, ℕ, List, sym, subst, arith, Bool}
 use Rattle.ghost_model.specs.core.Asks.{asked_of}
 use Rattle.channel_pump.specs.Sessions.{IsLive}
 use Rattle.key_lines.specs.Handing.{handed}
@@ -11,8 +11,7 @@ use Rattle.key_session.specs.declared.buffers.Buffers.{Buffers}
 use Rattle.key_session.proofs.Leasing.{taken_amid, taken_channel}
 use Rattle.leakless_plan.specs.declared.plan.Plan.{Plan}
 use Rattle.key_exec.specs.Plans.{by_pre}
-use Rattle.edge_traits.specs.Devices.{Counts}
-use Rattle.key_session.specs.Spending.{IsServedText, spent_by}
+use Rattle.key_session.specs.Spending.{AreCountedBy, IsServedText, spent_by}
 use Rattle.key_session.proofs.Beginning.{keeps_spool}
 use Rattle.key_session.proofs.Spent.{same_spent}
 use Rattle.key_session.proofs.Unsent.{later_far}
@@ -120,4 +119,4 @@ returns-clause-spends g c = λ texts journal since next live database served unf
 
 pub returns-clause-counted : goal.returns-clause-counted
 returns-clause-counted g c = λ going.
-    subst (λ (spent : ℕ). Counts (spent_by c.go_on.new.self.running - spent) (g.F.Flash.state c.args.flash.now).calls (g.F.Flash.state c.go_on.new.flash).calls) c.take_up.ensures.unspent (c.go_on.ensures.counted going)
+    subst (λ (spent : ℕ). AreCountedBy spent (spent_by c.go_on.new.self.running) (g.F.Flash.state c.args.flash.now).calls (g.F.Flash.state c.go_on.new.flash).calls) c.take_up.ensures.unspent (c.go_on.ensures.counted going)

@@ -1,11 +1,10 @@
-use Rattle.std.proofs.Common.{◌≡◌, ◌+◌, ◌-◌, ◌∙◌, ◌≤◌, ap, false, true, sym, subst, Option, Some, None}
+use Rattle.std.proofs.Common.{◌≡◌, ◌+◌, ◌∙◌, ◌≤◌, ap, false, true, sym, subst, Option, Some, None}
 use Rattle.std.specs.Prelude.{◌%◌, is_some, take, sum_by}
-use Rattle.edge_traits.specs.Devices.{Counts}
 use Rattle.key_exec.specs.Plans.{by_pre}
 use Rattle.key_exec.specs.Within.{text_work}
 use Rattle.key_exec.specs.declared.telling.Telling.{Telling}
 use Rattle.key_exec.specs.declared.text.Told.{Told}
-use Rattle.key_session.specs.Spending.{spent_by}
+use Rattle.key_session.specs.Spending.{AreCountedBy, spent_by}
 use Rattle.key_lines.specs.Handing.{handed}
 use Rattle.key_lines.specs.declared.printer.Printer.{Printer}
 use Rattle.key_session.specs.Kept.{is_lost, lease_of}
@@ -128,7 +127,8 @@ returns-in-Some-step-clause-counts g c = record { calls = c.step.ensures.never_f
 
 pub returns-in-None-clause-counted : goal.returns-in-None-clause-counted
 returns-in-None-clause-counted g c = λ going.
-    subst (λ (running : Option Telling). Counts (lines.spent_of c.step.new.self - spent_by running) (g.F.Flash.state c.args.flash.now).calls (g.F.Flash.state c.step.new.flash).calls) (sym c.in-Some.is) c.step.ensures.spent
+    subst (λ (running : Option Telling). AreCountedBy (spent_by running) (lines.spent_of c.step.new.self) (g.F.Flash.state c.args.flash.now).calls (g.F.Flash.state c.step.new.flash).calls) (sym c.in-Some.is)
+    (record { rises = c.step.ensures.rises; counts = c.step.ensures.spent })
 
 pub returns-in-Some-step-clause-counted : goal.returns-in-Some-step-clause-counted
 returns-in-Some-step-clause-counted g c = λ going. absurd (none_goes (sym (ap (λ (later : Option Telling). is_some later) c.end.ensures.ended.running) ∙ going))
