@@ -164,13 +164,18 @@ impl Cases {
         Ok(true)
     }
 
+    /// The words of a call, with those that stand behind each query.
+    fn words_of(&self, line: &str) -> Result<String, AllocError> {
+        if line.strip_prefix("key query ").is_none() {
+            return String::from_str(self.alloc, line);
+        }
+        let also = self.also.as_str();
+        format!(in self.alloc; "{line}{also}")
+    }
+
     /// Makes a call, and tells what came of it.
     fn call(&mut self, directive: Directive, line: &str) -> Result<bool, AllocError> {
-        let also = match line.strip_prefix("key query ") {
-            Some(_) => self.also.as_str(),
-            None => "",
-        };
-        let line = format!(in self.alloc; "{line}{also}")?;
+        let line = self.words_of(line)?;
         let Some(came) = self.bench.call(&line)? else {
             return Ok(false);
         };
