@@ -348,7 +348,7 @@ pub record GivesStep (page : ℕ → List ℕ) (index : ClimbingIndex) (low high
   pub damage : IsCounted page index before → IfErr result (FailsIn page index)
 
 -- Whatever the pages have: the search stays one of the index and is shorter where it goes on, its group lies among the rows, and
--- so many calls are left. What the step reads, and the page that it leaves in the buffer.
+-- so many calls are left. How many calls the step makes, and the page that it leaves in the buffer.
 pub record KeepsSearch (told : Bool) (before now : Device) (pool later : Pool) (lease : ℕ) (index : ClimbingIndex) (low high : Option Bound) (old new : Search) (result : Result Step PageFault) : Type 0 where
   pub search : IsSearch (rows_of index) low high new
   pub within : IfOk result (FindsWithin (rows_of index))
