@@ -1,5 +1,5 @@
 -- The directory of an index and its level files, and what calls on them give.
-use Rattle.std.specs.Prelude.{◌≡◌, ℕ, ◌+◌, ◌*◌, ◌≤◌, ⊤, Bool, true, false, ◌&&◌, nat_le, List, [], ◌∷◌, length, take, drop, is_some, Option, Some, None, slice_get, Result, Ok, Err}
+use Rattle.std.specs.Prelude.{◌≡◌, ℕ, ◌+◌, ◌*◌, ◌≤◌, ⊤, Bool, true, false, ◌&&◌, nat_le, List, [], ◌∷◌, length, take, drop, is_some, Option, Some, None, slice_get, option_map, Result, Ok, Err, IfOk, IfErr, OnOk}
 use Rattle.ghost_model.specs.forms.Cells.{cell_width}
 use Rattle.ghost_model.specs.readings.CellReading.{decode_cell}
 use Rattle.ghost_model.specs.forms.Runs as runs
@@ -106,3 +106,22 @@ pub record GivesListed (page : ℕ → List ℕ) (directory : Directory) (entry 
 abbrev pub GivesList : (ℕ → List ℕ) → Directory → (entry level : ℕ) → Result ListRef PageFault → Type 0
 GivesList page directory entry level (Ok list) = GivesListed page directory entry level list
 GivesList page directory entry level (Err fault) = FailsAt page (run_of directory.run) (entry_stands directory) entry fault
+
+-- what a read from that count of calls on gave: the entry, or what may not stand in its slot
+abbrev pub WasEntry : (since : ℕ) → Device → Directory → (entry : ℕ) (bytes : List ℕ) → Result Unit PageFault → Type 0
+WasEntry since device directory entry bytes (Ok _) = WasRead since device (run_of directory.run) entry bytes
+WasEntry since device directory entry bytes (Err fault) = BlamesRecord since device (run_of directory.run) (entry_stands directory) entry fault
+
+-- Whatever the pages have: an entry that is given may stand in its slot, a slot that is blamed is one of its page, and the
+-- directory may be read on.
+pub record GivesStanding (device : Device) (directory : Directory) (entry : ℕ) (bytes : List ℕ) (result : Result Unit PageFault) : Type 0 where
+  pub stands : OnOk result (entry_stands directory bytes ≡ true)
+  pub page : IfErr result (BlamesPage (entry_page directory entry))
+  pub readable : IsReadable device directory
+
+-- the same of a list: it lies in the level's file
+pub record GivesWithin (readable_on : Type 0) (directory : Directory) (entry level : ℕ) (result : Result ListRef PageFault) : Type 0 where
+  pub run : IfOk result (λ list. option_map file_of (slice_get directory.levels.items level) ≡ Some (run_of list.run))
+  pub within : IfOk result (λ list. list.first + list.count ≤ list.run.count)
+  pub page : IfErr result (BlamesPage (entry_page directory entry))
+  pub readable : readable_on

@@ -1,5 +1,5 @@
 -- Searches among the entries of a climbing index. Cells are ordered by their bytes.
-use Rattle.std.specs.Prelude.{◌≡◌, ◌⊎◌, ℕ, ◌+◌, ◌-◌, ◌*◌, ◌/◌, ◌^◌, ◌<◌, ◌≤◌, min, ⊤, Bool, true, false, not, ◌&&◌, ◌||◌, ◌==◌, nat_le, nat_lt, List, [], length, take, get_or, is_some, Option, Some, None, Result, Ok, Err, if◌then◌else◌}
+use Rattle.std.specs.Prelude.{◌≡◌, ◌⊎◌, ℕ, ◌+◌, ◌-◌, ◌*◌, ◌/◌, ◌^◌, ◌<◌, ◌≤◌, min, ⊤, Bool, true, false, not, ◌&&◌, ◌||◌, ◌==◌, nat_le, nat_lt, List, [], length, take, get_or, is_some, Option, Some, None, Result, Ok, Err, IfOk, IfErr, if◌then◌else◌}
 use Rattle.std.specs.Cmp.Lexicographic.{slice_cmp}
 use Rattle.std.specs.Ordering.{nat_cmp}
 use Rattle.std.specs.declared.cmp.Ordering.{Ordering}
@@ -8,8 +8,8 @@ use Rattle.ghost_model.specs.core.Values.{Value}
 use Rattle.ghost_model.specs.core.Database.{is_of_kind}
 use Rattle.ghost_model.specs.forms.Cells.{encode_cell}
 use Rattle.ghost_model.specs.forms.Runs.{record_at, page_of, number_in}
-use Rattle.edge_traits.specs.Devices.{Device}
-use Rattle.page_pool.specs.Pools.{Pool}
+use Rattle.edge_traits.specs.Devices.{Device, next_if}
+use Rattle.page_pool.specs.Pools.{Pool, page_at}
 use Rattle.ghost_base.specs.Runs.{run_of}
 use Rattle.ghost_base.specs.Views.{kind_of, value_of}
 use Rattle.ghost_base.specs.declared.kind.Kind.{Kind}
@@ -28,6 +28,7 @@ use Rattle.climbing_index.specs.declared.search.Search.{Search}
 use Rattle.climbing_index.specs.declared.search.Search.TheVariants.{New, Among}
 use Rattle.climbing_index.specs.declared.search.Step.{Step}
 use Rattle.climbing_index.specs.declared.search.Step.TheVariants.{More, Found}
+use Rattle.climbing_index.specs.Indexes.{IsReadable}
 use Rattle.climbing_index.specs.Directories.{entry_bytes, entry_page, entry_stands, HasDamage, BlamesSlot}
 
 -- the bytes of a bound's value
@@ -332,3 +333,44 @@ Finds kind low high cells (Found group) = IsBetween kind low high cells group
 abbrev pub FindsWithin : (rows : ℕ) → Step → Type 0
 FindsWithin rows More = ⊤
 FindsWithin rows (Found group) = group.first + group.count ≤ rows
+
+-- What a step gives, by the bytes of the pages: the search stays one of the header's number of entries that looks for the
+-- bounds, what it finds are the entries between them, and what it blames is damaged.
+pub record GivesStep (page : ℕ → List ℕ) (index : ClimbingIndex) (low high : Option Bound) (before now : Search) (result : Result Step PageFault) : Type 0 where
+  pub counted : IsCounted page index before → IsCounted page index now
+  pub sought :
+      (cells : List (List ℕ)) → HasIndex page index cells → AllAscend cells → IsSought index.directory.kind low high cells before
+      → IsSought index.directory.kind low high cells now
+  pub found :
+      (cells : List (List ℕ)) → HasIndex page index cells → AllAscend cells → IsSought index.directory.kind low high cells before
+      → IfOk result (Finds index.directory.kind low high cells)
+  pub among : IsCounted page index before → IfOk result (FindsWithin (header_count page index))
+  pub damage : IsCounted page index before → IfErr result (FailsIn page index)
+
+-- Whatever the pages have: the search stays one of the index and is shorter where it goes on, its group lies among the rows, and
+-- so many calls are left. How many calls the step makes, and the page that it leaves in the buffer.
+pub record KeepsSearch (told : Bool) (before now : Device) (pool later : Pool) (lease : ℕ) (index : ClimbingIndex) (low high : Option Bound) (old new : Search) (result : Result Step PageFault) : Type 0 where
+  pub search : IsSearch (rows_of index) low high new
+  pub within : IfOk result (FindsWithin (rows_of index))
+  pub shorter : IfOk result (λ step. is_more step ≡ true → left_in (rows_of index) new < left_in (rows_of index) old)
+  pub fewer :
+      (k left : ℕ) → most_entries told before.page index < 2 ^ k → CallsLeft k old left
+      → IfOk result (λ step. is_more step ≡ true → IsFewer k new left)
+  pub some : (k left : ℕ) → most_entries told before.page index < 2 ^ k → CallsLeft k old left → IfErr result (λ fault. 1 ≤ left)
+  pub calls : now.calls ≡ next_if (step_reads pool lease result) before.calls
+  pub holds : StepLeaves index old (page_at pool lease) (page_at later lease) result
+  pub readable : IsReadable now index
+
+-- what a whole search gives
+pub record GivesGroup (page : ℕ → List ℕ) (index : ClimbingIndex) (low high : Option Bound) (result : Result Group PageFault) : Type 0 where
+  pub found :
+      (cells : List (List ℕ)) → HasIndex page index cells → AllAscend cells
+      → IfOk result (IsBetween index.directory.kind low high cells)
+  pub among : IfOk result (λ group. group.first + group.count ≤ header_count page index)
+  pub damage : IfErr result (FailsIn page index)
+
+-- and whatever the pages have
+pub record GivesAmongRows (device : Device) (held : Option ℕ) (index : ClimbingIndex) (result : Result Group PageFault) : Type 0 where
+  pub within : IfOk result (λ group. group.first + group.count ≤ rows_of index)
+  pub holds : FindLeaves index held result
+  pub readable : IsReadable device index

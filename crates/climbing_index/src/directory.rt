@@ -1,10 +1,9 @@
 //! The directory of an index, whose entries say where their lists stand.
 
-ghost use Rattle.std.specs.Prelude.{◌≡◌, ◌<◌, ◌≤◌, ◌+◌, ◌*◌, ℕ, true, length, Some, IfOk, IfErr, OnOk, slice_get, option_map};
+ghost use Rattle.std.specs.Prelude.{◌≡◌, ◌<◌, ◌≤◌, ◌+◌, ◌*◌, ℕ, true, length, Some, IfErr, slice_get, option_map};
 ghost use Rattle.ghost_base.specs.Runs.{run_of};
-ghost use Rattle.page_pool.specs.Pools.{page_at};
-ghost use Rattle.flash_pages.specs.Reads.{Reads, CanRead, WasGiven, WasRead, must_read, page_after};
-ghost use Rattle.climbing_index.specs.Directories.{IsReadable, GivesEntry, GivesList, BlamesRecord, BlamesPage, GivesPlace, entry_page, entry_stands, are_places, spells, most_cell, file_of};
+ghost use Rattle.flash_pages.specs.Reads.{Reads, CanRead, WasGiven, must_read};
+ghost use Rattle.climbing_index.specs.Directories.{IsReadable, GivesEntry, GivesList, GivesStanding, GivesWithin, WasEntry, BlamesRecord, GivesPlace, entry_page, entry_stands, are_places, spells, most_cell, file_of};
 
 use crate::damage::damage;
 use arrayvec::ArrayVec;
@@ -111,12 +110,8 @@ impl Directory {
         requires width { length out.old ≡ self.now.run.width }
         requires ready { CanRead F.told (F.state flash.old) pool.old lease.now }
         ensures gives { F.told ≡ true → GivesEntry (F.state flash.old).page self.now entry out.new result }
-        ensures stands { OnOk result (entry_stands self.now out.new ≡ true) }
-        ensures was_read { (since : ℕ) → since ≤ (F.state flash.old).calls → WasGiven since (F.state flash.old) pool.old lease.now → OnOk result (WasRead since (F.state flash.new) (run_of self.now.run) entry out.new) }
-        ensures blames { (since : ℕ) → since ≤ (F.state flash.old).calls → WasGiven since (F.state flash.old) pool.old lease.now → IfErr result (λ fault. BlamesRecord since (F.state flash.new) (run_of self.now.run) (entry_stands self.now) entry fault) }
-        ensures page { IfErr result (BlamesPage (entry_page self.now entry)) }
-        ensures readable { IsReadable (F.state flash.new) self.now }
-        ensures holds { page_at pool.new lease.now ≡ page_after result (entry_page self.now entry) }
+        ensures found { (since : ℕ) → since ≤ (F.state flash.old).calls → WasGiven since (F.state flash.old) pool.old lease.now → WasEntry since (F.state flash.new) self.now entry out.new result }
+        ensures always { GivesStanding (F.state flash.new) self.now entry out.new result }
         ensures read { Reads F.told (F.state flash.old) (F.state flash.new) pool.old pool.new lease.now (must_read pool.old lease.now (entry_page self.now entry)) (entry_page self.now entry) result }
     {
         match fixed_get(flash, pool, lease, &self.run, entry, out) {
@@ -147,12 +142,8 @@ impl Directory {
         requires level { level < length self.now.levels.items }
         requires ready { CanRead F.told (F.state flash.old) pool.old lease.now }
         ensures gives { F.told ≡ true → GivesList (F.state flash.old).page self.now entry level result }
-        ensures run { IfOk result (λ list. option_map file_of (slice_get self.now.levels.items level) ≡ Some (run_of list.run)) }
-        ensures within { IfOk result (λ list. list.first + list.count ≤ list.run.count) }
         ensures blames { (since : ℕ) → since ≤ (F.state flash.old).calls → WasGiven since (F.state flash.old) pool.old lease.now → IfErr result (λ fault. BlamesRecord since (F.state flash.new) (run_of self.now.run) (entry_stands self.now) entry fault) }
-        ensures page { IfErr result (BlamesPage (entry_page self.now entry)) }
-        ensures readable { IsReadable (F.state flash.new) self.now }
-        ensures holds { page_at pool.new lease.now ≡ page_after result (entry_page self.now entry) }
+        ensures always { GivesWithin (IsReadable (F.state flash.new) self.now) self.now entry level result }
         ensures read { Reads F.told (F.state flash.old) (F.state flash.new) pool.old pool.new lease.now (must_read pool.old lease.now (entry_page self.now entry)) (entry_page self.now entry) result }
     {
         let mut bytes = [0; MAX_ENTRY];

@@ -1,14 +1,14 @@
 -- What a cursor has left of its list, and what its calls give.
-use Rattle.std.specs.Prelude.{◌≡◌, ℕ, ◌+◌, ◌-◌, ◌<◌, ◌≤◌, ◌&&◌, Bool, ⊤, List, [], ◌∷◌, nat_lt, Option, Some, None, Result, Ok, Err, IfSome}
+use Rattle.std.specs.Prelude.{◌≡◌, ℕ, ◌+◌, ◌-◌, ◌<◌, ◌≤◌, ◌⊎◌, ◌&&◌, Bool, true, false, ⊤, List, [], ◌∷◌, nat_lt, nat_le, Option, Some, None, Result, Ok, Err, IfSome, IfOk, IfErr, OnOk, OnErr, MatchOption}
 use Rattle.ghost_model.specs.forms.Runs as runs
-use Rattle.edge_traits.specs.Devices.{Device}
-use Rattle.page_pool.specs.Pools.{Pool, page_at}
+use Rattle.edge_traits.specs.Devices.{Device, KeepsPages, next_if}
+use Rattle.page_pool.specs.Pools.{Pool, ChangesPage, page_at}
 use Rattle.flash_pages.specs.declared.cursor.RunCursor.{RunCursor}
 use Rattle.flash_pages.specs.declared.fault.PageFault.{PageFault}
 use Rattle.flash_pages.specs.declared.fault.PageFault.TheVariants.{Flash, Damaged}
 use Rattle.ghost_base.specs.Runs.{run_of}
 use Rattle.flash_pages.specs.Runs.{HasRun}
-use Rattle.flash_pages.specs.Reads.{CanRead, WasRead, must_read}
+use Rattle.flash_pages.specs.Reads.{CanRead, FaultTells, WasGiven, WasRead, must_read, page_after}
 
 -- the number in the run of the record that is next
 abbrev pub place : RunCursor → ℕ
@@ -141,3 +141,46 @@ pub record IsReady (told : Bool) (device : Device) (pool : Pool) (cursor : RunCu
   pub place : cursor.at ≤ cursor.list.count
   pub page : IfSome (page_at pool cursor.lease) (IsPageOf (run_of cursor.list.run))
   pub buffer : CanRead told device pool cursor.lease
+
+-- What a call of a cursor says of the device and of the buffer: one page is read at most, that of the next record, and none at
+-- the end of the list.
+pub record CursorReads {T : Type 0} (told : Bool) (before now : Device) (pool later : Pool) (cursor : RunCursor) (result : Result T PageFault) : Type 0 where
+  pub kept : KeepsPages before now
+  pub calls : now.calls ≡ next_if (will_read pool cursor) before.calls
+  pub at_most : now.calls ≤ before.calls + 1
+  pub deep_reads : now.deep_reads ≡ next_if (will_read pool cursor && nat_le 64 (page_next cursor)) before.deep_reads
+  pub no_fault : OnOk result (now.faults ≡ before.faults)
+  pub fault : IfErr result (FaultTells before now (will_read pool cursor ≡ true))
+  pub buffer : ChangesPage pool later cursor.lease
+  pub holds : cursor.at < cursor.list.count → page_at later cursor.lease ≡ page_after result (page_next cursor)
+  pub rests : cursor.at ≡ cursor.list.count → later ≡ pool
+  pub ready : CanRead told now later cursor.lease
+  pub given : (since : ℕ) → since ≤ before.calls → WasGiven since before pool cursor.lease → WasGiven since now later cursor.lease
+
+-- What `next` makes of its cursor, whatever the pages have: it takes one record, whose identifier is in range and order, and
+-- stands where it stood at the end of the list and after a fault. The next call may be made.
+pub record TakesNext (told : Bool) (device : Device) (pool : Pool) (before now : RunCursor) (result : Result (Option ℕ) PageFault) : Type 0 where
+  pub step :
+      IfOk result (λ next.
+      MatchOption next ((before.at ≡ before.list.count) × (now ≡ before)) (λ _. (before.at < before.list.count) × (now.at ≡ before.at + 1)))
+  pub in_order : IfOk result (λ next. IfSome next (λ id. IsNext before id × (now.last ≡ id)))
+  pub fault : OnErr result (now ≡ before)
+  pub ready : IsReady told device pool now
+  pub same : SameList before now
+
+-- What `pass` gives, by the bytes of the pages: where it passes records, the identifier of the last one; where it does not, the
+-- end of the list or an identifier that is not below the bound; or a slot that is out of range or order.
+pub record GivesPass (page : ℕ → List ℕ) (before now : RunCursor) (bound : ℕ) (result : Result Bool PageFault) : Type 0 where
+  pub gives : IfOk result (λ passed. passed ≡ true → PassesTo page now)
+  pub ends : IfOk result (λ passed. passed ≡ false → (before.at ≡ before.list.count) ⊎ Reaches page before bound)
+  pub damage : GivesPassed page before result
+
+-- What it makes of its cursor, whatever the pages have: it passes all records of the list in the page of the next one, or stands
+-- where it stood.
+pub record PassesOver (told : Bool) (device : Device) (pool : Pool) (before now : RunCursor) (bound : ℕ) (result : Result Bool PageFault) : Type 0 where
+  pub passes : IfOk result (λ passed. passed ≡ true → Passes before now bound)
+  pub whole : IfOk result (λ passed. passed ≡ true → IsLastInPage before (now.at - 1))
+  pub stays : IfOk result (λ passed. passed ≡ false → now ≡ before)
+  pub fault : OnErr result (now ≡ before)
+  pub ready : IsReady told device pool now
+  pub same : SameList before now

@@ -51,7 +51,7 @@ abbrev pub page_after : {T : Type 0} → Result T PageFault → (page : ℕ) →
 page_after (Ok given) page = Some page
 page_after (Err fault) page = left_by fault page
 
--- One page is read at most, that with a number, under a lease.
+-- One page is read at most, that with a number, under a lease. The buffer has that page then, and none where the flash failed.
 pub record Reads {T : Type 0} (told : Bool) (before now : Device) (pool later : Pool) (lease : ℕ) (reads : Bool) (number : ℕ) (result : Result T PageFault) : Type 0 where
   pub kept : KeepsPages before now
   pub calls : now.calls ≡ next_if reads before.calls
@@ -60,6 +60,7 @@ pub record Reads {T : Type 0} (told : Bool) (before now : Device) (pool later : 
   pub no_fault : OnOk result (now.faults ≡ before.faults)
   pub fault : IfErr result (FaultTells before now (reads ≡ true))
   pub buffer : ChangesPage pool later lease
+  pub holds : page_at later lease ≡ page_after result number
   pub ready : CanRead told now later lease
   pub given : (since : ℕ) → since ≤ before.calls → WasGiven since before pool lease → WasGiven since now later lease
 

@@ -1,12 +1,11 @@
 //! The ascending identifiers of a list.
 
-ghost use Rattle.std.specs.Prelude.{◌≡◌, ◌<◌, ◌≤◌, ◌+◌, ◌-◌, ◌^◌, ◌⊎◌, ◌&&◌, Bool, true, false, None, Ok, Some, length, IfOk, IfErr, IfSome, OnErr, MatchOption, ℕ};
-ghost use Rattle.edge_traits.specs.Devices.{Device};
-ghost use Rattle.page_pool.specs.Pools.{IsOut, page_at};
-ghost use Rattle.flash_pages.specs.Cursors.{GivesNext, BlamesNext, BlamesPassed, GivesPassed, Passes, PassesTo, IsLastInPage, Reaches, SameList, StandsAt, IsReady, IsNext, will_read, place, page_next};
+ghost use Rattle.std.specs.Prelude.{◌≡◌, ◌<◌, ◌≤◌, ◌+◌, ◌^◌, true, IfOk, IfErr, ℕ};
+ghost use Rattle.page_pool.specs.Pools.{IsOut};
+ghost use Rattle.flash_pages.specs.Cursors.{GivesNext, GivesPass, BlamesNext, BlamesPassed, TakesNext, PassesOver, CursorReads, IsReady, IsNext, will_read, place, page_next};
 ghost use Rattle.flash_pages.specs.Looking.{IsInPage, DamagesAt, BlamesAt};
 ghost use Rattle.ghost_model.specs.forms.Runs.{id_at};
-ghost use Rattle.flash_pages.specs.Reads.{Reads, WasGiven, must_read, page_after};
+ghost use Rattle.flash_pages.specs.Reads.{Reads, WasGiven, must_read};
 ghost use Rattle.ghost_base.specs.Runs.{run_of};
 
 use crate::cells::{cell_of, found_of, number_at};
@@ -63,15 +62,9 @@ impl RunCursor {
     ) -> Result<Option<u32>, PageFault>
         requires ready { IsReady F.told (F.state flash.old) pool.old self.old }
         ensures gives { F.told ≡ true → GivesNext (F.state flash.old).page self.old self.new result }
-        ensures step { IfOk result (λ next. MatchOption next ((self.old.at ≡ self.old.list.count) × (self.new ≡ self.old)) (λ _. (self.old.at < self.old.list.count) × (self.new.at ≡ self.old.at + 1))) }
-        ensures in_order { IfOk result (λ next. IfSome next (λ id. IsNext self.old id × (self.new.last ≡ id))) }
-        ensures fault { OnErr result (self.new ≡ self.old) }
         ensures blames { (since : ℕ) → since ≤ (F.state flash.old).calls → WasGiven since (F.state flash.old) pool.old self.old.lease → BlamesNext since (F.state flash.new) self.old result }
-        ensures ready { IsReady F.told (F.state flash.new) pool.new self.new }
-        ensures same { SameList self.old self.new }
-        ensures holds { self.old.at < self.old.list.count → page_at pool.new self.old.lease ≡ page_after result (page_next self.old) }
-        ensures rests { self.old.at ≡ self.old.list.count → pool.new ≡ pool.old }
-        ensures read { Reads F.told (F.state flash.old) (F.state flash.new) pool.old pool.new self.old.lease (will_read pool.old self.old) (page_next self.old) result }
+        ensures always { TakesNext F.told (F.state flash.new) pool.new self.old self.new result }
+        ensures read { CursorReads F.told (F.state flash.old) (F.state flash.new) pool.old pool.new self.old result }
     {
         if self.at >= self.list.count {
             return Ok(None);
@@ -94,19 +87,10 @@ impl RunCursor {
         bound: u32,
     ) -> Result<bool, PageFault>
         requires ready { IsReady F.told (F.state flash.old) pool.old self.old }
-        ensures passes { IfOk result (λ passed. passed ≡ true → Passes self.old self.new bound) }
-        ensures gives { IfOk result (λ passed. passed ≡ true → F.told ≡ true → PassesTo (F.state flash.old).page self.new) }
-        ensures whole { IfOk result (λ passed. passed ≡ true → IsLastInPage self.old (self.new.at - 1)) }
-        ensures stays { IfOk result (λ passed. passed ≡ false → self.new ≡ self.old) }
-        ensures ends { IfOk result (λ passed. passed ≡ false → F.told ≡ true → (self.old.at ≡ self.old.list.count) ⊎ Reaches (F.state flash.old).page self.old bound) }
-        ensures fault { OnErr result (self.new ≡ self.old) }
-        ensures damage { F.told ≡ true → GivesPassed (F.state flash.old).page self.old result }
+        ensures gives { F.told ≡ true → GivesPass (F.state flash.old).page self.old self.new bound result }
         ensures blames { (since : ℕ) → since ≤ (F.state flash.old).calls → WasGiven since (F.state flash.old) pool.old self.old.lease → BlamesPassed since (F.state flash.new) self.old result }
-        ensures ready { IsReady F.told (F.state flash.new) pool.new self.new }
-        ensures same { SameList self.old self.new }
-        ensures holds { self.old.at < self.old.list.count → page_at pool.new self.old.lease ≡ page_after result (page_next self.old) }
-        ensures rests { self.old.at ≡ self.old.list.count → pool.new ≡ pool.old }
-        ensures read { Reads F.told (F.state flash.old) (F.state flash.new) pool.old pool.new self.old.lease (will_read pool.old self.old) (page_next self.old) result }
+        ensures always { PassesOver F.told (F.state flash.new) pool.new self.old self.new bound result }
+        ensures read { CursorReads F.told (F.state flash.old) (F.state flash.new) pool.old pool.new self.old result }
     {
         if self.at >= self.list.count {
             return Ok(false);
@@ -133,7 +117,6 @@ impl RunCursor {
         ensures damage { IfErr result (λ fault. F.told ≡ true → DamagesAt (F.state flash.old).page self.now at fault) }
         ensures blames { IfErr result (λ fault. (since : ℕ) → since ≤ (F.state flash.old).calls → WasGiven since (F.state flash.old) pool.old self.now.lease → BlamesAt since (F.state flash.new) self.now at fault) }
         ensures ready { IsReady F.told (F.state flash.new) pool.new self.now }
-        ensures holds { page_at pool.new self.now.lease ≡ page_after result (page_next self.now) }
         ensures read { Reads F.told (F.state flash.old) (F.state flash.new) pool.old pool.new self.now.lease (must_read pool.old self.now.lease (page_next self.now)) (page_next self.now) result }
     {
         let run = self.list.run;

@@ -1,10 +1,9 @@
 //! One record of a run.
 
-ghost use Rattle.std.specs.Prelude.{◌≡◌, ◌<◌, ◌≤◌, ℕ, true, length, OnOk, OnErr};
+ghost use Rattle.std.specs.Prelude.{◌≡◌, ◌<◌, ◌≤◌, ℕ, true, length, OnOk};
 ghost use Rattle.ghost_model.specs.forms.Runs.{record_at, page_of};
-ghost use Rattle.page_pool.specs.Pools.{page_at};
-ghost use Rattle.flash_pages.specs.Faults.{BlamesNoSlot};
-ghost use Rattle.flash_pages.specs.Reads.{Reads, CanRead, WasGiven, WasRead, must_read, page_after};
+ghost use Rattle.flash_pages.specs.Faults.{FailsWhole};
+ghost use Rattle.flash_pages.specs.Reads.{Reads, CanRead, WasGiven, WasRead, must_read};
 ghost use Rattle.ghost_base.specs.Runs.{run_of};
 ghost use Rattle.flash_pages.specs.Runs.{HasRun};
 
@@ -32,10 +31,8 @@ pub fn fixed_get<F: Flash>(
     requires ready { CanRead F.told (F.state flash.old) pool.old lease.now }
     ensures record_at { OnOk result (F.told ≡ true → out.new ≡ record_at (F.state flash.old).page (run_of run.now) i) }
     ensures was_read { (since : ℕ) → since ≤ (F.state flash.old).calls → WasGiven since (F.state flash.old) pool.old lease.now → OnOk result (WasRead since (F.state flash.new) (run_of run.now) i out.new) }
-    ensures out { OnErr result (out.new ≡ out.old) }
-    ensures holds { page_at pool.new lease.now ≡ page_after result (page_of (run_of run.now) i) }
+    ensures fails { FailsWhole out.old out.new result }
     ensures read { Reads F.told (F.state flash.old) (F.state flash.new) pool.old pool.new lease.now (must_read pool.old lease.now (page_of (run_of run.now) i)) (page_of (run_of run.now) i) result }
-    ensures no_slot { BlamesNoSlot result }
 {
     let records = per_page(run.width);
     load(flash, pool, lease, run.first + i / records)?;

@@ -1,9 +1,9 @@
 //! A page in a buffer.
 
 ghost use Rattle.std.specs.Prelude.{◌≡◌, ◌<◌, true, OnOk};
-ghost use Rattle.page_pool.specs.Pools.{bytes_at, page_at};
+ghost use Rattle.page_pool.specs.Pools.{bytes_at};
 ghost use Rattle.flash_pages.specs.Faults.{BlamesNoSlot};
-ghost use Rattle.flash_pages.specs.Reads.{Reads, CanRead, must_read, page_after};
+ghost use Rattle.flash_pages.specs.Reads.{Reads, CanRead, must_read};
 
 use crate::fault::PageFault;
 use edge_traits::flash::Flash;
@@ -19,7 +19,6 @@ pub fn load<F: Flash>(
     requires in_range { page < (F.state flash.old).page_count }
     requires ready { CanRead F.told (F.state flash.old) pool.old lease.now }
     ensures bytes { OnOk result (F.told ≡ true → bytes_at pool.new lease.now ≡ (F.state flash.old).page page) }
-    ensures holds { page_at pool.new lease.now ≡ page_after result page }
     ensures read { Reads F.told (F.state flash.old) (F.state flash.new) pool.old pool.new lease.now (must_read pool.old lease.now page) page result }
     ensures no_slot { BlamesNoSlot result }
 {

@@ -1,5 +1,5 @@
 -- The file of a hidden column, and what a call on it gives.
-use Rattle.std.specs.Prelude.{◌≡◌, ℕ, ◌-◌, ◌≤◌, ⊤, pos, List, length, Option, Some, None, Result, Ok, Err, IsTrue}
+use Rattle.std.specs.Prelude.{◌≡◌, ℕ, ◌-◌, ◌≤◌, ⊤, pos, List, length, Option, Some, None, Result, Ok, Err, IfSome, IfOk, IsTrue}
 use Rattle.ghost_model.specs.core.Values.{Value, Number}
 use Rattle.ghost_model.specs.core.Channel.{Catalog}
 use Rattle.ghost_model.specs.forms.Cells.{cell_width}
@@ -80,3 +80,14 @@ pub record BlamesSlot (since : ℕ) (device : Device) (file : ColumnFile) (ident
 abbrev pub Blames : (since : ℕ) → Device → ColumnFile → (identifier : ℕ) → PageFault → Type 0
 Blames since device file identifier Flash = ⊤
 Blames since device file identifier (Damaged number slot found) = BlamesSlot since device file identifier number slot found
+
+-- Whatever the pages have: a value that is given may stand in the column, and the file may be read on.
+pub record GivesOfColumn {T : Type 0} (value : T → Value) (device : Device) (file : ColumnFile) (result : Result T PageFault) : Type 0 where
+  pub column : IfOk result (λ given. IsOfColumn file (value given))
+  pub readable : IsReadable device file
+
+-- the same of a foreign key: it is the identifier of one of the rows
+pub record GivesRowOf (device : Device) (file : ColumnFile) (result : Result ℕ PageFault) : Type 0 where
+  pub some : IfOk result (λ key. 1 ≤ key)
+  pub within : IfOk result (λ key. IfSome file.child_rows (λ rows. key ≤ rows))
+  pub readable : IsReadable device file

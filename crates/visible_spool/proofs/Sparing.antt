@@ -23,6 +23,7 @@ spared_half told cat side before now replies spares is = record {
   whole = λ yes table there.
       let some = is.whole yes table there in
       record { rows = some.rows; holds = spared_rows cat side before now (reply_of replies table) some.rows spares (is.lies table there) some.holds };
+  rows = is.rows;
 }
 
 used_by : (cat : Catalog) (side : ℕ) (before now : Device) (replies : Half) (number : ℕ) → SparesHalf cat side before now → AreInHalf cat side replies

@@ -1,11 +1,12 @@
 -- A look-up in a reply, page by page: what one page tells of an identifier, and which pages are left.
-use Rattle.std.specs.Prelude.{◌≡◌, ◌≢◌, ℕ, ◌+◌, ◌-◌, ◌/◌, ◌%◌, ◌^◌, ◌<◌, ◌≤◌, ◌⊎◌, ⊤, Bool, true, false, nat_lt, List, [], length, get_or, Option, Some, None, Result, Ok, Err, IfSome, if◌then◌else◌}
+use Rattle.std.specs.Prelude.{◌≡◌, ◌≢◌, ℕ, ◌+◌, ◌-◌, ◌/◌, ◌%◌, ◌^◌, ◌<◌, ◌≤◌, ◌⊎◌, ⊤, Bool, true, false, nat_lt, List, [], length, get_or, Option, Some, None, Result, Ok, Err, IfSome, IfOk, IfErr, OnErr, if◌then◌else◌}
 use Rattle.ghost_model.specs.forms.Runs as runs
 use Rattle.ghost_model.specs.forms.Runs.{cell_in, number_in, per_page, pages_of}
 use Rattle.ghost_base.specs.Runs.{run_of}
-use Rattle.edge_traits.specs.Devices.{Device}
+use Rattle.edge_traits.specs.Devices.{Device, next_if}
 use Rattle.flash_pages.specs.Holding.{is_apart}
 use Rattle.flash_pages.specs.Cursors.{IsPageOf}
+use Rattle.flash_pages.specs.declared.cursor.RunCursor.{RunCursor}
 use Rattle.flash_pages.specs.Reads.{WasRead}
 use Rattle.flash_pages.specs.declared.fault.PageFault.{PageFault}
 use Rattle.flash_pages.specs.declared.fault.PageFault.TheVariants.{Flash, Damaged}
@@ -19,7 +20,9 @@ use Rattle.visible_spool.specs.declared.search.Step.{Step}
 use Rattle.visible_spool.specs.declared.search.Step.TheVariants.{More, Found, Beyond}
 use Rattle.visible_spool.specs.declared.search.Turn.{Turn}
 use Rattle.visible_spool.specs.declared.search.Turn.TheVariants.{Over, Narrowed}
-use Rattle.visible_spool.specs.Replies.{HasNone, HoldsRows, IsSound, id_of, may_stand}
+use Rattle.ghost_model.specs.core.Asks.{RowCells}
+use Rattle.ghost_model.specs.core.Causes.{Rose}
+use Rattle.visible_spool.specs.Replies.{Blames, Finds, HasNone, HoldsRows, IsFlash, IsReadable, IsSound, id_of, may_stand}
 
 -- how many rows a page takes, and how many pages a reply has; the page of a place, counted from the reply's first page
 abbrev pub rows_in : Reply → ℕ
@@ -256,6 +259,60 @@ pub record IsOutside (page : ℕ → List ℕ) (reply : Reply) (held : Option �
 abbrev pub TurnIsInHeld : Reply → (rows : List (List ℕ)) → (held : Option ℕ) → (identifier : ℕ) → Turn → Type 0
 TurnIsInHeld reply rows held identifier (Over found) = IsInHeld reply rows held identifier
 TurnIsInHeld reply rows held identifier (Narrowed looking) = ⊤
+
+-- What a step gives, by the bytes of the pages, whichever rows they have for the reply: the look-up stays one for the identifier,
+-- what it finds is the row, and no slot is blamed. Where the identifier lies between those of rows of the page in the buffer,
+-- the step decides and nothing is read; where nothing was looked at and it does not, a page is.
+pub record GivesStep (before now : Device) (held later : Option ℕ) (bytes : List ℕ) (reply : Reply) (identifier : ℕ) (old new : Search) (result : Result Step PageFault) : Type 0 where
+  pub sought : (rows : List (List ℕ)) → HoldsRows before.page reply rows → IsSought reply rows identifier old → IsSought reply rows identifier new
+  pub finds :
+      (rows : List (List ℕ)) → HoldsRows before.page reply rows → IsSought reply rows identifier old
+      → IfOk result (StepFinds reply rows identifier bytes)
+  pub whole : (rows : List (List ℕ)) → HoldsRows before.page reply rows → IfErr result IsFlash
+  pub decided :
+      (rows : List (List ℕ)) → HoldsRows before.page reply rows → IsSought reply rows identifier old → IsInHeld reply rows held identifier
+      → IfOk result (λ step. is_more step ≡ false)
+  pub at_hand :
+      (rows : List (List ℕ)) → HoldsRows before.page reply rows → IsSought reply rows identifier old → IsInHeld reply rows held identifier
+      → now ≡ before
+  pub reads : old ≡ New → IsOutside before.page reply held identifier → step_calls held later result ≡ true
+
+-- what a read from that count of calls on gave: the row that is found, or what may not stand where it does
+abbrev pub StepWas : (since : ℕ) → Device → Reply → (bytes : List ℕ) → Result Step PageFault → Type 0
+StepWas since device reply bytes (Ok step) = StepStands since device reply bytes step
+StepWas since device reply bytes (Err fault) = Blames since device reply fault
+
+-- Whatever the pages have: the look-up stays one of the reply, as it was after a fault and shorter where it goes on, what it finds
+-- or blames stands in the buffer, which has the page that it had or one of the reply, and so many calls are left. How many
+-- calls the step makes.
+pub record KeepsSearch (before now : Device) (held later : Option ℕ) (bytes : List ℕ) (reply : Reply) (identifier : ℕ) (old new : Search) (result : Result Step PageFault) : Type 0 where
+  pub search : IsSearch reply new
+  pub failed : OnErr result (new ≡ old)
+  pub shorter : IfOk result (λ step. is_more step ≡ true → left_in reply new < left_in reply old)
+  pub lies : IfOk result (StepLies reply identifier later bytes)
+  pub page : HoldsOwn reply held later
+  pub blamed : IfErr result (BlamedHere later)
+  pub fewer :
+      (k left : ℕ) → reply.run.count < 2 ^ k → CallsLeft k old left
+      → IfOk result (λ step. is_more step ≡ true → IsFewer k new left)
+  pub some : (k left : ℕ) → reply.run.count < 2 ^ k → CallsLeft k old left → step_calls held later result ≡ true → 1 ≤ left
+  pub more : IfOk result (λ step. is_more step ≡ true → step_calls held later result ≡ true)
+  pub calls : now.calls ≡ next_if (step_calls held later result) before.calls
+  pub readable : IsReadable now reply
+
+-- What a whole look-up gives, by the bytes of the pages. It reads nothing where the identifier lies between those of rows of the
+-- page in the buffer, and a page where it does not.
+pub record GivesRow (before now : Device) (held : Option ℕ) (reply : Reply) (identifier : ℕ) (result : Result (Option RowCells) PageFault) : Type 0 where
+  pub finds : (rows : List (List ℕ)) → HoldsRows before.page reply rows → Finds rows identifier result
+  pub at_hand : (rows : List (List ℕ)) → HoldsRows before.page reply rows → IsInHeld reply rows held identifier → now ≡ before
+  pub reads : IsOutside before.page reply held identifier → Rose before.calls now.calls
+
+-- a cursor over the identifiers of a reply's rows, at their beginning
+pub record IsCursorOf (reply : Reply) (given : ℕ) (cursor : RunCursor) : Type 0 where
+  pub lease : cursor.lease ≡ given
+  pub rows : cursor.rows ≡ reply.rows
+  pub at : cursor.at ≡ 0
+  pub last : cursor.last ≡ 0
 
 -- a look-up has no more steps left than a table has rows, and one
 abbrev pub SearchesAreShort : Type 0

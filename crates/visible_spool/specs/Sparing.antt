@@ -1,7 +1,7 @@
 -- What a reader of the static pages and of one half of the spool relies on, and what keeps it.
 use Rattle.std.specs.Prelude.{◌≡◌, ◌≢◌, ℕ, ◌%◌, ◌^◌, ◌<◌, ◌≤◌, ◌⊎◌, Bool, true, List, IfSome}
 use Rattle.ghost_model.specs.core.Channel.{Catalog}
-use Rattle.ghost_model.specs.forms.Layout.{static_end}
+use Rattle.ghost_model.specs.forms.Layout.{count_of, static_end}
 use Rattle.ghost_base.specs.Runs.{run_of}
 use Rattle.edge_traits.specs.Devices.{Device, KeepsPages, SamePage, ChangesOnly}
 use Rattle.page_pool.specs.Pools.{Pool, page_at}
@@ -38,6 +38,8 @@ pub record IsHalf (told : Bool) (cat : Catalog) (side : ℕ) (device : Device) (
   pub readable : (table : ℕ) → table < 12 → IsReadable device (reply_of replies table)
   pub lies : AreInHalf cat side replies
   pub whole : told ≡ true → (table : ℕ) → table < 12 → HasSomeRows device.page (reply_of replies table)
+  -- a reply that has a row may have as many as its table
+  pub rows : (table : ℕ) → table < 12 → 0 < (reply_of replies table).run.count → (reply_of replies table).rows ≡ count_of cat table
 
 -- a page of one of the replies, and a page that a job may hold in a buffer
 pub record IsInReplies (replies : Half) (number : ℕ) : Type 0 where

@@ -6,9 +6,8 @@ ghost use Rattle.edge_traits.specs.Devices.{Device};
 ghost use Rattle.page_pool.specs.Pools.{Pool, page_at};
 ghost use Rattle.flash_pages.specs.Reads.{ReadsPages, CanRead, WasGiven};
 ghost use Rattle.flash_pages.specs.Cursors.{IsReady, IsPageOf, ids_left};
-ghost use Rattle.ghost_model.specs.core.Causes.{Rose};
-ghost use Rattle.visible_spool.specs.Searches.{IsInHeld, IsOutside};
-ghost use Rattle.visible_spool.specs.Replies.{IsReadable, HoldsRows, Finds, WasFound, id_of_bytes};
+ghost use Rattle.visible_spool.specs.Searches.{GivesRow, IsCursorOf};
+ghost use Rattle.visible_spool.specs.Replies.{IsReadable, HoldsRows, WasFound, id_of_bytes};
 
 use crate::reply::Reply;
 use crate::row::SpoolRow;
@@ -33,10 +32,8 @@ impl Reply {
     ) -> Result<Option<SpoolRow>, PageFault>
         requires readable { IsReadable (F.state flash.old) self.now }
         requires ready { CanRead F.told (F.state flash.old) pool.old lease.now }
-        ensures finds { F.told ≡ true → (rows : List (List ℕ)) → HoldsRows (F.state flash.old).page self.now rows → Finds rows id result }
+        ensures gives { F.told ≡ true → GivesRow (F.state flash.old) (F.state flash.new) (page_at pool.old lease.now) self.now id result }
         ensures found { (since : ℕ) → since ≤ (F.state flash.old).calls → WasGiven since (F.state flash.old) pool.old lease.now → WasFound since (F.state flash.new) self.now id result }
-        ensures at_hand { F.told ≡ true → (rows : List (List ℕ)) → HoldsRows (F.state flash.old).page self.now rows → IsInHeld self.now rows (page_at pool.old lease.now) id → F.state flash.new ≡ F.state flash.old }
-        ensures reads { F.told ≡ true → IsOutside (F.state flash.old).page self.now (page_at pool.old lease.now) id → Rose (F.state flash.old).calls (F.state flash.new).calls }
         ensures readable { IsReadable (F.state flash.new) self.now }
         ensures read { (k : ℕ) → self.now.run.count < 2 ^ k → ReadsPages F.told (F.state flash.old) (F.state flash.new) pool.old pool.new lease.now (k + 3) result }
     {
@@ -56,10 +53,7 @@ impl Reply {
 
     /// The identifiers of the rows, in their order.
     pub fn ids(&self, lease: Lease) -> RunCursor
-        ensures lease { result.lease ≡ lease }
-        ensures rows { result.rows ≡ self.now.rows }
-        ensures at { result.at ≡ 0 }
-        ensures last { result.last ≡ 0 }
+        ensures begins { IsCursorOf self.now lease result }
         ensures ids { (page : ℕ → List ℕ) (rows : List (List ℕ)) → HoldsRows page self.now rows → ids_left page result ≡ map id_of_bytes rows }
         ensures ready { (told : Bool) (device : Device) (pool : Pool) → IsReadable device self.now → CanRead told device pool lease → IfSome (page_at pool lease) (IsPageOf (run_of self.now.run)) → IsReady told device pool result }
     {

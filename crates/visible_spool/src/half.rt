@@ -1,14 +1,13 @@
 //! The replies of one text.
 
 ghost use Rattle.std.specs.Prelude.{◌≡◌, ◌<◌, ◌≤◌, ◌+◌, ◌^◌, ℕ, Bool, true, List, map, IfSome};
-ghost use Rattle.ghost_model.specs.core.Causes.{Rose};
 ghost use Rattle.ghost_base.specs.Runs.{run_of};
 ghost use Rattle.page_pool.specs.Pools.{Pool, page_at};
 ghost use Rattle.edge_traits.specs.Devices.{Device};
 ghost use Rattle.flash_pages.specs.Reads.{ReadsPages, CanRead, WasGiven};
 ghost use Rattle.flash_pages.specs.Cursors.{IsReady, IsPageOf, ids_left};
-ghost use Rattle.visible_spool.specs.Replies.{IsReadable, HoldsRows, Finds, WasFound, id_of_bytes};
-ghost use Rattle.visible_spool.specs.Searches.{IsInHeld, IsOutside};
+ghost use Rattle.visible_spool.specs.Replies.{IsReadable, HoldsRows, WasFound, id_of_bytes};
+ghost use Rattle.visible_spool.specs.Searches.{GivesRow, IsCursorOf};
 ghost use Rattle.visible_spool.specs.Halves.{reply_of, no_half, HasNoReply};
 
 use crate::reply::Reply;
@@ -70,10 +69,8 @@ impl Half {
         requires there { table < MAX_TABLES }
         requires readable { IsReadable (F.state flash.old) (reply_of self.now table) }
         requires ready { CanRead F.told (F.state flash.old) pool.old lease.now }
-        ensures finds { F.told ≡ true → (rows : List (List ℕ)) → HoldsRows (F.state flash.old).page (reply_of self.now table) rows → Finds rows id result }
+        ensures gives { F.told ≡ true → GivesRow (F.state flash.old) (F.state flash.new) (page_at pool.old lease.now) (reply_of self.now table) id result }
         ensures found { (since : ℕ) → since ≤ (F.state flash.old).calls → WasGiven since (F.state flash.old) pool.old lease.now → WasFound since (F.state flash.new) (reply_of self.now table) id result }
-        ensures at_hand { F.told ≡ true → (rows : List (List ℕ)) → HoldsRows (F.state flash.old).page (reply_of self.now table) rows → IsInHeld (reply_of self.now table) rows (page_at pool.old lease.now) id → F.state flash.new ≡ F.state flash.old }
-        ensures reads { F.told ≡ true → IsOutside (F.state flash.old).page (reply_of self.now table) (page_at pool.old lease.now) id → Rose (F.state flash.old).calls (F.state flash.new).calls }
         ensures readable { IsReadable (F.state flash.new) (reply_of self.now table) }
         ensures read { (k : ℕ) → (reply_of self.now table).run.count < 2 ^ k → ReadsPages F.told (F.state flash.old) (F.state flash.new) pool.old pool.new lease.now (k + 3) result }
     {
@@ -83,10 +80,7 @@ impl Half {
     /// The identifiers of the rows in the reply of a table: `Reply::ids`.
     pub fn ids(&self, table: usize, lease: Lease) -> RunCursor
         requires there { table < MAX_TABLES }
-        ensures lease { result.lease ≡ lease }
-        ensures rows { result.rows ≡ (reply_of self.now table).rows }
-        ensures at { result.at ≡ 0 }
-        ensures last { result.last ≡ 0 }
+        ensures begins { IsCursorOf (reply_of self.now table) lease result }
         ensures ids { (page : ℕ → List ℕ) (rows : List (List ℕ)) → HoldsRows page (reply_of self.now table) rows → ids_left page result ≡ map id_of_bytes rows }
         ensures ready { (told : Bool) (device : Device) (pool : Pool) → IsReadable device (reply_of self.now table) → CanRead told device pool lease → IfSome (page_at pool lease) (IsPageOf (run_of (reply_of self.now table).run)) → IsReady told device pool result }
     {

@@ -1,15 +1,15 @@
 //! A look-up in a reply, step by step.
 
-ghost use Rattle.std.specs.Prelude.{◌≡◌, ◌<◌, ◌≤◌, ◌+◌, ◌-◌, ◌/◌, ◌^◌, ℕ, Bool, true, false, List, None, Some, IfOk, IfErr, OnErr};
+ghost use Rattle.std.specs.Prelude.{◌≡◌, ◌<◌, ◌≤◌, ◌+◌, ◌-◌, ◌/◌, ◌^◌, ℕ, Bool, true, List, None, Some, IfOk, IfErr, OnErr};
 ghost use Rattle.ghost_model.specs.forms.Runs as runs;
 ghost use Rattle.ghost_base.specs.Runs.{run_of};
 ghost use Rattle.edge_traits.specs.Devices.{Device, GaveSince, next_if};
 ghost use Rattle.page_pool.specs.Pools.{ChangesPage, IsOut, bytes_at, page_at};
-ghost use Rattle.flash_pages.specs.Reads.{Reads, ReadsPages, CanRead, IsFilled, WasGiven, must_read, page_after};
+ghost use Rattle.flash_pages.specs.Reads.{Reads, ReadsPages, CanRead, IsFilled, WasGiven, must_read};
 ghost use Rattle.flash_pages.specs.declared.fault.PageFault.TheVariants.{Damaged};
 ghost use Rattle.visible_spool.specs.Replies.{IsReadable, IsSound, HoldsRows, Blames, IsFlash};
 ghost use Rattle.visible_spool.specs.declared.search.Search.TheVariants.{New};
-ghost use Rattle.visible_spool.specs.Searches.{IsSearch, IsSought, IsSoughtAmong, IsFewer, IsNowhere, IsOutside, CallsLeft, LooksLeft, TurnIsInHeld, StepFinds, StepStands, TurnFinds, TurnStands, TurnNarrows, TurnLeaves, TurnLies, StepLies, HoldsOwn, BlamedHere, IsElsewhere, IsInHeld, IsSlot, is_more, left_in, pages_in, row_at, step_calls, calls_if, width_left};
+ghost use Rattle.visible_spool.specs.Searches.{BlamedHere, CallsLeft, GivesStep, HoldsOwn, IsElsewhere, IsFewer, IsNowhere, IsSearch, IsSlot, IsSought, IsSoughtAmong, KeepsSearch, LooksLeft, StepFinds, StepLies, StepStands, StepWas, TurnFinds, TurnIsInHeld, TurnLeaves, TurnLies, TurnNarrows, TurnStands, calls_if, is_more, left_in, pages_in, row_at, step_calls, width_left};
 
 use crate::judging::Verdict;
 use crate::reply::Reply;
@@ -309,7 +309,6 @@ impl Reply {
         ensures blamed { IfErr result (BlamedHere (page_at pool.new lease.now)) }
         ensures narrows { IfOk result (TurnNarrows looking page) }
         ensures readable { IsReadable (F.state flash.new) self.now }
-        ensures holds { page_at pool.new lease.now ≡ page_after result (self.now.run.first + page) }
         ensures read { Reads F.told (F.state flash.old) (F.state flash.new) pool.old pool.new lease.now (must_read pool.old lease.now (self.now.run.first + page)) (self.now.run.first + page) result }
     {
         match load(flash, pool, lease, self.run.first + page) {
@@ -455,25 +454,9 @@ impl Reply {
         requires readable { IsReadable (F.state flash.old) self.now }
         requires search { IsSearch self.now search.old }
         requires ready { CanRead F.told (F.state flash.old) pool.old lease.now }
-        ensures search { IsSearch self.now search.new }
-        ensures sought { F.told ≡ true → (rows : List (List ℕ)) → HoldsRows (F.state flash.old).page self.now rows → IsSought self.now rows id search.old → IsSought self.now rows id search.new }
-        ensures finds { F.told ≡ true → (rows : List (List ℕ)) → HoldsRows (F.state flash.old).page self.now rows → IsSought self.now rows id search.old → IfOk result (StepFinds self.now rows id (bytes_at pool.new lease.now)) }
-        ensures whole { F.told ≡ true → (rows : List (List ℕ)) → HoldsRows (F.state flash.old).page self.now rows → IfErr result IsFlash }
-        ensures stands { (since : ℕ) → since ≤ (F.state flash.old).calls → WasGiven since (F.state flash.old) pool.old lease.now → IfOk result (StepStands since (F.state flash.new) self.now (bytes_at pool.new lease.now)) }
-        ensures blames { (since : ℕ) → since ≤ (F.state flash.old).calls → WasGiven since (F.state flash.old) pool.old lease.now → IfErr result (Blames since (F.state flash.new) self.now) }
-        ensures decided { F.told ≡ true → (rows : List (List ℕ)) → HoldsRows (F.state flash.old).page self.now rows → IsSought self.now rows id search.old → IsInHeld self.now rows (page_at pool.old lease.now) id → IfOk result (λ step. is_more step ≡ false) }
-        ensures at_hand { F.told ≡ true → (rows : List (List ℕ)) → HoldsRows (F.state flash.old).page self.now rows → IsSought self.now rows id search.old → IsInHeld self.now rows (page_at pool.old lease.now) id → F.state flash.new ≡ F.state flash.old }
-        ensures failed { OnErr result (search.new ≡ search.old) }
-        ensures shorter { IfOk result (λ step. is_more step ≡ true → left_in self.now search.new < left_in self.now search.old) }
-        ensures lies { IfOk result (StepLies self.now id (page_at pool.new lease.now) (bytes_at pool.new lease.now)) }
-        ensures page { HoldsOwn self.now (page_at pool.old lease.now) (page_at pool.new lease.now) }
-        ensures blamed { IfErr result (BlamedHere (page_at pool.new lease.now)) }
-        ensures fewer { (k left : ℕ) → self.now.run.count < 2 ^ k → CallsLeft k search.old left → IfOk result (λ step. is_more step ≡ true → IsFewer k search.new left) }
-        ensures some { (k left : ℕ) → self.now.run.count < 2 ^ k → CallsLeft k search.old left → step_calls (page_at pool.old lease.now) (page_at pool.new lease.now) result ≡ true → 1 ≤ left }
-        ensures reads { F.told ≡ true → search.old ≡ New → IsOutside (F.state flash.old).page self.now (page_at pool.old lease.now) id → step_calls (page_at pool.old lease.now) (page_at pool.new lease.now) result ≡ true }
-        ensures more { IfOk result (λ step. is_more step ≡ true → step_calls (page_at pool.old lease.now) (page_at pool.new lease.now) result ≡ true) }
-        ensures calls { (F.state flash.new).calls ≡ next_if (step_calls (page_at pool.old lease.now) (page_at pool.new lease.now) result) (F.state flash.old).calls }
-        ensures readable { IsReadable (F.state flash.new) self.now }
+        ensures gives { F.told ≡ true → GivesStep (F.state flash.old) (F.state flash.new) (page_at pool.old lease.now) (page_at pool.new lease.now) (bytes_at pool.new lease.now) self.now id search.old search.new result }
+        ensures found { (since : ℕ) → since ≤ (F.state flash.old).calls → WasGiven since (F.state flash.old) pool.old lease.now → StepWas since (F.state flash.new) self.now (bytes_at pool.new lease.now) result }
+        ensures always { KeepsSearch (F.state flash.old) (F.state flash.new) (page_at pool.old lease.now) (page_at pool.new lease.now) (bytes_at pool.new lease.now) self.now id search.old search.new result }
         ensures read { ReadsPages F.told (F.state flash.old) (F.state flash.new) pool.old pool.new lease.now (calls_if (step_calls (page_at pool.old lease.now) (page_at pool.new lease.now) result)) result }
     {
         let looking = self.begun(*search, id);

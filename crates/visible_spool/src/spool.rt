@@ -7,12 +7,11 @@ ghost use Rattle.ghost_model.specs.forms.Layout as layout;
 ghost use Rattle.ghost_base.specs.Views.{kind_of};
 ghost use Rattle.edge_traits.specs.Devices.{Device};
 ghost use Rattle.page_pool.specs.Pools.{Pool, IsOut, ChangesPage, page_at};
-ghost use Rattle.ghost_model.specs.core.Causes.{Rose};
 ghost use Rattle.ghost_base.specs.Runs.{run_of};
 ghost use Rattle.flash_pages.specs.Reads.{ReadsPages, CanRead, WasGiven};
 ghost use Rattle.flash_pages.specs.Cursors.{IsReady, IsPageOf, ids_left};
-ghost use Rattle.visible_spool.specs.Replies.{Finds, HoldsRows, IsReadable, WasFound, id_of_bytes, kinds_of};
-ghost use Rattle.visible_spool.specs.Searches.{IsInHeld, IsOutside};
+ghost use Rattle.visible_spool.specs.Replies.{HoldsRows, IsReadable, WasFound, id_of_bytes, kinds_of};
+ghost use Rattle.visible_spool.specs.Searches.{GivesRow, IsCursorOf};
 ghost use Rattle.visible_spool.specs.Halves.{reply_of};
 ghost use Rattle.visible_spool.specs.Areas.{AreAreasOf, AreAreas, first_of, end_of};
 ghost use Rattle.visible_spool.specs.Sides.{Changes, is_marked, replies_of, side_of};
@@ -338,10 +337,8 @@ impl Spool {
         requires there { table < MAX_TABLES }
         requires readable { IsReadable (F.state flash.old) (reply_of (replies_of self.now.sides text) table) }
         requires ready { CanRead F.told (F.state flash.old) pool.old lease.now }
-        ensures finds { F.told ≡ true → (rows : List (List ℕ)) → HoldsRows (F.state flash.old).page (reply_of (replies_of self.now.sides text) table) rows → Finds rows id result }
+        ensures gives { F.told ≡ true → GivesRow (F.state flash.old) (F.state flash.new) (page_at pool.old lease.now) (reply_of (replies_of self.now.sides text) table) id result }
         ensures found { (since : ℕ) → since ≤ (F.state flash.old).calls → WasGiven since (F.state flash.old) pool.old lease.now → WasFound since (F.state flash.new) (reply_of (replies_of self.now.sides text) table) id result }
-        ensures at_hand { F.told ≡ true → (rows : List (List ℕ)) → HoldsRows (F.state flash.old).page (reply_of (replies_of self.now.sides text) table) rows → IsInHeld (reply_of (replies_of self.now.sides text) table) rows (page_at pool.old lease.now) id → F.state flash.new ≡ F.state flash.old }
-        ensures reads { F.told ≡ true → IsOutside (F.state flash.old).page (reply_of (replies_of self.now.sides text) table) (page_at pool.old lease.now) id → Rose (F.state flash.old).calls (F.state flash.new).calls }
         ensures readable { IsReadable (F.state flash.new) (reply_of (replies_of self.now.sides text) table) }
         ensures read { (k : ℕ) → (reply_of (replies_of self.now.sides text) table).run.count < 2 ^ k → ReadsPages F.told (F.state flash.old) (F.state flash.new) pool.old pool.new lease.now (k + 3) result }
     {
@@ -351,10 +348,7 @@ impl Spool {
     /// The identifiers of the rows in the reply of a text for a table: `Reply::ids`.
     pub fn ids(&self, text: u32, table: usize, lease: Lease) -> RunCursor
         requires there { table < MAX_TABLES }
-        ensures lease { result.lease ≡ lease }
-        ensures rows { result.rows ≡ (reply_of (replies_of self.now.sides text) table).rows }
-        ensures at { result.at ≡ 0 }
-        ensures last { result.last ≡ 0 }
+        ensures begins { IsCursorOf (reply_of (replies_of self.now.sides text) table) lease result }
         ensures ids { (page : ℕ → List ℕ) (rows : List (List ℕ)) → HoldsRows page (reply_of (replies_of self.now.sides text) table) rows → ids_left page result ≡ map id_of_bytes rows }
         ensures ready { (told : Bool) (device : Device) (pool : Pool) → IsReadable device (reply_of (replies_of self.now.sides text) table) → CanRead told device pool lease → IfSome (page_at pool lease) (IsPageOf (run_of (reply_of (replies_of self.now.sides text) table).run)) → IsReady told device pool result }
     {

@@ -6,5 +6,5 @@ use Rattle.index_tests.proofs.ids.list_at.Goals as goal
 
 pub returns-clause-run : goal.returns-clause-run
 returns-clause-run c =
-    IfOk-weaker c.list.result _ _ (λ list is. listed _ c.args.index.now.directory c.list.ensures.readable (c.args.level - 1) (run_of list.run) is)
-    c.list.ensures.run
+    IfOk-weaker c.list.result _ _ (λ list is. listed _ c.args.index.now.directory c.list.ensures.always.readable (c.args.level - 1) (run_of list.run) is)
+    c.list.ensures.always.run

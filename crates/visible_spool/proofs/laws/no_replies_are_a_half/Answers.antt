@@ -7,5 +7,6 @@ returns c = record {
     readable = λ table there. (c.texts_without_rows.ensures.none table there).readable device small;
     lies = λ table there place within. let none = (c.texts_without_rows.ensures.none table there).count in absurd (omega (arith, none, within));
     whole = λ yes table there. record { rows = []; holds = (c.texts_without_rows.ensures.none table there).holds device.page };
+    rows = λ table there some. let none = (c.texts_without_rows.ensures.none table there).count in absurd (omega (arith, none, some));
   };
 }

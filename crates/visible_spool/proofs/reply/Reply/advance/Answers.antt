@@ -20,18 +20,18 @@ returns-in-Err-clause-page g c =
     let high = c.next_page-page.ensures.high in
     let within = c.requires.within in
     own_after c.args.self.now c.requires.readable.sound (page_at c.args.pool.now c.args.lease.now) (page_at c.look.new.pool c.args.lease.now) c.next_page-page.result (omega (arith, high, within))
-    c.look.result c.look.ensures.holds
+    c.look.result c.look.ensures.read.holds
 
 pub returns-in-Ok-Over-clause-page : goal.returns-in-Ok-Over-clause-page
 returns-in-Ok-Over-clause-page g c =
     let high = c.next_page-page.ensures.high in
     let within = c.requires.within in
     own_after c.args.self.now c.requires.readable.sound (page_at c.args.pool.now c.args.lease.now) (page_at c.look.new.pool c.args.lease.now) c.next_page-page.result (omega (arith, high, within))
-    c.look.result c.look.ensures.holds
+    c.look.result c.look.ensures.read.holds
 
 pub returns-in-Ok-Narrowed-clause-page : goal.returns-in-Ok-Narrowed-clause-page
 returns-in-Ok-Narrowed-clause-page g c =
     let high = c.next_page-page.ensures.high in
     let within = c.requires.within in
     own_after c.args.self.now c.requires.readable.sound (page_at c.args.pool.now c.args.lease.now) (page_at c.look.new.pool c.args.lease.now) c.next_page-page.result (omega (arith, high, within))
-    c.look.result c.look.ensures.holds
+    c.look.result c.look.ensures.read.holds

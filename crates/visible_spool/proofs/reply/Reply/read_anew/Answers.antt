@@ -17,4 +17,4 @@ load-requires-clause-in_range g c =
 pub returns-clause-page : goal.returns-clause-page
 returns-clause-page g c =
     own_after c.args.self.now c.requires.readable.sound (page_at c.args.pool.now c.args.lease.now) (page_at c.load.new.pool c.args.lease.now) c.near_page-page.result c.near_page-page.ensures.within
-    c.load.result c.load.ensures.holds
+    c.load.result c.load.ensures.read.holds
