@@ -29,7 +29,7 @@ use Rattle.id_merge.proofs.Unread.{unread_on, unread_stays, unread_failed}
 pub id_same : (page : ℕ → List ℕ) (before now : RunCursor) → SameList before now → (i : ℕ) → id_in page now i ≡ id_in page before i
 id_same page before now same i = ap (λ (list : ListRef). runs.id_at page (run_of list.run) (list.first + i)) same.list
 
-count_same : (before now : RunCursor) → SameList before now → now.list.count ≡ before.list.count
+pub count_same : (before now : RunCursor) → SameList before now → now.list.count ≡ before.list.count
 count_same before now same = ap (λ (list : ListRef). list.count) same.list
 
 -- the first of some identifiers is that of the first record
@@ -65,7 +65,7 @@ later_left page before now id same left from = record {
 }
 
 -- a cursor that stands after a record of the list, whose identifier is its last one, ascends as before
-ascends_on :
+pub ascends_on :
     (page : ℕ → List ℕ) (before now : RunCursor) → SameList before now → before.at < now.at → now.at ≤ before.list.count
     → now.last ≡ id_in page before (now.at - 1) → ListAscends page before → ListAscends page now
 ascends_on page before now same further within last was = record {
@@ -141,7 +141,7 @@ advances_on page right low before now same further within is rows below passed w
 stays_ahead : (page right : ℕ → List ℕ) (low : ℕ) (run : RunCursor) → IsRight page right run → Advances page right low (OfList run) (OfList run)
 stays_ahead page right low run was = record { still = was; fewer = λ id ahead. ahead; same = λ id above ahead. ahead }
 
-before_is : (page : ℕ → List ℕ) (run : RunCursor) (i : ℕ) → 0 < i → id_before page run i ≡ id_in page run (i - 1)
+pub before_is : (page : ℕ → List ℕ) (run : RunCursor) (i : ℕ) → 0 < i → id_before page run i ≡ id_in page run (i - 1)
 before_is page run zero some = absurd (omega arith)
 before_is page run (suc i) some = let e : i ≡ suc i - 1 = omega arith in ap (id_in page run) e
 
