@@ -18,8 +18,8 @@ use Rattle.ghost_base.specs.declared.runs.ListRef.{ListRef}
 use Rattle.ghost_base.specs.Runs.{run_of}
 use Rattle.id_merge.specs.declared.cursor.Cursor.{Cursor}
 use Rattle.id_merge.specs.declared.cursor.Cursor.TheVariants.{List as OfList, Range}
-use Rattle.id_merge.specs.Since.{Since, IsSince, MayBlame, Blames}
-use Rattle.id_merge.specs.Cursors.{cursor_at, nothing, leases_of, page_last, unread_list, unread_of, unread_in, at_hand_of, CursorRight, IsAtMost, CursorReady, AllReady, ListAscends, ListGiven, CursorGiven, AllGiven, Passed, GoesOn, SameSource, BlamesLists, DamagesLists}
+use Rattle.id_merge.specs.Since.{Since, IsSince, MayBlame, FaultIsBlamed}
+use Rattle.id_merge.specs.Cursors.{cursor_at, nothing, leases_of, page_last, unread_list, unread_of, unread_in, at_hand_of, CursorRight, IsAtMost, CursorReady, AllReady, ListAscends, ListGiven, CursorGiven, AllGiven, Passed, GoesOn, SameSource, FaultBlames, BlamesLists, DamagesLists}
 use Rattle.id_merge.specs.Merges.{FailTells}
 use Rattle.id_merge.specs.Moving.{Advances, RunMoves, Reaches, CallIf, DamagesRun}
 use Rattle.id_merge.proofs.SinceLaws.{may_then, may_of, list_blamed, none_damaged}
@@ -260,12 +260,10 @@ given_at since device pool cursors i run is given =
     let P : Cursor → Type 0 = λ cursor. CursorGiven since device pool cursor in subst P is (given i)
 
 -- such a slot is blamed
-pub lists_blamed :
-    {T : Type 0} (since : Since) (device : Device) (cursors : List Cursor) (result : Result T PageFault) → BlamesLists since device cursors result
-    → Blames since device result
-lists_blamed since device cursors (Ok answer) blames = tt
-lists_blamed since device cursors (Err Flash) blames = tt
-lists_blamed since device cursors (Err (Damaged number slot found)) blames = list_blamed since blames.run blames.may blames.inside blames.blames
+pub lists_fault :
+    (since : Since) (device : Device) (cursors : List Cursor) (fault : PageFault) → FaultBlames since device cursors fault → FaultIsBlamed since device fault
+lists_fault since device cursors Flash blames = tt
+lists_fault since device cursors (Damaged number slot found) blames = list_blamed since blames.run blames.may blames.inside blames.blames
 
 -- the pages that are still to be read for several cursors, where those for one list's go down
 pub unread_other :
