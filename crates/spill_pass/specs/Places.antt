@@ -66,6 +66,7 @@ is_of run width page = nat_le run.first page && nat_lt page (run.first + runs.pa
 -- a place that is blamed: what a read from that count of calls on gave there may not come next. It lies on a page of the places, each
 -- of which has eight bytes
 pub record DamagesPlace (since : ℕ) (device : Device) (reader : PlaceReader) (number slot found : ℕ) : Type 0 where
+  pub within : reader.at < reader.places.count
   pub page : number ≡ runs.page_of (run_of reader.places) reader.at
   pub slot_is : slot ≡ runs.slot_of (run_of reader.places) reader.at
   pub bytes : List ℕ
