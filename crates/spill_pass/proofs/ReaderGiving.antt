@@ -35,12 +35,12 @@ use Rattle.spill_pass.proofs.Reducing.{ReadsPlaced}
 
 -- a place that is blamed
 pub place_blamed :
-    {told : Bool} {page : ℕ → List ℕ} {before now : Device} {pool : Pool} {rows : ℕ} (since : Since) (reader : PlaceReader) (result : Result (Option ListRef) PageFault)
+    {told : Bool} {page : ℕ → List ℕ} {before : Device} {pool : Pool} {rows : ℕ} (since : Since) (now : Device) (reader : PlaceReader) (result : Result (Option ListRef) PageFault)
     → since.told ≡ told → reader.lists.count < 2 ^ 32 → before.page ≡ page → ReaderGiven since before pool rows reader
     → (told ≡ true → GivesPlace page reader result) → BlamesPlace since.calls now reader result → Blames since now result
-place_blamed since reader (Ok answer) same small pages given gives blames = tt
-place_blamed since reader (Err Flash) same small pages given gives blames = tt
-place_blamed {page = page} {before = before} {rows = rows} since reader (Err (Damaged number slot found)) same small pages given gives blames =
+place_blamed since now reader (Ok answer) same small pages given gives blames = tt
+place_blamed since now reader (Err Flash) same small pages given gives blames = tt
+place_blamed {page = page} {before = before} {rows = rows} since now reader (Err (Damaged number slot found)) same small pages given gives blames =
     let none : since.told ≡ true → ReadsInOrder before.page rows reader → ⊥ =
     λ tells order.
     let P : (ℕ → List ℕ) → Type 0 = λ p. ReaderHas p before.page rows reader order.ids in

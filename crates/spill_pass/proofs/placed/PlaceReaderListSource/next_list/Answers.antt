@@ -23,7 +23,7 @@ returns-clause-less g c = λ page rows number slot found damaged.
 
 pub returns-clause-blames : goal.returns-clause-blames
 returns-clause-blames g c = λ since rows from given.
-    place_blamed since c.args.self.now c.next.result from.tells c.requires.ready.few refl given c.next.ensures.gives
+    place_blamed since (g.F.Flash.state c.next.new.flash) c.args.self.now c.next.result from.tells c.requires.ready.few refl given c.next.ensures.gives
     (c.next.ensures.blames since.calls from.calls given.read)
 
 pub returns-clause-known : goal.returns-clause-known
