@@ -1,10 +1,8 @@
 -- What is counted of calls, one after the other.
-use Rattle.std.proofs.Common.{◌≡◌, ◌∙◌, ℕ, ◌+◌, ◌≤◌, Bool, true, false, if◌then◌else◌, subst, ap, refl, Result, arith}
-use Rattle.edge_traits.specs.Devices.{Device, next}
-use Rattle.page_pool.specs.Pools.{Pool}
+use Rattle.std.proofs.Common.{◌≡◌, ◌∙◌, ℕ, ◌+◌, ◌≤◌, ◌&&◌, Bool, true, false, if◌then◌else◌, subst, ap, refl, Result, arith}
+use Rattle.edge_traits.specs.Devices.{Device, next, next_if}
 use Rattle.flash_pages.specs.declared.fault.PageFault.{PageFault}
 use Rattle.flash_pages.specs.declared.fault.PageFault.TheVariants.{Flash, Damaged}
-use Rattle.flash_pages.specs.Reads.{Reads}
 use Rattle.id_merge.specs.Merges.{MadeOne, MadeNone, MadeSome, FailedOne, FailedLast, FailTells}
 use Rattle.id_merge.specs.Moving.{CallIf}
 
@@ -46,11 +44,12 @@ fails_after c w (Damaged number slot found) first second = none_trans first seco
 
 -- a read of one page, by whether it was made
 pub call_of :
-    {T : Type 0} {told : Bool} {before now : Device} {pool later : Pool} {lease number u : ℕ} {result : Result T PageFault} (v : ℕ) (reads : Bool)
-    → Reads told before now pool later lease reads number result → now.faults ≡ before.faults → v + (if reads then 1 else 0) ≡ u
+    (before now : Device) (deep : Bool) {u : ℕ} (v : ℕ) (reads : Bool)
+    → now.calls ≡ next_if reads before.calls → now.deep_reads ≡ next_if (reads && deep) before.deep_reads
+    → now.faults ≡ before.faults → v + (if reads then 1 else 0) ≡ u
     → CallIf reads before now u v
-call_of v true read faults fewer = record { calls = read.calls; faults = faults; fewer = fewer }
-call_of v false read faults fewer = record { calls = read.calls; deep_reads = read.deep_reads; faults = faults; as_many = omega (arith, fewer) }
+call_of before now deep v true calls deep_reads faults fewer = record { calls = calls; faults = faults; fewer = fewer }
+call_of before now deep v false calls deep_reads faults fewer = record { calls = calls; deep_reads = deep_reads; faults = faults; as_many = omega (arith, fewer) }
 
 -- several calls
 pub some_none : {a b : Device} {u v : ℕ} → MadeNone a b u v → MadeSome a b u v

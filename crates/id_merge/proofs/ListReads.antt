@@ -9,8 +9,8 @@ use Rattle.edge_traits.specs.Devices.{Device, next_if}
 use Rattle.page_pool.specs.Pools.{Pool, ChangesPage, page_at}
 use Rattle.flash_pages.specs.declared.fault.PageFault.{PageFault}
 use Rattle.flash_pages.specs.declared.fault.PageFault.TheVariants.{Flash, Damaged}
-use Rattle.flash_pages.specs.Cursors.{IsReady, GivesNext, IsLastInPage, StandsAt, page_next, will_read}
-use Rattle.flash_pages.specs.Reads.{Reads, WasGiven, page_after}
+use Rattle.flash_pages.specs.Cursors.{IsReady, CursorReads, GivesNext, GivesPass, IsLastInPage, StandsAt, page_next, will_read}
+use Rattle.flash_pages.specs.Reads.{WasGiven, page_after}
 use Rattle.ghost_model.specs.forms.Runs as runs
 use Rattle.ghost_model.specs.forms.Runs.{ids_from, per_page}
 use Rattle.ghost_base.specs.declared.runs.ListRef.{ListRef}
@@ -29,7 +29,7 @@ use Rattle.id_merge.proofs.Unread.{unread_on, unread_stays, unread_failed}
 pub id_same : (page : ℕ → List ℕ) (before now : RunCursor) → SameList before now → (i : ℕ) → id_in page now i ≡ id_in page before i
 id_same page before now same i = ap (λ (list : ListRef). runs.id_at page (run_of list.run) (list.first + i)) same.list
 
-count_same : (before now : RunCursor) → SameList before now → now.list.count ≡ before.list.count
+pub count_same : (before now : RunCursor) → SameList before now → now.list.count ≡ before.list.count
 count_same before now same = ap (λ (list : ListRef). list.count) same.list
 
 -- the first of some identifiers is that of the first record
@@ -65,7 +65,7 @@ later_left page before now id same left from = record {
 }
 
 -- a cursor that stands after a record of the list, whose identifier is its last one, ascends as before
-ascends_on :
+pub ascends_on :
     (page : ℕ → List ℕ) (before now : RunCursor) → SameList before now → before.at < now.at → now.at ≤ before.list.count
     → now.last ≡ id_in page before (now.at - 1) → ListAscends page before → ListAscends page now
 ascends_on page before now same further within last was = record {
@@ -141,7 +141,7 @@ advances_on page right low before now same further within is rows below passed w
 stays_ahead : (page right : ℕ → List ℕ) (low : ℕ) (run : RunCursor) → IsRight page right run → Advances page right low (OfList run) (OfList run)
 stays_ahead page right low run was = record { still = was; fewer = λ id ahead. ahead; same = λ id above ahead. ahead }
 
-before_is : (page : ℕ → List ℕ) (run : RunCursor) (i : ℕ) → 0 < i → id_before page run i ≡ id_in page run (i - 1)
+pub before_is : (page : ℕ → List ℕ) (run : RunCursor) (i : ℕ) → 0 < i → id_before page run i ≡ id_in page run (i - 1)
 before_is page run zero some = absurd (omega arith)
 before_is page run (suc i) some = let e : i ≡ suc i - 1 = omega arith in ap (id_in page run) e
 
@@ -150,8 +150,8 @@ bit_most true = omega arith
 bit_most false = omega arith
 
 pub run_stays :
-    {T : Type 0} {told : Bool} {before now : Device} {pool later : Pool} (low : ℕ) (old new : RunCursor) {reads : Bool} {number : ℕ} {result : Result T PageFault}
-    → Reads told before now pool later old.lease reads number result → IsReady told now later new → SameList old new → new ≡ old
+    {T : Type 0} {told : Bool} {before now : Device} {pool later : Pool} (low : ℕ) (old new : RunCursor) {result : Result T PageFault}
+    → CursorReads told before now pool later old result → IsReady told now later new → SameList old new → new ≡ old
     → RunMoves told low before now pool later old new
 run_stays {told = told} {before = before} low old new read ready list is = record {
   kept = read.kept;
@@ -174,8 +174,8 @@ run_stays {told = told} {before = before} low old new read ready list is = recor
 }
 
 run_goes :
-    {T : Type 0} {told : Bool} {before now : Device} {pool later : Pool} (low : ℕ) (old new : RunCursor) {reads : Bool} {number : ℕ} {result : Result T PageFault}
-    → Reads told before now pool later old.lease reads number result → IsReady told now later new → SameList old new
+    {T : Type 0} {told : Bool} {before now : Device} {pool later : Pool} (low : ℕ) (old new : RunCursor) {result : Result T PageFault}
+    → CursorReads told before now pool later old result → IsReady told now later new → SameList old new
     → old.at < new.at → new.at ≤ old.list.count → old.last < new.last → new.last ≤ old.rows → old.last < low → new.last < low ⊎ (new.at ≡ old.at + 1)
     → (told ≡ true → new.last ≡ id_in before.page old (new.at - 1))
     → RunMoves told low before now pool later old new
@@ -201,9 +201,16 @@ run_goes {told = told} {before = before} low old new read ready list further wit
       advances_on before.page right low old new list further within (last tells) (record { some = omega arith; within = rows }) below passed was;
 }
 
+-- what it passed to, where pages are told
+pub gives_last :
+    {told : Bool} {page : ℕ → List ℕ} {before now : RunCursor} {low : ℕ} (result : Result Bool PageFault)
+    → (told ≡ true → GivesPass page before now low result) → IfOk result (λ passed. passed ≡ true → told ≡ true → PassesTo page now)
+gives_last (Ok passed) gives = λ is tells. (gives tells).gives is
+gives_last (Err fault) gives = tt
+
 pub pass_moves :
-    {told : Bool} {before now : Device} {pool later : Pool} (low : ℕ) (old new : RunCursor) {reads : Bool} {number : ℕ} (result : Result Bool PageFault)
-    → old.last < low → Reads told before now pool later old.lease reads number result → IsReady told now later new → SameList old new
+    {told : Bool} {before now : Device} {pool later : Pool} (low : ℕ) (old new : RunCursor) (result : Result Bool PageFault)
+    → old.last < low → CursorReads told before now pool later old result → IsReady told now later new → SameList old new
     → IfOk result (λ passed. passed ≡ true → Passes old new low) → IfOk result (λ passed. passed ≡ true → told ≡ true → PassesTo before.page new)
     → IfOk result (λ passed. passed ≡ false → new ≡ old) → OnErr result (new ≡ old)
     → RunMoves told low before now pool later old new
@@ -215,8 +222,8 @@ pass_moves low old new (Ok false) below read ready list passes gives stays fault
 pass_moves low old new (Err e) below read ready list passes gives stays fault = run_stays low old new read ready list fault
 
 pub next_moves :
-    {told : Bool} {before now : Device} {pool later : Pool} (low : ℕ) (old new : RunCursor) {reads : Bool} {number : ℕ} (result : Result (Option ℕ) PageFault)
-    → old.last < low → old.at < old.list.count → Reads told before now pool later old.lease reads number result → IsReady told now later new
+    {told : Bool} {before now : Device} {pool later : Pool} (low : ℕ) (old new : RunCursor) (result : Result (Option ℕ) PageFault)
+    → old.last < low → old.at < old.list.count → CursorReads told before now pool later old result → IsReady told now later new
     → SameList old new → (told ≡ true → GivesNext before.page old new result)
     → IfOk result (λ next. MatchOption next ((old.at ≡ old.list.count) × (new ≡ old)) (λ _. (old.at < old.list.count) × (new.at ≡ old.at + 1)))
     → IfOk result (λ next. IfSome next (λ id. IsNext old id × (new.last ≡ id))) → OnErr result (new ≡ old)
@@ -240,7 +247,7 @@ ReadTells reads before now unread left (Err (Damaged number slot found)) = CallI
 
 fail_tells :
     {T : Type 0} {told : Bool} {before now : Device} {pool later : Pool} (old new : RunCursor) (e : PageFault)
-    → old.at < old.list.count → Reads {T = T} told before now pool later old.lease (will_read pool old) (page_next old) (Err e) → new ≡ old
+    → old.at < old.list.count → CursorReads {T = T} told before now pool later old (Err e) → new ≡ old
     → page_at later old.lease ≡ page_after {T = T} (Err e) (page_next old)
     → ReadTells {T = T} (will_read pool old) before now (unread_list pool old) (unread_list later new) (Err e)
 fail_tells {before = before} {pool = pool} {later = later} old new Flash more read is held = (
@@ -253,18 +260,18 @@ fail_tells {before = before} {pool = pool} {later = later} old new Flash more re
   },
 )
 fail_tells {pool = pool} {later = later} old new (Damaged number slot found) more read is held =
-    call_of (unread_list later new) (will_read pool old) read read.fault (unread_stays pool later old new is held)
+    call_of _ _ _ (unread_list later new) (will_read pool old) read.calls read.deep_reads read.fault (unread_stays pool later old new is held)
 
 pub next_tells :
     {told : Bool} {before now : Device} {pool later : Pool} (old new : RunCursor) (result : Result (Option ℕ) PageFault)
     → old.at < old.list.count → 0 < per_page old.list.run.width
-    → Reads told before now pool later old.lease (will_read pool old) (page_next old) result → SameList old new
+    → CursorReads told before now pool later old result → SameList old new
     → IfOk result (λ next. MatchOption next ((old.at ≡ old.list.count) × (new ≡ old)) (λ _. (old.at < old.list.count) × (new.at ≡ old.at + 1)))
     → OnErr result (new ≡ old) → page_at later old.lease ≡ page_after result (page_next old)
     → ReadTells (will_read pool old) before now (unread_list pool old) (unread_list later new) result
 next_tells {pool = pool} {later = later} old new (Ok (Some id)) more some read list step fault held =
     let here : new.at - 1 ≡ old.at = omega (arith, step.1) in
-    call_of (unread_list later new) (will_read pool old) read read.no_fault
+    call_of _ _ _ (unread_list later new) (will_read pool old) read.calls read.deep_reads read.no_fault
     (unread_on pool later old new list some (omega (arith, step.1)) (omega (arith, step.1))
     (ap (λ i. runs.page_of (run_of old.list.run) (old.list.first + i)) here) held)
 next_tells old new (Ok None) more some read list step fault held = absurd (omega (arith, step.0))
@@ -273,17 +280,17 @@ next_tells old new (Err e) more some read list step fault held = fail_tells old 
 pub pass_tells :
     {told : Bool} {before now : Device} {pool later : Pool} (low : ℕ) (old new : RunCursor) (result : Result Bool PageFault)
     → old.at < old.list.count → 0 < per_page old.list.run.width
-    → Reads told before now pool later old.lease (will_read pool old) (page_next old) result → SameList old new
+    → CursorReads told before now pool later old result → SameList old new
     → IfOk result (λ passed. passed ≡ true → Passes old new low) → IfOk result (λ passed. passed ≡ true → IsLastInPage old (new.at - 1))
     → IfOk result (λ passed. passed ≡ false → new ≡ old)
     → OnErr result (new ≡ old) → page_at later old.lease ≡ page_after result (page_next old)
     → ReadTells (will_read pool old) before now (unread_list pool old) (unread_list later new) result
 pass_tells {pool = pool} {later = later} low old new (Ok true) more some read list passes whole stays fault held =
     let p = passes refl in
-    call_of (unread_list later new) (will_read pool old) read read.no_fault
+    call_of _ _ _ (unread_list later new) (will_read pool old) read.calls read.deep_reads read.no_fault
     (unread_on pool later old new list some (omega (arith, p.further)) p.within (whole refl).same_page held)
 pass_tells {pool = pool} {later = later} low old new (Ok false) more some read list passes whole stays fault held =
-    call_of (unread_list later new) (will_read pool old) read read.no_fault (unread_stays pool later old new (stays refl) held)
+    call_of _ _ _ (unread_list later new) (will_read pool old) read.calls read.deep_reads read.no_fault (unread_stays pool later old new (stays refl) held)
 pass_tells low old new (Err e) more some read list passes whole stays fault held = fail_tells old new e more read fault held
 
 -- without a read, no call

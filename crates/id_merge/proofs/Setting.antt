@@ -1,5 +1,5 @@
 -- What a call on one list leaves of several cursors.
-use Rattle.std.proofs.Common.{◌≡◌, ◌≢◌, ◌∙◌, ℕ, ◌+◌, ◌-◌, ◌<◌, ◌≤◌, inl, inr, Bool, true, false, not, ◌&&◌, nat_lt, if◌then◌else◌, List, length, ap, sym, refl, subst, get_or, slice_set, IfSome, IfOk, IfErr, Option, None, Some, Result, Ok, Err, arith}
+use Rattle.std.proofs.Common.{◌≡◌, ◌≢◌, ◌∙◌, ℕ, ◌+◌, ◌-◌, ◌<◌, ◌≤◌, ◌⊎◌, inl, inr, Bool, true, false, not, ◌&&◌, nat_lt, if◌then◌else◌, List, length, ap, sym, refl, subst, get_or, slice_set, IfSome, IfOk, IfErr, Option, None, Some, Result, Ok, Err, arith}
 use Rattle.std.proofs.lemmas.Bool.{cases_eq}
 use Rattle.std.proofs.lemmas.List.{get_or-set_same, get_or-set_other, get_or_default, length-set}
 use Rattle.edge_traits.specs.Devices.{Device, KeepsPages, GaveSince}
@@ -10,15 +10,20 @@ use Rattle.page_pool.proofs.Leases.{out_kept, outs_kept, change_elsewhere}
 use Rattle.flash_pages.specs.declared.cursor.RunCursor.{RunCursor}
 use Rattle.flash_pages.specs.declared.fault.PageFault.{PageFault}
 use Rattle.flash_pages.specs.declared.fault.PageFault.TheVariants.{Flash, Damaged}
-use Rattle.flash_pages.specs.Cursors.{IsReady, IsPageOf, BlamesNext, page_next}
+use Rattle.flash_pages.specs.Cursors.{IsReady, IsPageOf, SameList, StandsAt, BlamesNext, page_next}
 use Rattle.flash_pages.specs.Holding.{is_apart}
 use Rattle.flash_pages.specs.Reads.{IsFilled, WasGiven}
+use Rattle.ghost_model.specs.forms.Runs as runs
+use Rattle.ghost_base.specs.declared.runs.ListRef.{ListRef}
 use Rattle.ghost_base.specs.Runs.{run_of}
 use Rattle.id_merge.specs.declared.cursor.Cursor.{Cursor}
 use Rattle.id_merge.specs.declared.cursor.Cursor.TheVariants.{List as OfList, Range}
-use Rattle.id_merge.specs.Cursors.{cursor_at, nothing, leases_of, page_last, unread_list, unread_of, unread_in, at_hand_of, CursorRight, IsAtMost, CursorReady, AllReady, CursorGiven, AllGiven, SameSource, BlamesLists, DamagesLists}
+use Rattle.id_merge.specs.Since.{Since, IsSince, MayBlame, FaultIsBlamed}
+use Rattle.id_merge.specs.Cursors.{cursor_at, nothing, leases_of, page_last, unread_list, unread_of, unread_in, at_hand_of, CursorRight, IsAtMost, CursorReady, AllReady, ListAscends, ListGiven, CursorGiven, AllGiven, Passed, GoesOn, SameSource, FaultBlames, BlamesLists, DamagesLists}
 use Rattle.id_merge.specs.Merges.{FailTells}
 use Rattle.id_merge.specs.Moving.{Advances, RunMoves, Reaches, CallIf, DamagesRun}
+use Rattle.id_merge.proofs.SinceLaws.{may_then, may_of, list_blamed, none_damaged}
+use Rattle.id_merge.proofs.ListReads.{id_same, count_same, ascends_on, before_is}
 use Rattle.id_merge.proofs.Holding.{leases_apart, beside_leases, leases_set, sum_set}
 
 -- a buffer that is as it was has what a page has as before
@@ -95,10 +100,75 @@ ready_other :
 ready_other told (OfList run) kept out same was = ready_still run kept out (same run refl) was
 ready_other told (Range low high) kept out same was = tt
 
+-- where a list goes on, its identifiers to come ascend as before
+stands_ascends :
+    (page : ℕ → List ℕ) (before now : RunCursor) → SameList before now → StandsAt before now ⊎ Passed true page before now
+    → now.at ≤ now.list.count → ListAscends page before → ListAscends page now
+stands_ascends page before now same (inl stands) within was = record {
+  above = λ i from below.
+      omega (
+        arith,
+        id_same page before now same i,
+        stands.last,
+        was.above i (omega (arith, from, stands.at)) (omega (arith, below, count_same before now same)),
+      );
+  order = λ i j from less below.
+      omega (
+        arith,
+        id_same page before now same i,
+        id_same page before now same j,
+        was.order i j (omega (arith, from, stands.at)) less (omega (arith, below, count_same before now same)),
+      );
+  within = λ i from below.
+      omega (
+        arith,
+        id_same page before now same i,
+        same.rows,
+        was.within i (omega (arith, from, stands.at)) (omega (arith, below, count_same before now same)),
+      );
+}
+stands_ascends page before now same (inr passed) within was =
+    ascends_on page before now same passed.further (omega (arith, within, count_same before now same))
+    (passed.is refl ∙ before_is page before now.at (omega (arith, passed.further))) was
+
+goes_ascends :
+    {told : Bool} {page : ℕ → List ℕ} (before now : RunCursor) → told ≡ true → now.at ≤ now.list.count → GoesOn told page before now
+    → ListAscends page before → ListAscends page now
+goes_ascends {page = page} before now tells within goes_on was =
+    let P : Bool → Type 0 = λ told. StandsAt before now ⊎ Passed told page before now in
+    stands_ascends page before now (record { list = goes_on.list; rows = goes_on.rows; lease = goes_on.lease }) (subst P tells goes_on.stands) within was
+
+-- what was given for a list is given for it where it goes on
+pub list_moves :
+    {told : Bool} {low : ℕ} {before now : Device} {pool later : Pool} (since : Since) (old new : RunCursor)
+    → RunMoves told low before now pool later old new → IsSince told before since → ListGiven since before pool old → ListGiven since now later new
+list_moves {told = told} {before = before} {now = now} {later = later} since old new moves is was =
+    let P : ℕ → Type 0 = λ lease. WasGiven since.calls now later lease in
+    let Q : (ℕ → List ℕ) → Type 0 = λ page. ListAscends page new in
+    let R : runs.Run → Type 0 = λ run. MayBlame since run (ListAscends now.page new) in
+    record {
+      read = subst P (sym moves.goes_on.lease) (moves.given since.calls is.calls was.read);
+      may = subst R (sym (ap (λ (list : ListRef). run_of list.run) moves.goes_on.list))
+          (may_then
+          (λ tells ascends. subst Q (sym moves.kept.page) (goes_ascends old new (sym is.tells ∙ tells) moves.ready.place moves.goes_on ascends))
+          was.may);
+    }
+
+-- a list that is as it was has what was given
+pub list_still :
+    {before now : Device} {pool later : Pool} (since : Since) (run : RunCursor) → KeepsPages before now → SameBuffer pool later run.lease
+    → ListGiven since before pool run → ListGiven since now later run
+list_still {now = now} since run kept same was =
+    let P : (ℕ → List ℕ) → Type 0 = λ page. ListAscends page run in
+    record {
+      read = given_still since.calls kept same was.read;
+      may = may_then (λ tells ascends. subst P (sym kept.page) ascends) was.may;
+    }
+
 given_other :
-    {before now : Device} {pool later : Pool} (since : ℕ) (cursor : Cursor) → KeepsPages before now
+    {before now : Device} {pool later : Pool} (since : Since) (cursor : Cursor) → KeepsPages before now
     → ((run : RunCursor) → cursor ≡ OfList run → SameBuffer pool later run.lease) → CursorGiven since before pool cursor → CursorGiven since now later cursor
-given_other since (OfList run) kept same was = given_still since kept (same run refl) was
+given_other since (OfList run) kept same was = list_still since run kept (same run refl) was
 given_other since (Range low high) kept same was = tt
 
 pub same_source : (told : Bool) (page : ℕ → List ℕ) (cursor : Cursor) → SameSource told page cursor cursor
@@ -117,7 +187,6 @@ reaches_set {told = told} {low = low} {before = before} {now = now} {pool = pool
     let others = other_same cursors i run is ready.leases (λ lease apart. change_elsewhere moves.buffer apart) in
     let leases = leases_set cursors i run new is moves.goes_on.lease in
     let Out : List ℕ → Type 0 = λ leases. AreOut later leases in
-    let Given : ℕ → Type 0 = λ lease. (since : ℕ) → since ≤ before.calls → WasGiven since before pool run.lease → WasGiven since now later lease in
     record {
       moves = record {
         kept = moves.kept;
@@ -128,7 +197,7 @@ reaches_set {told = told} {low = low} {before = before} {now = now} {pool = pool
           filled = λ other was. moves.buffer.filled other (beside_leases pool cursors i other run is was);
         };
         given = λ since from was k. set_each cursors i run new (λ old cursor. CursorGiven since before pool old → CursorGiven since now later cursor) within is
-            (subst Given (sym moves.goes_on.lease) moves.given since from)
+            (list_moves since run new moves from)
             (λ k apart. given_other since (cursor_at cursors k) moves.kept (others k apart)) k (was k);
         count = length-set cursors i (OfList new);
         same = set_each cursors i run new (SameSource told before.page) within is moves.goes_on (λ k apart. same_source told before.page (cursor_at cursors k));
@@ -155,16 +224,20 @@ pub others_set :
     (cursors : List Cursor) (i : ℕ) (cursor : Cursor) → (k : ℕ) → k ≢ i → cursor_at (slice_set cursors i cursor) k ≡ cursor_at cursors k
 others_set cursors i cursor k apart = get_or-set_other cursors i k cursor nothing apart
 
--- the slot that is blamed is one of a list of theirs
+-- the slot that is blamed is one of a list of theirs, in a run of which one may be: its identifiers do not ascend
 pub blames_set :
-    (since : ℕ) (device : Device) (cursors : List Cursor) (i : ℕ) (new : RunCursor) → i < length cursors → (result : Result Bool PageFault)
-    → BlamesNext since device new result → BlamesLists since device (slice_set cursors i (OfList new)) result
-blames_set since device cursors i new within (Ok stands) blames = tt
-blames_set since device cursors i new within (Err Flash) blames = tt
-blames_set since device cursors i new within (Err (Damaged number slot found)) blames = record {
+    {told : Bool} {device : Device} {pool : Pool} (since : Since) (cursors : List Cursor) (i : ℕ) (new : RunCursor) → i < length cursors
+    → (result : Result Bool PageFault) → since.told ≡ told → IsReady told device pool new → ListGiven since device pool new
+    → (told ≡ true → DamagesRun device.page new result) → BlamesNext since.calls device new result
+    → BlamesLists since device (slice_set cursors i (OfList new)) result
+blames_set since cursors i new within (Ok stands) tells ready given damages blames = tt
+blames_set since cursors i new within (Err Flash) tells ready given damages blames = tt
+blames_set {device = device} since cursors i new within (Err (Damaged number slot found)) tells ready given damages blames = record {
   at = i;
   run = new;
   is = get_or-set_same cursors i (OfList new) nothing within;
+  may = may_of (λ told ascends. none_damaged device.page new found ascends (damages (sym tells ∙ told)).damage) given.may;
+  inside = ready.list;
   blames = blames;
 }
 
@@ -181,10 +254,16 @@ damages_set page cursors i new within (Err (Damaged number slot found)) damage =
   damage = damage.damage;
 }
 
-pub given_at : (since : ℕ) (device : Device) (pool : Pool) (cursors : List Cursor) (i : ℕ) (run : RunCursor) → cursor_at cursors i ≡ OfList run
-    → AllGiven since device pool cursors → WasGiven since device pool run.lease
+pub given_at : (since : Since) (device : Device) (pool : Pool) (cursors : List Cursor) (i : ℕ) (run : RunCursor) → cursor_at cursors i ≡ OfList run
+    → AllGiven since device pool cursors → ListGiven since device pool run
 given_at since device pool cursors i run is given =
     let P : Cursor → Type 0 = λ cursor. CursorGiven since device pool cursor in subst P is (given i)
+
+-- such a slot is blamed
+pub lists_fault :
+    (since : Since) (device : Device) (cursors : List Cursor) (fault : PageFault) → FaultBlames since device cursors fault → FaultIsBlamed since device fault
+lists_fault since device cursors Flash blames = tt
+lists_fault since device cursors (Damaged number slot found) blames = list_blamed since blames.run blames.may blames.inside blames.blames
 
 -- the pages that are still to be read for several cursors, where those for one list's go down
 pub unread_other :

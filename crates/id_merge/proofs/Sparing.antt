@@ -16,11 +16,13 @@ use Rattle.flash_pages.specs.Cursors.{IsReady, page_next, will_read}
 use Rattle.flash_pages.proofs.LeaseFrames.{given_kept}
 use Rattle.id_merge.specs.declared.cursor.Cursor.{Cursor}
 use Rattle.id_merge.specs.declared.cursor.Cursor.TheVariants.{List as OfList, Range}
-use Rattle.id_merge.specs.Cursors.{cursor_at, leases_of, page_last, unread_list, unread_of, unread_in, at_hand_of, at_hand_in, IsAtMost, CursorReady, CursorGiven, SameSource}
+use Rattle.id_merge.specs.Since.{Since}
+use Rattle.id_merge.specs.Cursors.{cursor_at, leases_of, page_last, unread_list, unread_of, unread_in, at_hand_of, at_hand_in, IsAtMost, CursorReady, CursorGiven, ListAscends, SameSource}
 use Rattle.id_merge.specs.Spared.{LiesOutside, Spares, CursorsStayReady, MergeStaysReady, CursorsStayRight, CursorsStayGiven, UnreadStays, OutsideStays, MergeIsSmall}
 use Rattle.id_merge.proofs.Holding.{lease_of_same}
 use Rattle.id_merge.proofs.ListReads.{some_records}
-use Rattle.id_merge.proofs.Laws.{SamePages, all_ready_same, all_right_same, unread_same, bit_most}
+use Rattle.id_merge.proofs.SinceLaws.{may_then}
+use Rattle.id_merge.proofs.Laws.{SamePages, id_same, all_ready_same, all_right_same, unread_same, bit_most}
 
 -- the buffer of a list is one of theirs
 pub buffer_spared :
@@ -69,16 +71,40 @@ cursors_stay_right low high told before now pool right cursors changes outside r
     let O : Cursor → Type 0 = LiesOutside low high in
     all_right_same told before now pool right cursors (λ i run is. pages_spared run changes (subst O is (outside i))) ready was
 
+-- a list's identifiers are as they were where its pages are
+pub ascends_spared :
+    (before now : Device) (run : RunCursor) → SamePages before now run → run.list.first + run.list.count ≤ run.list.run.count
+    → ListAscends before.page run → ListAscends now.page run
+ascends_spared before now run same inside was = record {
+  above = λ i from within. omega (arith, id_same before now run i same inside within, was.above i from within);
+  order = λ i j from less within.
+      omega (
+        arith,
+        id_same before now run i same inside (omega (arith, less, within)),
+        id_same before now run j same inside within,
+        was.order i j from less within,
+      );
+  within = λ i from within. omega (arith, id_same before now run i same inside within, was.within i from within);
+}
+
 given_spared :
-    {pool later : Pool} (since : ℕ) (before now : Device) (cursor : Cursor)
+    {pool later : Pool} (told : Bool) (since : Since) (before now : Device) (cursor : Cursor)
     → ((at number : ℕ) (bytes : List ℕ) → before.gave at number bytes ≡ true → now.gave at number bytes ≡ true)
-    → ((run : RunCursor) → cursor ≡ OfList run → SameBuffer pool later run.lease) → CursorGiven since before pool cursor → CursorGiven since now later cursor
-given_spared since before now (OfList run) gave same was = given_kept since before now gave (same run refl) was
-given_spared since before now (Range low high) gave same was = tt
+    → ((run : RunCursor) → cursor ≡ OfList run → SamePages before now run × SameBuffer pool later run.lease) → CursorReady told before pool cursor
+    → CursorGiven since before pool cursor → CursorGiven since now later cursor
+given_spared told since before now (OfList run) gave same ready was =
+    let s = same run refl in
+    record {
+      read = given_kept since.calls before now gave s.1 was.read;
+      may = may_then (λ tells ascends. ascends_spared before now run s.0 ready.list ascends) was.may;
+    }
+given_spared told since before now (Range low high) gave same ready was = tt
 
 pub cursors_stay_given : CursorsStayGiven
-cursors_stay_given low high since before now pool later cursors spares was i =
-    given_spared since before now (cursor_at cursors i) spares.changes.gave (λ run is. buffer_spared cursors i run is spares.buffers) (was i)
+cursors_stay_given low high told since before now pool later cursors spares outside ready was i =
+    let O : Cursor → Type 0 = LiesOutside low high in
+    given_spared told since before now (cursor_at cursors i) spares.changes.gave
+    (λ run is. (pages_spared run spares.changes (subst O is (outside i)), buffer_spared cursors i run is spares.buffers)) (ready.each i) (was i)
 
 pub unread_stays : UnreadStays
 unread_stays low high before now pool later cursors spares = unread_same pool later cursors (λ i run is. buffer_spared cursors i run is spares.buffers)

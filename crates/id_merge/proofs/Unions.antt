@@ -13,6 +13,7 @@ use Rattle.id_merge.specs.Cursors.{cursor_at, leases_of, CursorRight, AreRight, 
 use Rattle.id_merge.specs.Merges.{InUnion}
 use Rattle.id_merge.specs.declared.round.Sought.{Sought}
 use Rattle.id_merge.specs.Moving.{sought_at, IsSought, SoughtFrom, HasHead, IsHead, AllAdvance, Reaches, Stands, head_from, lesser_of, IsLeastFrom}
+use Rattle.id_merge.proofs.SinceLaws.{since_later}
 use Rattle.id_merge.proofs.ListReads.{advance_trans, goes_trans}
 
 source_trans :
@@ -36,7 +37,7 @@ moves_trans {told = told} {a = a} {b = b} {p = p} {q = q} {r = r} {x = x} {y = y
       kept = kept_trans first.kept second.kept;
       out = second.out ∙ first.out;
       others = others_trans first.others (subst P same second.others);
-      given = λ since from was. second.given since (omega (arith, first.kept.never_falls)) (first.given since from was);
+      given = λ since from was. second.given since (since_later first.kept.never_falls from) (first.given since from was);
       count = second.count ∙ first.count;
       same = λ i. source_trans told a.page b.page (cursor_at x i) (cursor_at y i) (cursor_at z i) first.kept.page (first.same i) (second.same i);
       leases = second.leases ∙ first.leases;

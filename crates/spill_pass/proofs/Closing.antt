@@ -8,14 +8,13 @@ use Rattle.flash_pages.specs.Writing.{IsEntered, reach}
 use Rattle.flash_pages.specs.Writers.{CanWrite, SameRun, next_page}
 use Rattle.id_merge.specs.declared.cursor.Cursor.{Cursor}
 use Rattle.id_merge.specs.declared.merge.Merge.{Merge}
-use Rattle.id_merge.specs.Cursors.{cursor_at, leases_of, CursorGiven, CursorReady, IsAtMost, at_hand_in, unread_in}
+use Rattle.id_merge.specs.Cursors.{cursor_at, leases_of, CursorReady, IsAtMost, at_hand_in, unread_in}
 use Rattle.id_merge.specs.Merges.{at_hand}
 use Rattle.spill_pass.specs.declared.merging.MergeInto.{MergeInto}
 use Rattle.spill_pass.specs.declared.groups.Groups.{Groups}
 use Rattle.spill_pass.specs.Merging.{IsMerging, LiesOutside, area_pages, area_end, left_of}
 use Rattle.spill_pass.specs.Grouping.{IsGrouping, GoesOn, AreApart, groups_held, places_end}
-use Rattle.spill_pass.proofs.Holders.{each_another}
-use Rattle.spill_pass.proofs.Writing.{given_cursor, pages_below, reach_within}
+use Rattle.spill_pass.proofs.Writing.{pages_below, reach_within}
 use Rattle.spill_pass.proofs.SparedLemmas.{next_within}
 use Rattle.spill_pass.proofs.Grouping.{places_area, each_none, outs_left, others_left, gives_keep, same_beside_area}
 
@@ -25,18 +24,16 @@ pub put_goes :
     → ChangesOnly old.places.filler.first (places_end old) before now → ChangesPage pool later old.places.lease
     → places.lease ≡ old.places.lease → places.filler.first ≡ old.places.filler.first
     → GoesOn before now pool later old (record { into = old.into; places = places; begun = old.begun; size = old.size })
-put_goes {before = before} {now = now} {pool = pool} {later = later} old places are changes buffer lease first =
+put_goes {later = later} old places are changes buffer lease first =
     let keeps = change_keeps_out buffer in
     let cursors = old.into.merge.cursors.items in
     let same = ap (λ (l : ℕ). l ∷ old.into.writer.lease ∷ leases_of cursors) lease in
     let P : List ℕ → Type 0 = AreOut later in
-    let apart = (outs_swapped pool old.places.lease old.into.writer.lease (leases_of cursors) are).1 in
     record {
       changes = places_area changes;
       beside = ap (λ leases. others_out later leases) same ∙ others_kept (groups_held old) keeps;
       others = change_keeps_others (groups_held old) 0 0 (omega arith) buffer;
       still = subst P (sym same) (outs_kept (groups_held old) keeps are);
-      given = λ since from given i. given_cursor since before now (cursor_at cursors i) changes.gave buffer (each_another _ old.places.lease cursors i apart) (given i);
       lists_first = refl;
       places_first = first;
       rows = refl;
@@ -50,7 +47,7 @@ pub closed_goes :
     → later ≡ all_given then (leases_of old.into.merge.cursors.items) → merge.cursors.items ≡ [] → places.lease ≡ old.places.lease
     → places.filler.first ≡ old.places.filler.first
     → GoesOn before now pool later old (record { into = record { merge = merge; writer = old.into.writer; rows = old.into.rows }; places = places; begun = begun; size = old.size })
-closed_goes {before = before} {now = now} {pool = pool} {then = then} {later = later} old places merge begun is changes buffer gives none lease first =
+closed_goes {then = then} {later = later} old places merge begun is changes buffer gives none lease first =
     let a = old.places.lease in
     let b = old.into.writer.lease in
     let leases = leases_of old.into.merge.cursors.items in
@@ -64,7 +61,6 @@ closed_goes {before = before} {now = now} {pool = pool} {then = then} {later = l
           ap (λ ls. others_out later ls) held ∙ ap (λ p. others_out p (a ∷ b ∷ [])) gives ∙ others_left then a b leases ∙ others_kept (groups_held old) keeps;
       others = gives_keep leases gives (change_keeps_others (groups_held old) 0 0 (omega arith) buffer);
       still = subst P (sym held) (subst Q (sym gives) (outs_left then a b leases (outs_kept (groups_held old) keeps is.leases)));
-      given = λ since from given i. each_none (CursorGiven since now later) merge.cursors.items none tt i;
       lists_first = refl;
       places_first = first;
       rows = refl;

@@ -1,5 +1,5 @@
 -- What is left where the last pages of the lists and of their places are written.
-use Rattle.std.proofs.Common.{◌≡◌, ◌∙◌, ℕ, ◌+◌, ◌-◌, ◌*◌, ◌/◌, ◌<◌, ◌≤◌, ◌⊎◌, Bool, true, false, List, ◌++◌, map, ap, sym, refl, subst, arith}
+use Rattle.std.proofs.Common.{◌≡◌, ◌∙◌, ℕ, ◌+◌, ◌-◌, ◌*◌, ◌/◌, ◌<◌, ◌≤◌, ◌⊎◌, Bool, true, false, List, [], ◌++◌, map, ap, sym, refl, subst, arith}
 use Rattle.std.specs.List.{concat}
 use Rattle.std.proofs.lemmas.List.{append-nil}
 use Rattle.ghost_model.specs.forms.Runs.{number_cell, Stores, page_of, per_page}
@@ -33,7 +33,7 @@ pub finish_lists_goes :
     → GoesOn before now pool later old (record { into = record { merge = old.into.merge; writer = writer; rows = old.into.rows }; places = old.places; begun = old.begun; size = old.size })
 finish_lists_goes {told = told} old writer is changes kept same writer_is =
     goes_into {told = told} old _ is.leases
-    (wrote old.into writer (outs_of_one _ old.places.lease (leases_held old.into) is.leases) (finish_in_area is.merging changes kept)
+    (wrote old.into writer is.merging (finish_in_area is.merging changes kept)
     (same_pool old.into.writer.lease same) (ap (λ (w : RunWriter). w.lease) writer_is) (ap (λ (w : RunWriter). w.filler.first) writer_is))
 
 -- the places
@@ -74,19 +74,19 @@ page_of_area first i count rows within few = omega arith
 place_of_area : (first place count rows : ℕ) → place < (count + 511) / 512 → count ≤ rows → first + place < first + area_pages rows
 place_of_area first place count rows within few = omega arith
 
-pub finished_lists :
-    {told : Bool} {right : ℕ → List ℕ} {first : Merge} {lists : List (List ℕ)} {before mid now : Device} {pool then : Pool} (old : Groups) (run places : Run)
-    → told ≡ true → IsGrouping told before pool old → old.into.merge.last ≡ 0
+pub finished_stores :
+    {told : Bool} {before mid now : Device} {pool then : Pool} (lists : List (List ℕ)) (old : Groups) (run places : Run)
+    → IsGrouping told before pool old
     → ChangesOnly old.into.writer.filler.first (area_end old.into) before mid → ChangesOnly old.places.filler.first (places_end old) mid now
     → then ≡ pool → IsRunOf old.into.writer.filler run
     → ((records : List (List ℕ)) → HasPut told before.page pool old.into.writer records → Stores mid.page (run_of run) records)
     → ((records : List (List ℕ)) → HasPut told mid.page then old.places records → Stores now.page (run_of places) records)
-    → IsGrouped told right first lists before.page pool old → StoresLists now.page lists (record { places = places; lists = run })
-finished_lists {told = told} {lists = lists} {before = before} {mid = mid} {now = now} {pool = pool} {then = then} old run places is_told is last one two same run_is stores places_stores was =
-    let g = was.gathers in
+    → (ids : List ℕ) → ids ≡ [] → HasPut told before.page pool old.into.writer (map number_cell (concat lists ++ ids))
+    → HasPut told before.page pool old.places (places_of 0 lists) → StoresLists now.page lists (record { places = places; lists = run })
+finished_stores {told = told} {before = before} {mid = mid} {now = now} {pool = pool} {then = then} lists old run places is one two same run_is stores places_stores ids none was_put was_placed =
     let H : List ℕ → Type 0 = λ ids. HasPut told before.page pool old.into.writer (map number_cell (concat lists ++ ids)) in
     let I : List ℕ → Type 0 = λ ids. HasPut told before.page pool old.into.writer (map number_cell ids) in
-    let put = subst I (append-nil (concat lists)) (subst H (none_yet g last) g.put) in
+    let put = subst I (append-nil (concat lists)) (subst H none was_put) in
     let apart : (number : ℕ) → old.into.writer.filler.first ≤ number → number < area_end old.into → (number < old.places.filler.first) ⊎ (places_end old ≤ number) =
     λ number from to. other_apart number is.apart from to in
     let first_is = run_is.first in
@@ -109,5 +109,17 @@ finished_lists {told = told} {lists = lists} {before = before} {mid = mid} {now 
           places_stores (places_of 0 lists)
           (put_kept old.places
           (λ tells number from to. (same_beside_area number one (apart_pages number is.apart from (omega (arith, to, ends.0)))).bytes)
-          (subst P (sym same) (record { bytes = refl; filled = refl })) was.places);
+          (subst P (sym same) (record { bytes = refl; filled = refl })) was_placed);
     }
+
+pub finished_lists :
+    {told : Bool} {right : ℕ → List ℕ} {first : Merge} {lists : List (List ℕ)} {before mid now : Device} {pool then : Pool} (old : Groups) (run places : Run)
+    → told ≡ true → IsGrouping told before pool old → old.into.merge.last ≡ 0
+    → ChangesOnly old.into.writer.filler.first (area_end old.into) before mid → ChangesOnly old.places.filler.first (places_end old) mid now
+    → then ≡ pool → IsRunOf old.into.writer.filler run
+    → ((records : List (List ℕ)) → HasPut told before.page pool old.into.writer records → Stores mid.page (run_of run) records)
+    → ((records : List (List ℕ)) → HasPut told mid.page then old.places records → Stores now.page (run_of places) records)
+    → IsGrouped told right first lists before.page pool old → StoresLists now.page lists (record { places = places; lists = run })
+finished_lists {lists = lists} old run places is_told is last one two same run_is stores places_stores was =
+    let g = was.gathers in
+    finished_stores lists old run places is one two same run_is stores places_stores g.ids (none_yet g last) g.put was.places

@@ -87,7 +87,7 @@ one_of_pushed ids new id one =
           inr (one.is ∙ get_or_push ids new 0 one.at (omega (arith, behind, one.within, length-append ids (new ∷ []))))
     ]
 
-ascending_more : (ids : List ℕ) (new last : ℕ) → AreAscending ids → ((i : ℕ) → i < length ids → get_or ids i 0 ≤ last) → last < new → AreAscending (ids ++ new ∷ [])
+pub ascending_more : (ids : List ℕ) (new last : ℕ) → AreAscending ids → ((i : ℕ) → i < length ids → get_or ids i 0 ≤ last) → last < new → AreAscending (ids ++ new ∷ [])
 ascending_more ids new last ascending below above = λ i j less within.
     elim (cases_lt j (length ids)) [
       | inl before ↦
@@ -97,7 +97,7 @@ ascending_more ids new last ascending below above = λ i j less within.
           omega (arith, get_or_append_left ids (new ∷ []) 0 i (omega arith), get_or_push ids new 0 j here, below i (omega arith), above)
     ]
 
-below_more : (ids : List ℕ) (new last : ℕ) → ((i : ℕ) → i < length ids → get_or ids i 0 ≤ last) → last < new → (i : ℕ) → i < length (ids ++ new ∷ []) → get_or (ids ++ new ∷ []) i 0 ≤ new
+pub below_more : (ids : List ℕ) (new last : ℕ) → ((i : ℕ) → i < length ids → get_or ids i 0 ≤ last) → last < new → (i : ℕ) → i < length (ids ++ new ∷ []) → get_or (ids ++ new ∷ []) i 0 ≤ new
 below_more ids new last below above i within =
     elim (cases_lt i (length ids)) [
       | inl before ↦ omega (arith, get_or_append_left ids (new ∷ []) 0 i before, below i before, above)

@@ -12,6 +12,7 @@ use Rattle.id_merge.specs.declared.cursor.Cursor.{Cursor}
 use Rattle.id_merge.specs.declared.merge.Merge.{Merge}
 use Rattle.id_merge.specs.Cursors.{cursor_at, leases_of, Moves}
 use Rattle.id_merge.specs.Merges.{CanMerge}
+use Rattle.id_merge.proofs.SinceLaws.{since_later}
 use Rattle.id_merge.proofs.Sparing.{outside_same}
 use Rattle.spill_pass.specs.declared.merging.MergeInto.{MergeInto}
 use Rattle.spill_pass.specs.Merging.{area_pages, area_end, leases_held, IsMerging, Goes}
@@ -105,7 +106,7 @@ goes_trans {pool = pool} {then = then} {later = later} {old = old} {mid = mid} {
           (subst P (ap (λ leases. others_out then leases) one.held ∙ others_kept (leases_held old) (record { out = one.out; size = one.others.size })) two.others);
       held = two.held ∙ one.held;
       still = two.still;
-      given = λ since from given. two.given since (omega (arith, from, one.changes.never_falls)) (one.given since from given);
+      given = λ since from given. two.given since (since_later one.changes.never_falls from) (one.given since from given);
       same = λ i.
           list_again (cursor_at old.merge.cursors.items i) (cursor_at mid.merge.cursors.items i) (cursor_at new.merge.cursors.items i) (one.same i) (two.same i);
       outside = λ low high is. two.outside low high (one.outside low high is);

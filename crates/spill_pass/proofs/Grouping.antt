@@ -78,7 +78,6 @@ goes_on {pool = pool} {then = then} {later = later} {old = old} {mid = mid} one 
       beside = two.beside ∙ one.beside;
       others = others_trans one.others (subst P one.beside two.others);
       still = two.still;
-      given = λ since from given. two.given since (omega (arith, from, one.changes.never_falls)) (one.given since from given);
       lists_first = two.lists_first ∙ one.lists_first;
       places_first = two.places_first ∙ one.places_first;
       rows = two.rows ∙ one.rows;
@@ -99,7 +98,6 @@ goes_into {pool = pool} {later = later} old into are goes =
       beside = ap (λ leases. others_out later leases) same ∙ others_kept (groups_held old) keeps;
       others = others_move old.places.lease (leases_held old.into) goes.others;
       still = subst P (sym same) (outs_kept (groups_held old) keeps are);
-      given = goes.given;
       lists_first = goes.first;
       places_first = refl;
       rows = goes.rows;

@@ -15,6 +15,7 @@ pub mod Turning
 pub mod PlaceLaws
 pub mod PlaceGiving
 pub mod PassFrames
+pub mod PutLists
 pub mod PassTaking
 pub mod PassGoing
 pub mod Reducing
@@ -24,9 +25,11 @@ pub mod ReduceSteps
 pub mod PassContents
 pub mod PlacedContents
 pub mod PlacedSure
+pub mod ReaderGiving
 pub mod ReduceContents
 pub mod Calls
 pub mod SparedMerging
 pub mod SparedReducing
+pub mod ReduceGiving
 pub mod ListCalls
 pub mod FewPages

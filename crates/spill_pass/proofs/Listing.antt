@@ -31,11 +31,11 @@ use Rattle.spill_pass.proofs.Grouping.{each_none, same_beside_area, given_bytes,
 use Rattle.spill_pass.proofs.Closing.{other_apart}
 use Rattle.spill_pass.proofs.Taking.{Begins, HasOneMore, same_leased, one_sum, plain}
 
-outs_second : (pool : Pool) (a b : ℕ) (leases : List ℕ) → AreOut pool (a ∷ b ∷ leases) → IsOut pool b
+pub outs_second : (pool : Pool) (a b : ℕ) (leases : List ℕ) → AreOut pool (a ∷ b ∷ leases) → IsOut pool b
 outs_second pool a b leases are = (outs_swapped pool a b leases are).0
 
 -- before an identifier was found the list has none
-no_ids : (ids : List ℕ) → ((i : ℕ) → i < length ids → get_or ids i 0 ≤ 0) → ((i : ℕ) → i < length ids → 0 < get_or ids i 0) → ids ≡ []
+pub no_ids : (ids : List ℕ) → ((i : ℕ) → i < length ids → get_or ids i 0 ≤ 0) → ((i : ℕ) → i < length ids → 0 < get_or ids i 0) → ids ≡ []
 no_ids [] low high = refl
 no_ids (id ∷ ids) low high = absurd (omega (arith, low 0 (omega arith), high 0 (omega arith)))
 
@@ -228,13 +228,13 @@ pub put_count :
 put_count pool into records is put =
     sym (pages_below is) ∙ ap (λ w. into.writer.filler.pages * per_page w + into.writer.filler.held) (sym is.width) ∙ put.count
 
-joined : (lists : List (List ℕ)) (ids : List ℕ) → concat lists ++ ids ≡ concat (lists ++ ids ∷ [])
+pub joined : (lists : List (List ℕ)) (ids : List ℕ) → concat lists ++ ids ≡ concat (lists ++ ids ∷ [])
 joined lists ids = sym (concat-append lists (ids ∷ []) ∙ ap (λ r. concat lists ++ r) (append-nil ids))
 
-joined_more : (lists : List (List ℕ)) (ids : List ℕ) → concat lists ++ ids ≡ concat (lists ++ ids ∷ []) ++ []
+pub joined_more : (lists : List (List ℕ)) (ids : List ℕ) → concat lists ++ ids ≡ concat (lists ++ ids ∷ []) ++ []
 joined_more lists ids = joined lists ids ∙ sym (append-nil (concat (lists ++ ids ∷ [])))
 
-places_more :
+pub places_more :
     (from : ℕ) (lists : List (List ℕ)) (ids : List ℕ)
     → places_of from lists ++ (number_cell (from + length (concat lists)) ++ number_cell (length ids)) ∷ [] ≡ places_of from (lists ++ ids ∷ [])
 places_more from [] ids = ap (λ n. (number_cell n ++ number_cell (length ids)) ∷ []) (plain from)
@@ -243,7 +243,7 @@ places_more from (first ∷ lists) ids =
     (ap (λ n. places_of (from + length first) lists ++ (number_cell n ++ number_cell (length ids)) ∷ []) (omega (arith, length-append first (concat lists)))
     ∙ places_more (from + length first) lists ids)
 
-rows_more :
+pub rows_more :
     (rows : ℕ) (lists : List (List ℕ)) (ids : List ℕ) → AreRowLists rows lists → IsRowList rows ids → AreRowLists rows (lists ++ ids ∷ [])
 rows_more rows lists ids were is i within =
     let P : List ℕ → Type 0 = IsRowList rows in
@@ -258,7 +258,7 @@ none_remains right merge id unions remains =
     let all : InAll right merge.cursors.items (0 ∷ []) id = subst P unions remains.all in
     omega (arith, (all 0 (omega arith)).high, one_sum 0)
 
-given_same : (pool : Pool) (leases : List ℕ) (lease : ℕ) → SameBuffer pool (all_given pool leases) lease
+pub given_same : (pool : Pool) (leases : List ℕ) (lease : ℕ) → SameBuffer pool (all_given pool leases) lease
 given_same pool leases lease = record { bytes = given_bytes pool leases lease; filled = given_page pool leases lease }
 
 pub closed_lists :

@@ -1,5 +1,5 @@
 -- In which run the lists at hand lie, and what is blamed of them.
-use Rattle.std.proofs.Common.{◌≡◌, ◌∙◌, ℕ, ◌+◌, ◌<◌, ◌≤◌, List, [], ◌∷◌, ◌++◌, ap, sym, refl, subst, arith, inr}
+use Rattle.std.proofs.Common.{◌≡◌, ◌∙◌, ℕ, ◌+◌, ◌<◌, ◌≤◌, List, [], ◌∷◌, ◌++◌, ap, sym, refl, subst, arith}
 use Rattle.std.specs.Prelude.{Result, Ok, Err, Bool}
 use Rattle.ghost_model.specs.forms.Runs.{found_in, id_at, page_of, record_at, slot_of}
 use Rattle.ghost_base.specs.declared.runs.ListRef.{ListRef}
@@ -12,11 +12,11 @@ use Rattle.flash_pages.specs.declared.fault.PageFault.TheVariants.{Flash, Damage
 use Rattle.flash_pages.specs.Faults.{BlamesNoSlot}
 use Rattle.id_merge.specs.declared.cursor.Cursor.{Cursor}
 use Rattle.id_merge.specs.declared.cursor.Cursor.TheVariants.{List as OfList, Range}
-use Rattle.id_merge.specs.Cursors.{BlamesLists, BlamesOutOfRows, SameSource, cursor_at}
+use Rattle.id_merge.specs.Cursors.{BlamesOutOfRows, SameSource, cursor_at}
+use Rattle.id_merge.specs.Since.{Since, Blames}
 use Rattle.id_merge.proofs.Laws.{each_pushed}
 use Rattle.spill_pass.specs.Lists.{OutOfRowsIn}
 use Rattle.spill_pass.specs.Merging.{AllOutside, AllOver, CursorOver, IsOver, LiesOutside, SameList}
-use Rattle.spill_pass.specs.Passing.{BlamesPass}
 use Rattle.spill_pass.specs.Sources.{BlamesSource}
 use Rattle.spill_pass.proofs.Grouping.{each_none}
 
@@ -102,33 +102,11 @@ out_in page run rows cursors (Err (Damaged number slot found)) over out =
       out = subst O is.run_is (λ some few. out.out (record { some = some; within = omega (arith, few, is.rows_are) }));
     }
 
--- a slot of theirs is blamed
-pub lists_blamed :
-    {T : Type 0} (blamed : ℕ → ℕ → ℕ → Type 0) (run : Run) (rows since : ℕ) (device : Device) (cursors : List Cursor) (result : Result T PageFault)
-    → AllOver run rows cursors → BlamesLists since device cursors result → BlamesPass blamed run since device cursors result
-lists_blamed blamed run rows since device cursors (Ok answer) over blames = tt
-lists_blamed blamed run rows since device cursors (Err Flash) over blames = tt
-lists_blamed blamed run rows since device cursors (Err (Damaged number slot found)) over blames =
-    let C : Cursor → Type 0 = CursorOver run rows in
-    let is : IsOver run rows blames.run = subst C blames.is (over blames.at) in
-    inr (record {
-      at = blames.at;
-      cursor = blames.run;
-      is = blames.is;
-      run_is = is.run_is;
-      inside = omega (arith, is.inside, ap (λ (r : Run). r.count) is.run_is);
-      some = omega (arith, is.some, ap (λ (r : Run). r.width) is.run_is);
-      fits = omega (arith, is.fits, ap (λ (r : Run). r.width) is.run_is);
-      blames = blames.blames;
-    })
-
 -- no slot is blamed
-pub none_blamed :
-    {T : Type 0} (blamed : ℕ → ℕ → ℕ → Type 0) (run : Run) (since : ℕ) (device : Device) (cursors : List Cursor) (result : Result T PageFault)
-    → BlamesNoSlot result → BlamesPass blamed run since device cursors result
-none_blamed blamed run since device cursors (Ok answer) none = tt
-none_blamed blamed run since device cursors (Err Flash) none = tt
-none_blamed blamed run since device cursors (Err (Damaged number slot found)) none = absurd none
+pub none_blames : {T : Type 0} (since : Since) (device : Device) (result : Result T PageFault) → BlamesNoSlot result → Blames since device result
+none_blames since device (Ok answer) none = tt
+none_blames since device (Err Flash) none = tt
+none_blames since device (Err (Damaged number slot found)) none = absurd none
 
 pub none_damaged : {T : Type 0} (damaged : ℕ → ℕ → ℕ → Type 0) (result : Result T PageFault) → BlamesNoSlot result → BlamesSource damaged result
 none_damaged damaged (Ok answer) none = tt

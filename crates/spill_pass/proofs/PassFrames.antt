@@ -8,19 +8,18 @@ use Rattle.edge_traits.specs.Devices.{Device, KeepsPages, SamePage}
 use Rattle.edge_traits.proofs.DeviceFrames.{same_kept}
 use Rattle.page_pool.specs.Pools.{Pool, AreOut, ChangesPage, KeepsOthers, given, others_out, free_count}
 use Rattle.page_pool.proofs.Leases.{outs_kept, others_kept, others_trans, change_keeps_out, change_elsewhere, change_keeps_others, head_apart, all_given_to_front, all_given-append, all_given_counts, holder_keeps_outs, outs_from_front, outs_to_front}
-use Rattle.flash_pages.proofs.LeaseFrames.{given_kept, given_beside}
-use Rattle.flash_pages.specs.Reads.{WasGiven}
 use Rattle.id_merge.specs.declared.cursor.Cursor.{Cursor}
 use Rattle.id_merge.specs.declared.cursor.Cursor.TheVariants.{List as OfList, Range}
-use Rattle.id_merge.specs.Cursors.{cursor_at, leases_of, unread_in, unread_of, CursorGiven}
+use Rattle.id_merge.specs.Since.{Since}
+use Rattle.id_merge.specs.Cursors.{cursor_at, id_in, leases_of, unread_in, unread_of, AllGiven}
 use Rattle.spill_pass.specs.declared.groups.Groups.{Groups}
 use Rattle.spill_pass.specs.Grouping.{IsGrouping, GoesOn, groups_held, places_end}
-use Rattle.spill_pass.specs.Merging.{area_pages, area_end}
+use Rattle.spill_pass.specs.Merging.{SameIds, area_pages, area_end}
 use Rattle.spill_pass.specs.Passing.{PassGoes, pass_held}
 use Rattle.spill_pass.specs.Sources.{Source, SameSource}
 use Rattle.spill_pass.specs.Spared.{Spares, KeepsRun, KeepsBuffer}
-use Rattle.spill_pass.proofs.Holders.{IsAnother, another, each_out, out_before, others_move, same_beside}
-use Rattle.spill_pass.proofs.Writing.{unread_list_same}
+use Rattle.spill_pass.proofs.Holders.{IsAnother, another, each_out, out_before, others_move}
+use Rattle.spill_pass.proofs.Writing.{given_cursor, unread_list_same}
 use Rattle.spill_pass.proofs.SparedLemmas.{stays_merging}
 use Rattle.spill_pass.proofs.Grouping.{areas_kept, areas_trans, place_within, places_below}
 
@@ -51,7 +50,7 @@ buffers_same pool later held held' are still others =
 pub pass_of_groups :
     {before now : Device} {pool later : Pool} (source : Source) (old new : Groups) → GoesOn before now pool later old new
     → AreOut pool (pass_held source old) → PassGoes before now pool later source source old new
-pass_of_groups {before = before} {now = now} {pool = pool} {later = later} source old new goes are = record {
+pass_of_groups {pool = pool} {later = later} source old new goes are = record {
   changes = goes.changes;
   beside =
       given_last later source.lease (groups_held new)
@@ -59,8 +58,6 @@ pass_of_groups {before = before} {now = now} {pool = pool} {later = later} sourc
       ∙ sym (given_last pool source.lease (groups_held old));
   others = others_move source.lease (groups_held old) goes.others;
   still = outs_beside pool later source.lease (groups_held old) (groups_held new) are goes.still goes.beside goes.others.size;
-  given = goes.given;
-  read = λ since from given. given_kept since before now goes.changes.gave (same_beside source.lease (groups_held old) are goes.others) given;
   lease = refl;
   uses = λ page is. is;
   run = refl;
@@ -82,19 +79,25 @@ lists_apart pool source groups are i =
     another pool source.lease cursor
     (out_before then a cursor (out_before (given then a) b cursor (each_out (given (given then a) b) groups.into.merge.cursors.items i are.1.1.1)))
 
-given_cursor :
-    {before now : Device} {pool later : Pool} (since lease : ℕ) (cursor : Cursor) → KeepsPages before now → ChangesPage pool later lease
-    → IsAnother lease cursor → CursorGiven since before pool cursor → CursorGiven since now later cursor
-given_cursor since lease (OfList run) kept changes apart given = given_beside since kept changes apart given
-given_cursor since lease (Range low high) kept changes apart given = tt
+kept_ids : (before now : Device) (cursor : Cursor) → KeepsPages before now → SameIds before.page now.page cursor
+kept_ids before now (OfList run) kept = λ i within. ap (λ page. id_in page run i) kept.page
+kept_ids before now (Range low high) kept = tt
+
+-- a call on the source leaves what was given for the lists at hand
+pub given_beside_source :
+    {before now : Device} {pool later : Pool} (since : Since) (source : Source) (groups : Groups) → KeepsPages before now
+    → ChangesPage pool later source.lease → AreOut pool (pass_held source groups) → AllGiven since before pool groups.into.merge.cursors.items
+    → AllGiven since now later groups.into.merge.cursors.items
+given_beside_source {before = before} {now = now} {pool = pool} since source groups kept changes are given i =
+    let cursor = cursor_at groups.into.merge.cursors.items i in
+    given_cursor since before now cursor kept.gave (kept_ids before now cursor kept) changes (lists_apart pool source groups are i) (given i)
 
 -- a call on the source
 pub pass_of_source :
     {before now : Device} {pool later : Pool} (source then : Source) (groups : Groups) → KeepsPages before now
     → ChangesPage pool later source.lease
-    → ((since : ℕ) → since ≤ before.calls → WasGiven since before pool source.lease → WasGiven since now later source.lease)
     → SameSource source then → AreOut pool (pass_held source groups) → PassGoes before now pool later source then groups groups
-pass_of_source {now = now} {pool = pool} {later = later} source then groups kept changes read same are =
+pass_of_source {later = later} source then groups kept changes same are =
     let keeps = change_keeps_out changes in
     let P : ℕ → Type 0 = λ lease. AreOut later (lease ∷ groups_held groups) in
     record {
@@ -102,11 +105,6 @@ pass_of_source {now = now} {pool = pool} {later = later} source then groups kept
       beside = ap (λ lease. others_out later (lease ∷ groups_held groups)) same.lease ∙ others_kept (pass_held source groups) keeps;
       others = change_keeps_others (pass_held source groups) 0 0 (omega arith) changes;
       still = subst P (sym same.lease) (outs_kept (pass_held source groups) keeps are);
-      given = λ since from given i.
-          given_cursor since source.lease (cursor_at groups.into.merge.cursors.items i) kept changes (lists_apart pool source groups are i) (given i);
-      read = λ since from given.
-          let Q : ℕ → Type 0 = λ lease. WasGiven since now later lease in
-          subst Q (sym same.lease) (read since from given);
       lease = same.lease;
       uses = same.uses;
       run = same.run;
@@ -129,8 +127,6 @@ pass_goes_on {pool = pool} {then = then} {later = later} {old = old} {mid = mid}
       beside = second.beside ∙ first.beside;
       others = others_trans first.others (subst P first.beside second.others);
       still = second.still;
-      given = λ since from given. second.given since (omega (arith, from, first.changes.never_falls)) (first.given since from given);
-      read = λ since from given. second.read since (omega (arith, from, first.changes.never_falls)) (first.read since from given);
       lease = second.lease ∙ first.lease;
       uses = λ page is. first.uses page (second.uses page is);
       run = second.run ∙ first.run;

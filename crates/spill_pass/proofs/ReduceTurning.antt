@@ -6,7 +6,6 @@ use Rattle.edge_traits.specs.Devices.{Device, GaveSince}
 use Rattle.edge_traits.proofs.DeviceFrames.{same_trans}
 use Rattle.page_pool.specs.Pools.{Pool, AreOut, KeepsOthers, bytes_at}
 use Rattle.page_pool.proofs.Leases.{others_trans}
-use Rattle.id_merge.specs.Cursors.{CursorGiven}
 use Rattle.spill_pass.specs.declared.groups.Groups.{Groups}
 use Rattle.spill_pass.specs.declared.groups.PlacedLists.{PlacedLists}
 use Rattle.spill_pass.specs.declared.passes.PassTurn.{PassTurn}
@@ -35,8 +34,6 @@ reduce_of_pass source rest areas old new is goes lists = record {
   beside = goes.beside;
   others = goes.others;
   still = goes.still;
-  given = goes.given;
-  read = goes.read;
   outside = λ low high out.
       let R : ℕ → Type 0 = λ rows. (first : ℕ) → IsForLists areas first → AreApart first (first + area_pages rows) low high in
       let S : ℕ → Type 0 = λ size. (first : ℕ) → IsForPlaces areas first → AreApart first (first + area_pages size) low high in
@@ -61,7 +58,7 @@ pub reduce_then :
     → ((low high : ℕ) → ((first : ℕ) → IsForLists areas first → AreApart first (first + area_pages new.into.rows) low high)
     → ((first : ℕ) → IsForPlaces areas first → AreApart first (first + area_pages new.size) low high) → UsesOutside low high next)
     → ReduceGoes areas before now pool later source next old begun
-reduce_then {now = now} {mid = mid} {later = later} source rest next areas old new begun goes over size uses =
+reduce_then {mid = mid} {later = later} source rest next areas old new begun goes over size uses =
     let P : List Bool → Type 0 = λ others. KeepsOthers others mid later in
     record {
       name = goes.name;
@@ -72,10 +69,6 @@ reduce_then {now = now} {mid = mid} {later = later} source rest next areas old n
       beside = over.beside ∙ goes.beside;
       others = others_trans goes.others (subst P goes.beside over.others);
       still = over.still;
-      given = λ since from given. each_none (CursorGiven since now later) begun.into.merge.cursors.items over.none tt;
-      read = λ since from given.
-          let Q : Option ℕ → Type 0 = λ page. IfSome page (GaveSince since now (bytes_at later next.lease)) in
-          subst Q (sym over.no_page) tt;
       outside = λ low high out.
           let R : ℕ → Type 0 = λ rows. (first : ℕ) → IsForLists areas first → AreApart first (first + area_pages rows) low high in
           let still = goes.outside low high out in
@@ -115,8 +108,6 @@ reduce_goes_on {mid = mid} {later = later} first second =
       beside = second.beside ∙ first.beside;
       others = others_trans first.others (subst P first.beside second.others);
       still = second.still;
-      given = λ since from given. second.given since (omega (arith, from, first.never_falls)) (first.given since from given);
-      read = λ since from given. second.read since (omega (arith, from, first.never_falls)) (first.read since from given);
       outside = λ low high out. second.outside low high (first.outside low high out);
       rows = second.rows ∙ first.rows;
       size = omega (arith, first.size, second.size);
@@ -135,8 +126,6 @@ reduce_none source groups are = record {
   beside = refl;
   others = record { size = refl; bytes = λ other is. refl; filled = λ other is. refl };
   still = are;
-  given = λ since from given. given;
-  read = λ since from given. given;
   outside = λ low high out. out;
   rows = refl;
   size = omega arith;

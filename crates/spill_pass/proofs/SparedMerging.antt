@@ -12,13 +12,14 @@ use Rattle.id_merge.specs.declared.cursor.Cursor.TheVariants.{List as OfList, Ra
 use Rattle.id_merge.specs.Cursors.{cursor_at}
 use Rattle.id_merge.specs.Merges.{at_hand}
 use Rattle.id_merge.specs.Spared.{LiesOutside, Spares}
-use Rattle.id_merge.proofs.Sparing.{buffer_spared, page_spared, unread_stays, merge_is_small}
+use Rattle.id_merge.proofs.Sparing.{buffer_spared, cursors_stay_given, page_spared, unread_stays, merge_is_small}
 use Rattle.spill_pass.specs.declared.merging.MergeInto.{MergeInto}
 use Rattle.spill_pass.specs.Grouping.{AreApart}
 use Rattle.spill_pass.specs.Merging.{area_end, area_pages, leases_held}
 use Rattle.spill_pass.specs.Spared as uses
 use Rattle.spill_pass.specs.Spared.{KeepsRun, KeepsBuffer}
-use Rattle.spill_pass.specs.Sparing.{MergingOutside, MergingStays, GathersStays, MergingLeftStays, MergingCallsStay, MergingStaysOutside, MergingIsSmall, SourceIsSpared}
+use Rattle.spill_pass.specs.Sparing.{MergingOutside, MergingStays, MergingStaysGiven, GathersStays, MergingLeftStays, MergingCallsStay, MergingStaysOutside, MergingIsSmall, SourceIsSpared}
+use Rattle.spill_pass.proofs.PutLists.{puts_stay}
 use Rattle.spill_pass.proofs.SparedLemmas.{stays_merging, still_gathers}
 
 -- of fewer leases
@@ -73,6 +74,13 @@ merging_stays low high told before now pool later into spares outside is =
 pub gathers_stays : GathersStays
 gathers_stays low high told right merge earlier before now pool later into spares outside is was =
     still_gathers told right merge earlier before now pool later into (merging_spares into spares outside) is was
+
+pub merging_stays_given : MergingStaysGiven
+merging_stays_given low high told since before now pool later into spares outside is was = record {
+  lists = cursors_stay_given low high told since before now pool later into.merge.cursors.items (spares_rest spares) outside.lists is.can.step.cursors was.lists;
+  area = was.area;
+  puts = λ tells. puts_stay told before now pool later into (merging_spares into spares outside) is (was.puts tells);
+}
 
 pub merging_left_stays : MergingLeftStays
 merging_left_stays low high before now pool later into spares =

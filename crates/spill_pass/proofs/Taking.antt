@@ -16,20 +16,23 @@ use Rattle.page_pool.proofs.Leases.{lease_outs, lease_others_out, lease_keeps_ot
 use Rattle.flash_pages.specs.declared.cursor.RunCursor.{RunCursor}
 use Rattle.flash_pages.specs.Cursors.{IsReady, IsPageOf}
 use Rattle.flash_pages.specs.Reads.{WasGiven}
-use Rattle.flash_pages.proofs.LeaseFrames.{ready_kept, given_kept}
+use Rattle.flash_pages.proofs.LeaseFrames.{ready_kept}
 use Rattle.id_merge.specs.declared.cursor.Cursor.{Cursor}
 use Rattle.id_merge.specs.declared.cursor.Cursor.TheVariants.{List as OfList, Range}
 use Rattle.id_merge.specs.declared.merge.Merge.{Merge}
-use Rattle.id_merge.specs.Cursors.{cursor_at, leases_of, CursorGiven, CursorReady, IsAtMost, at_hand_of, at_hand_in, unread_of, unread_in, unread_list}
+use Rattle.id_merge.specs.Since.{Since, MayBlame}
+use Rattle.id_merge.specs.Cursors.{cursor_at, leases_of, AllGiven, ListAscends, CursorGiven, CursorReady, IsAtMost, at_hand_of, at_hand_in, unread_of, unread_in, unread_list}
 use Rattle.id_merge.specs.Merges.{at_hand}
+use Rattle.id_merge.proofs.SinceLaws.{may_then}
 use Rattle.id_merge.proofs.Unread.{div_mono}
 use Rattle.id_merge.proofs.Laws.{leases_of-append, each_pushed, few_unread}
 use Rattle.spill_pass.specs.declared.groups.Groups.{Groups}
-use Rattle.spill_pass.specs.Lists.{IsReadable, ListOutside}
+use Rattle.spill_pass.specs.Known.{KnowsList}
+use Rattle.spill_pass.specs.Lists.{IsOrdered, IsReadable, ListOutside}
 use Rattle.spill_pass.specs.Merging.{IsMerging, LiesOutside, area_end, leases_held}
 use Rattle.spill_pass.specs.Grouping.{IsGrouping, GoesOn, CanTake, groups_held, places_end}
 use Rattle.spill_pass.proofs.Holders.{HasOut, each_out, out_before}
-use Rattle.spill_pass.proofs.Writing.{unread_list_same}
+use Rattle.spill_pass.proofs.Writing.{given_list, unread_list_same}
 use Rattle.spill_pass.proofs.Grouping.{areas_kept}
 
 -- a cursor at the beginning of the list
@@ -78,10 +81,10 @@ ready_taken told device pool lease (OfList run) free out ready =
 ready_taken told device pool lease (Range low high) free out ready = tt
 
 given_taken :
-    (since : ℕ) (device : Device) (pool : Pool) (lease : ℕ) (cursor : Cursor) → IsFree pool lease → HasOut pool cursor
+    (since : Since) (device : Device) (pool : Pool) (lease : ℕ) (cursor : Cursor) → IsFree pool lease → HasOut pool cursor
     → CursorGiven since device pool cursor → CursorGiven since device (leased pool lease) cursor
 given_taken since device pool lease (OfList run) free out given =
-    given_kept since device device (λ at number bytes gave. gave) (same_leased pool lease run.lease free out) given
+    given_list since device device run (λ at number bytes gave. gave) (λ i within. refl) (same_leased pool lease run.lease free out) given
 given_taken since device pool lease (Range low high) free out given = tt
 
 unread_taken : (pool : Pool) (lease : ℕ) (cursor : Cursor) → IsFree pool lease → HasOut pool cursor → unread_of (leased pool lease) cursor ≡ unread_of pool cursor
@@ -131,7 +134,6 @@ taken_goes {pool = pool} {later = later} device old merge run are is free more =
     let same = held_taken old merge run more in
     let P : List ℕ → Type 0 = AreOut later in
     let Q : List ℕ → Type 0 = λ ls. AreOut later (lease ∷ ls) in
-    let cursors = old.into.merge.cursors.items in
     record {
       changes = areas_kept old.into.writer.filler.first (area_end old.into) old.places.filler.first (places_end old) (kept_same device);
       beside =
@@ -141,19 +143,45 @@ taken_goes {pool = pool} {later = later} device old merge run are is free more =
           ∙ lease_others_out pool lease held is free;
       others = lease_keeps_others pool lease held is free;
       still = subst P (sym same) (outs_from_front later held lease [] (subst Q (sym (append-nil held)) (lease_outs pool lease held is free are)));
-      given = λ since from given i.
-          let R : List Cursor → Type 0 = λ cs. CursorGiven since device later (cursor_at cs i) in
-          let S : Pool → Type 0 = λ p. CursorGiven since device p (cursor_at (cursors ++ OfList run ∷ []) i) in
-          subst R (sym more)
-          (subst S (sym is)
-          (each_pushed (CursorGiven since device (leased pool lease)) cursors (OfList run) tt
-          (λ k. given_taken since device pool lease (cursor_at cursors k) free (lists_out pool old are k) (given k))
-          (none_given since device pool lease) i));
       lists_first = refl;
       places_first = refl;
       rows = refl;
       size = refl;
     }
+
+-- what was given for the lists is given for them and one more
+begins_ascends : (page : ℕ → List ℕ) (list : ListRef) (rows : ℕ) (run : RunCursor) → Begins list rows run → IsOrdered page page rows list → ListAscends page run
+begins_ascends page list rows run begins ordered =
+    let P : ListRef → Type 0 = λ l. IsOrdered page page rows l in
+    let is = subst P (sym begins.list_is) ordered in
+    record {
+      above = λ i from within. omega (arith, is.above i within, begins.last_is);
+      order = λ i j from less within. is.order i j less within;
+      within = λ i from within. omega (arith, is.within i within, begins.rows_is);
+    }
+
+pub begins_known :
+    (since : Since) (page : ℕ → List ℕ) (list : ListRef) (rows : ℕ) (run : RunCursor) → Begins list rows run → KnowsList since page rows list
+    → MayBlame since (run_of run.list.run) (ListAscends page run)
+begins_known since page list rows run begins knows =
+    let P : ListRef → Type 0 = λ l. MayBlame since (run_of l.run) (ListAscends page run) in
+    subst P (sym begins.list_is) (may_then (λ tells ordered. begins_ascends page list rows run begins ordered) knows)
+
+pub taken_given :
+    {pool later : Pool} (since : Since) (device : Device) (old : Groups) (merge : Merge) (run : RunCursor) → AreOut pool (groups_held old)
+    → later ≡ leased pool run.lease → IsFree pool run.lease → merge.cursors.items ≡ old.into.merge.cursors.items ++ OfList run ∷ []
+    → MayBlame since (run_of run.list.run) (ListAscends device.page run) → AllGiven since device pool old.into.merge.cursors.items
+    → AllGiven since device later merge.cursors.items
+taken_given {pool = pool} {later = later} since device old merge run are is free more may given i =
+    let lease = run.lease in
+    let cursors = old.into.merge.cursors.items in
+    let R : List Cursor → Type 0 = λ cs. CursorGiven since device later (cursor_at cs i) in
+    let S : Pool → Type 0 = λ p. CursorGiven since device p (cursor_at (cursors ++ OfList run ∷ []) i) in
+    subst R (sym more)
+    (subst S (sym is)
+    (each_pushed (CursorGiven since device (leased pool lease)) cursors (OfList run) tt
+    (λ k. given_taken since device pool lease (cursor_at cursors k) free (lists_out pool old are k) (given k))
+    (record { read = none_given since.calls device pool lease; may = may }) i))
 
 -- leases without the first ones
 pub outs_of_one : (pool : Pool) (a : ℕ) (leases : List ℕ) → AreOut pool (a ∷ leases) → AreOut pool leases

@@ -6,6 +6,7 @@ use Rattle.ghost_model.specs.forms.Runs.{page_of, number_in}
 use Rattle.ghost_base.specs.Runs.{run_of}
 use Rattle.edge_traits.specs.Devices.{Device, ChangesOnly}
 use Rattle.page_pool.specs.Pools.{Pool, AreOut, ChangesPage, page_at}
+use Rattle.page_pool.specs.Laws.{SameBuffer}
 use Rattle.page_pool.proofs.Leases.{out_kept, outs_kept, change_keeps_out, change_elsewhere, change_keeps_others}
 use Rattle.flash_pages.specs.declared.filler.RunFiller.{RunFiller}
 use Rattle.flash_pages.specs.declared.writer.RunWriter.{RunWriter}
@@ -19,7 +20,9 @@ use Rattle.flash_pages.proofs.LeaseFrames.{ready_kept, given_kept}
 use Rattle.flash_pages.proofs.Fillings.{whole_pages}
 use Rattle.id_merge.specs.declared.cursor.Cursor.{Cursor}
 use Rattle.id_merge.specs.declared.cursor.Cursor.TheVariants.{List as OfList, Range}
-use Rattle.id_merge.specs.Cursors.{cursor_at, leases_of, CursorReady, CursorGiven, page_last, unread_list, unread_of, unread_in}
+use Rattle.id_merge.specs.Since.{Since}
+use Rattle.id_merge.specs.Cursors.{cursor_at, leases_of, CursorReady, CursorGiven, ListAscends, ListGiven, page_last, unread_list, unread_of, unread_in}
+use Rattle.id_merge.proofs.SinceLaws.{may_then}
 use Rattle.spill_pass.specs.declared.merging.MergeInto.{MergeInto}
 use Rattle.spill_pass.specs.Merging.{area_pages, area_end, leases_held, LiesOutside, CanBegin, IsMerging, Goes, SameIds, KeepsIds}
 use Rattle.spill_pass.proofs.Holders.{IsAnother, each_another}
@@ -64,12 +67,31 @@ ids_cursor told {before = before} {now = now} pool (OfList run) changes outside 
     (outside_page (page_of (run_of run.list.run) (run.list.first + i)) changes (outside (run.list.first + i) (omega (arith, ready.list)))))
 ids_cursor told pool (Range first last) changes outside ready = tt
 
-pub given_cursor :
-    {lease : ℕ} {pool later : Pool} (since : ℕ) (before now : Device) (cursor : Cursor)
+-- a list's identifiers to come ascend as before where they are the same
+pub ascends_ids : (page now : ℕ → List ℕ) (run : RunCursor) → SameIds page now (OfList run) → ListAscends page run → ListAscends now run
+ascends_ids page now run same was = record {
+  above = λ i from within. omega (arith, same i within, was.above i from within);
+  order = λ i j from less within. omega (arith, same i (omega (arith, less, within)), same j within, was.order i j from less within);
+  within = λ i from within. omega (arith, same i within, was.within i from within);
+}
+
+-- what was given for a list is given where its identifiers and its buffer are as they were
+pub given_list :
+    {pool later : Pool} (since : Since) (before now : Device) (run : RunCursor)
     → ((at number : ℕ) (bytes : List ℕ) → before.gave at number bytes ≡ true → now.gave at number bytes ≡ true)
-    → ChangesPage pool later lease → IsAnother lease cursor → CursorGiven since before pool cursor → CursorGiven since now later cursor
-given_cursor since before now (OfList run) gave buffer apart given = given_kept since before now gave (change_elsewhere buffer apart) given
-given_cursor since before now (Range first last) gave buffer apart given = tt
+    → SameIds before.page now.page (OfList run) → SameBuffer pool later run.lease → ListGiven since before pool run → ListGiven since now later run
+given_list since before now run gave ids same given = record {
+  read = given_kept since.calls before now gave same given.read;
+  may = may_then (λ tells ascends. ascends_ids before.page now.page run ids ascends) given.may;
+}
+
+pub given_cursor :
+    {lease : ℕ} {pool later : Pool} (since : Since) (before now : Device) (cursor : Cursor)
+    → ((at number : ℕ) (bytes : List ℕ) → before.gave at number bytes ≡ true → now.gave at number bytes ≡ true)
+    → SameIds before.page now.page cursor → ChangesPage pool later lease → IsAnother lease cursor → CursorGiven since before pool cursor
+    → CursorGiven since now later cursor
+given_cursor since before now (OfList run) gave ids buffer apart given = given_list since before now run gave ids (change_elsewhere buffer apart) given
+given_cursor since before now (Range first last) gave ids buffer apart given = tt
 
 pub ids_stay :
     {told : Bool} {before now : Device} {pool : Pool} {into : MergeInto} → IsMerging told before pool into
@@ -79,11 +101,12 @@ ids_stay {told = told} {pool = pool} {into = into} is changes = λ i.
 
 -- a call of the writer
 pub wrote :
-    {told : Bool} {before now : Device} {pool later : Pool} (old : MergeInto) (writer : RunWriter) → AreOut pool (leases_held old)
+    {told : Bool} {before now : Device} {pool later : Pool} (old : MergeInto) (writer : RunWriter) → IsMerging told before pool old
     → ChangesOnly old.writer.filler.first (area_end old) before now → ChangesPage pool later old.writer.lease
     → writer.lease ≡ old.writer.lease → writer.filler.first ≡ old.writer.filler.first
     → Goes told before now pool later old (record { merge = old.merge; writer = writer; rows = old.rows })
-wrote {before = before} {now = now} {pool = pool} {later = later} old writer are changes buffer lease first =
+wrote {before = before} {now = now} {pool = pool} {later = later} old writer is changes buffer lease first =
+    let are = is.can.leases in
     let leases = leases_of old.merge.cursors.items in
     let P : ℕ → Type 0 = λ lease. AreOut later (lease ∷ leases) in
     record {
@@ -93,7 +116,7 @@ wrote {before = before} {now = now} {pool = pool} {later = later} old writer are
       held = ap (λ lease. lease ∷ leases) lease;
       still = subst P (sym lease) (outs_kept (leases_held old) (change_keeps_out buffer) are);
       given = λ since from given i.
-          given_cursor since before now (cursor_at old.merge.cursors.items i) changes.gave buffer (each_another pool old.writer.lease old.merge.cursors.items i are) (given i);
+          given_cursor since before now (cursor_at old.merge.cursors.items i) changes.gave (ids_stay is changes i) buffer (each_another pool old.writer.lease old.merge.cursors.items i are) (given i);
       same = λ i. list_same (cursor_at old.merge.cursors.items i);
       outside = λ low high is. is;
       over = λ run rows over. over;

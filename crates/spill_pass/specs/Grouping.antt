@@ -9,7 +9,6 @@ use Rattle.page_pool.specs.Pools.{Pool, AreOut, KeepsOthers, others_out}
 use Rattle.flash_pages.specs.declared.fault.PageFault.{PageFault}
 use Rattle.flash_pages.specs.Writing.{IsEntered}
 use Rattle.flash_pages.specs.Writers.{HasPut, next_page}
-use Rattle.id_merge.specs.Cursors.{AllGiven}
 use Rattle.id_merge.specs.Merges.{Remains, at_hand}
 use Rattle.id_merge.specs.declared.merge.Merge.{Merge}
 use Rattle.spill_pass.specs.declared.groups.Groups.{Groups}
@@ -104,7 +103,6 @@ pub record GoesOn (before now : Device) (pool later : Pool) (old new : Groups) :
   pub beside : others_out later (groups_held new) ≡ others_out pool (groups_held old)
   pub others : KeepsOthers (others_out pool (groups_held old)) pool later
   pub still : AreOut later (groups_held new)
-  pub given : (since : ℕ) → since ≤ before.calls → AllGiven since before pool old.into.merge.cursors.items → AllGiven since now later new.into.merge.cursors.items
   pub lists_first : new.into.writer.filler.first ≡ old.into.writer.filler.first
   pub places_first : new.places.filler.first ≡ old.places.filler.first
   pub rows : new.into.rows ≡ old.into.rows

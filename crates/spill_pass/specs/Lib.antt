@@ -1,5 +1,6 @@
 pub mod Causes
 pub mod Merging
+pub mod Known
 pub mod Places
 pub mod Spared
 pub mod Lists
@@ -10,6 +11,7 @@ pub mod Passing
 pub mod Calls
 pub mod Reducing
 pub mod Listings
+pub mod Given
 pub mod PassContents
 pub mod ReduceContents
 pub mod Sparing

@@ -7,7 +7,9 @@ use Rattle.page_pool.specs.Pools.{Pool}
 use Rattle.spill_pass.specs.declared.lists.Lists.{Lists}
 use Rattle.spill_pass.specs.declared.lists.Lists.TheVariants.{Given, Placed}
 use Rattle.spill_pass.specs.declared.places.PlaceReader.{PlaceReader}
-use Rattle.spill_pass.specs.Places.{CanGive, DamagesPlace, ReaderHas, reads_place, source_of}
+use Rattle.flash_pages.specs.Reads.{WasGiven}
+use Rattle.id_merge.specs.Since.{Since, MayBlame}
+use Rattle.spill_pass.specs.Places.{CanGive, ReaderHas, reads_place, source_of}
 use Rattle.spill_pass.specs.Sources.{Source}
 
 abbrev pub source_in : {S : Type 0} → (S → Source) → Lists S → Source
@@ -32,9 +34,20 @@ abbrev pub has_in : {S : Type 0} → ((ℕ → List ℕ) → (ℕ → List ℕ) 
 has_in of page right rows (Given lists) ids = of page right rows lists ids
 has_in of page right rows (Placed reader) ids = PlacedHas page right rows reader ids
 
-abbrev pub blamed_in : {S : Type 0} → (ℕ → Device → S → ℕ → ℕ → ℕ → Type 0) → (since : ℕ) → Device → Lists S → (number slot found : ℕ) → Type 0
-blamed_in of since device (Given lists) number slot found = of since device lists number slot found
-blamed_in of since device (Placed reader) number slot found = DamagesPlace since device reader number slot found
+-- by the bytes of the pages, a reader has lists that a pass wrote
+pub record ReadsInOrder (page : ℕ → List ℕ) (rows : ℕ) (reader : PlaceReader) : Type 0 where
+  pub ids : List (List ℕ)
+  pub has : PlacedHas page page rows reader ids
+
+-- what is at hand of a reader was read since then, and a slot of its places or lists may be blamed, or they are in order
+pub record ReaderGiven (since : Since) (device : Device) (pool : Pool) (rows : ℕ) (reader : PlaceReader) : Type 0 where
+  pub read : WasGiven since.calls device pool reader.lease
+  pub places : MayBlame since (run_of reader.places) (ReadsInOrder device.page rows reader)
+  pub lists : MayBlame since (run_of reader.lists) (ReadsInOrder device.page rows reader)
+
+abbrev pub given_in : {S : Type 0} → (Since → Device → Pool → ℕ → S → Type 0) → (since : Since) → Device → Pool → (rows : ℕ) → Lists S → Type 0
+given_in of since device pool rows (Given lists) = of since device pool rows lists
+given_in of since device pool rows (Placed reader) = ReaderGiven since device pool rows reader
 
 -- in lists that a pass wrote nothing is damaged
 abbrev pub damaged_in : {S : Type 0} → ((ℕ → List ℕ) → ℕ → S → ℕ → ℕ → ℕ → Type 0) → (page : ℕ → List ℕ) → (rows : ℕ) → Lists S → (number slot found : ℕ) → Type 0

@@ -15,6 +15,7 @@ use Rattle.id_merge.specs.declared.cursor.Cursor.TheVariants.{List as OfList, Ra
 use Rattle.id_merge.specs.declared.merge.Merge.{Merge}
 use Rattle.id_merge.specs.declared.merge.Step.{Step}
 use Rattle.id_merge.specs.declared.merge.Step.TheVariants.{More, Found, End}
+use Rattle.id_merge.specs.Since.{Since, IsSince}
 use Rattle.id_merge.specs.Cursors.{cursor_at, id_in, leases_of, AreRight, AllAtMost, AllGiven}
 use Rattle.id_merge.specs.Merges.{CanMerge, Remains, unread, at_hand}
 pub use Rattle.id_merge.specs.Spared.{LiesOutside, AllOutside}
@@ -151,7 +152,7 @@ pub record Goes (told : Bool) (before now : Device) (pool later : Pool) (old new
   pub others : KeepsOthers (others_out pool (leases_held old)) pool later
   pub held : leases_held new ≡ leases_held old
   pub still : AreOut later (leases_held new)
-  pub given : (since : ℕ) → since ≤ before.calls → AllGiven since before pool old.merge.cursors.items → AllGiven since now later new.merge.cursors.items
+  pub given : (since : Since) → IsSince told before since → AllGiven since before pool old.merge.cursors.items → AllGiven since now later new.merge.cursors.items
   pub same : (i : ℕ) → SameList (cursor_at old.merge.cursors.items i) (cursor_at new.merge.cursors.items i)
   pub outside : (low high : ℕ) → AllOutside low high old.merge.cursors.items → AllOutside low high new.merge.cursors.items
   pub over : (run : Run) (rows : ℕ) → AllOver run rows old.merge.cursors.items → AllOver run rows new.merge.cursors.items

@@ -4,14 +4,8 @@ use Rattle.ghost_model.specs.core.Causes.{Rose}
 use Rattle.ghost_base.specs.declared.runs.Run.{Run}
 use Rattle.edge_traits.specs.Devices.{Device}
 use Rattle.page_pool.specs.Pools.{Pool, AreOut, KeepsOthers, others_out, free_count}
-use Rattle.flash_pages.specs.Reads.{WasGiven}
-use Rattle.flash_pages.specs.declared.cursor.RunCursor.{RunCursor}
 use Rattle.flash_pages.specs.declared.fault.PageFault.{PageFault}
 use Rattle.flash_pages.specs.declared.fault.PageFault.TheVariants.{Flash, Damaged}
-use Rattle.flash_pages.specs.Cursors.{BlamesSlot}
-use Rattle.id_merge.specs.declared.cursor.Cursor.{Cursor}
-use Rattle.id_merge.specs.declared.cursor.Cursor.TheVariants.{List as OfList}
-use Rattle.id_merge.specs.Cursors.{AllGiven, cursor_at}
 use Rattle.spill_pass.specs.declared.groups.Groups.{Groups}
 use Rattle.spill_pass.specs.declared.groups.PlacedLists.{PlacedLists}
 use Rattle.spill_pass.specs.declared.passes.PassTurn.{PassTurn}
@@ -57,8 +51,6 @@ pub record PassGoes (before now : Device) (pool later : Pool) (source rest : Sou
   pub beside : others_out later (pass_held rest new) ≡ others_out pool (pass_held source old)
   pub others : KeepsOthers (others_out pool (pass_held source old)) pool later
   pub still : AreOut later (pass_held rest new)
-  pub given : (since : ℕ) → since ≤ before.calls → AllGiven since before pool old.into.merge.cursors.items → AllGiven since now later new.into.merge.cursors.items
-  pub read : (since : ℕ) → since ≤ before.calls → WasGiven since before pool source.lease → WasGiven since now later rest.lease
   pub lease : rest.lease ≡ source.lease
   pub uses : (page : ℕ) → rest.uses page ≡ true → source.uses page ≡ true
   pub run : rest.run ≡ source.run
@@ -103,23 +95,6 @@ pub record PassEnds (before now : Device) (old new : Groups) (placed : PlacedLis
 abbrev pub PassTells : (told : Bool) (before now : Device) (pool later : Pool) (source rest : Source) (old new : Groups) (fan : ℕ) (was merging : Bool) → PassTurn → Type 0
 PassTells told before now pool later source rest old new fan was merging (Went calls) = PassWent told before now pool later source rest old new fan was merging calls
 PassTells told before now pool later source rest old new fan was merging (Placed placed calls) = PassEnds before now old new placed calls
-
--- the slot of the next record of one of the lists at hand is blamed, which lies in the run, whose records have a width that may be
-pub record BlamesListIn (run : Run) (since : ℕ) (device : Device) (cursors : List Cursor) (number slot found : ℕ) : Type 0 where
-  pub at : ℕ
-  pub cursor : RunCursor
-  pub is : cursor_at cursors at ≡ OfList cursor
-  pub run_is : cursor.list.run ≡ run
-  pub inside : cursor.list.first + cursor.list.count ≤ cursor.list.run.count
-  pub some : 0 < cursor.list.run.width
-  pub fits : cursor.list.run.width ≤ 2048
-  pub blames : BlamesSlot since device cursor cursor.at number slot found
-
--- a slot that is blamed is one that the source blames, or one of the lists at hand, in the run of the source
-abbrev pub BlamesPass : (blamed : ℕ → ℕ → ℕ → Type 0) → Run → (since : ℕ) → Device → List Cursor → {T : Type 0} → Result T PageFault → Type 0
-BlamesPass blamed run since device cursors (Ok answer) = ⊤
-BlamesPass blamed run since device cursors (Err Flash) = ⊤
-BlamesPass blamed run since device cursors (Err (Damaged number slot found)) = blamed number slot found ⊎ BlamesListIn run since device cursors number slot found
 
 -- a pass may be begun: with three leases, over lists that lie outside of its areas and have no more identifiers than there are rows
 pub record CanPass (device : Device) (pool : Pool) (source : Source) (to places rows fan lists_lease places_lease : ℕ) : Type 0 where

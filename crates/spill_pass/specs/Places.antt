@@ -1,16 +1,16 @@
 -- The places of lists that lie one behind another in a run.
-use Rattle.std.specs.Prelude.{◌≡◌, ℕ, ◌+◌, ◌-◌, ◌^◌, ◌<◌, ◌≤◌, ◌++◌, ◌∷◌, ◌&&◌, ◌||◌, Bool, true, ⊤, List, [], length, get_or, nat_le, nat_lt, Option, Some, None, Result, Ok, Err, IfSome}
+use Rattle.std.specs.Prelude.{◌≡◌, ℕ, ◌+◌, ◌-◌, ◌^◌, ◌<◌, ◌≤◌, ◌++◌, ◌∷◌, ◌&&◌, ◌||◌, Bool, true, ⊤, List, [], length, get_or, nat_le, nat_lt, Option, Some, None, Result, Ok, Err, IfSome, IfOk, IfErr, OnOk, OnErr, MatchOption}
 use Rattle.ghost_model.specs.forms.Runs as runs
 use Rattle.ghost_base.specs.declared.runs.Run.{Run}
 use Rattle.ghost_base.specs.declared.runs.ListRef.{ListRef}
 use Rattle.ghost_base.specs.Runs.{run_of}
-use Rattle.edge_traits.specs.Devices.{Device}
-use Rattle.page_pool.specs.Pools.{Pool, page_at}
+use Rattle.edge_traits.specs.Devices.{Device, KeepsPages, next_if}
+use Rattle.page_pool.specs.Pools.{Pool, ChangesPage, page_at}
 use Rattle.flash_pages.specs.declared.fault.PageFault.{PageFault}
 use Rattle.flash_pages.specs.declared.fault.PageFault.TheVariants.{Flash, Damaged}
 use Rattle.flash_pages.specs.Runs.{HasRun}
 use Rattle.flash_pages.specs.Cursors.{IsPageOf}
-use Rattle.flash_pages.specs.Reads.{CanRead, WasRead, must_read}
+use Rattle.flash_pages.specs.Reads.{CanRead, FaultTells, WasGiven, WasRead, must_read, page_after}
 use Rattle.spill_pass.specs.declared.places.PlaceReader.{PlaceReader}
 use Rattle.spill_pass.specs.Lists.{IsOrdered, OutOfRowsIn}
 use Rattle.spill_pass.specs.Sources.{Source}
@@ -66,6 +66,7 @@ is_of run width page = nat_le run.first page && nat_lt page (run.first + runs.pa
 -- a place that is blamed: what a read from that count of calls on gave there may not come next. It lies on a page of the places, each
 -- of which has eight bytes
 pub record DamagesPlace (since : ℕ) (device : Device) (reader : PlaceReader) (number slot found : ℕ) : Type 0 where
+  pub within : reader.at < reader.places.count
   pub page : number ≡ runs.page_of (run_of reader.places) reader.at
   pub slot_is : slot ≡ runs.slot_of (run_of reader.places) reader.at
   pub bytes : List ℕ
@@ -91,6 +92,29 @@ pub record CanReadPlaces (told : Bool) (device : Device) (pool : Pool) (reader :
   pub place : reader.at ≤ reader.places.count
   pub within : reader.next ≤ reader.lists.count
   pub buffer : CanRead told device pool reader.lease
+
+-- What `next` makes of its reader, whatever the pages have: it stands behind the list that it gave, and where it stood at the end and
+-- after a fault. The next call may be made.
+pub record TakesPlace (told : Bool) (device : Device) (pool later : Pool) (before now : PlaceReader) (result : Result (Option ListRef) PageFault) : Type 0 where
+  pub step : IfOk result (λ list. MatchOption list ((before.at ≡ before.places.count) × (now ≡ before)) (IsNextList before now))
+  pub fault : OnErr result (now ≡ before)
+  pub ready : CanReadPlaces told device later now
+  pub same : SamePlaces before now
+  pub holds : HoldsPlaces pool before → HoldsPlaces later now
+
+-- What it says of the device and of the buffer: one page is read at most, that of the next place, and none at their end.
+pub record ReadsPlace {T : Type 0} (told : Bool) (before now : Device) (pool later : Pool) (reader : PlaceReader) (result : Result T PageFault) : Type 0 where
+  pub kept : KeepsPages before now
+  pub calls : now.calls ≡ next_if (reads_place pool reader) before.calls
+  pub at_most : now.calls ≤ before.calls + 1
+  pub deep_reads : now.deep_reads ≡ next_if (reads_place pool reader && nat_le 64 (runs.page_of (run_of reader.places) reader.at)) before.deep_reads
+  pub no_fault : OnOk result (now.faults ≡ before.faults)
+  pub fault : IfErr result (FaultTells before now (reads_place pool reader ≡ true))
+  pub buffer : ChangesPage pool later reader.lease
+  pub holds : reader.at < reader.places.count → page_at later reader.lease ≡ page_after result (runs.page_of (run_of reader.places) reader.at)
+  pub rests : reader.at ≡ reader.places.count → later ≡ pool
+  pub ready : CanRead told now later reader.lease
+  pub given : (since : ℕ) → since ≤ before.calls → WasGiven since before pool reader.lease → WasGiven since now later reader.lease
 
 -- a reader as a source of lists
 abbrev pub source_of : PlaceReader → Source

@@ -5,8 +5,6 @@ use Rattle.ghost_base.specs.declared.runs.Run.{Run}
 use Rattle.ghost_base.specs.declared.runs.ListRef.{ListRef}
 use Rattle.edge_traits.specs.Devices.{Device, SamePage}
 use Rattle.page_pool.specs.Pools.{Pool, AreOut, KeepsOthers, others_out, free_count, page_at}
-use Rattle.flash_pages.specs.Reads.{WasGiven}
-use Rattle.id_merge.specs.Cursors.{AllGiven}
 use Rattle.spill_pass.specs.declared.groups.Groups.{Groups}
 use Rattle.spill_pass.specs.declared.groups.PlacedLists.{PlacedLists}
 use Rattle.spill_pass.specs.declared.reduce.Areas.{Areas}
@@ -71,8 +69,6 @@ pub record ReduceGoes (areas : Areas) (before now : Device) (pool later : Pool) 
   pub beside : others_out later (pass_held rest new) ≡ others_out pool (pass_held source old)
   pub others : KeepsOthers (others_out pool (pass_held source old)) pool later
   pub still : AreOut later (pass_held rest new)
-  pub given : (since : ℕ) → since ≤ before.calls → AllGiven since before pool old.into.merge.cursors.items → AllGiven since now later new.into.merge.cursors.items
-  pub read : (since : ℕ) → since ≤ before.calls → WasGiven since before pool source.lease → WasGiven since now later rest.lease
   pub outside : (low high : ℕ) → ReduceOutside low high source areas old → ReduceOutside low high rest areas new
   pub rows : new.into.rows ≡ old.into.rows
   pub size : new.size ≤ old.size

@@ -4,10 +4,12 @@ use Rattle.std.specs.Prelude.{◌≡◌, ℕ, ◌+◌, ◌^◌, ◌<◌, ◌≤�
 use Rattle.edge_traits.specs.Devices.{Device}
 use Rattle.page_pool.specs.Pools.{Pool, IsOut}
 use Rattle.id_merge.specs.declared.merge.Merge.{Merge}
+use Rattle.id_merge.specs.Since.{Since}
 use Rattle.id_merge.specs.Spared.{AllOutside, Spares}
 use Rattle.spill_pass.specs.declared.groups.Groups.{Groups}
 use Rattle.spill_pass.specs.declared.merging.MergeInto.{MergeInto}
 use Rattle.spill_pass.specs.declared.reduce.Areas.{Areas}
+use Rattle.spill_pass.specs.Given.{MergeGiven}
 use Rattle.spill_pass.specs.Grouping.{AreApart}
 use Rattle.spill_pass.specs.Merging.{IsMerging, Gathers, Goes, area_end, calls_left, leases_held, left_of}
 use Rattle.spill_pass.specs.Passing.{pass_held}
@@ -32,6 +34,13 @@ GathersStays =
     (low high : ℕ) (told : Bool) (right : ℕ → List ℕ) (merge : Merge) (earlier : List ℕ) (before now : Device) (pool later : Pool) (into : MergeInto)
     → Spares low high before now pool later (leases_held into) → MergingOutside low high into → IsMerging told before pool into
     → Gathers told right merge earlier before.page pool into → Gathers told right merge earlier now.page later into
+
+-- what is merged was read since as before, and what is written is in order
+abbrev pub MergingStaysGiven : Type 0
+MergingStaysGiven =
+    (low high : ℕ) (told : Bool) (since : Since) (before now : Device) (pool later : Pool) (into : MergeInto)
+    → Spares low high before now pool later (leases_held into) → MergingOutside low high into → IsMerging told before pool into
+    → MergeGiven since before pool into → MergeGiven since now later into
 
 -- as much is to do
 abbrev pub MergingLeftStays : Type 0

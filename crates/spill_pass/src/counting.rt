@@ -2,6 +2,7 @@
 
 ghost use Rattle.std.specs.Prelude.{◌≡◌, ◌+◌, ◌-◌, ◌<◌, ◌≤◌, ◌^◌, true, ℕ, List};
 ghost use Rattle.edge_traits.specs.Devices.{Counts};
+ghost use Rattle.id_merge.specs.Since.{Since, IsSince, Blames};
 ghost use Rattle.id_merge.specs.Cursors.{Moves, AreRight, AllGiven, BlamesLists, BlamesOutOfRows};
 ghost use Rattle.id_merge.specs.Merges.{CanMerge, GivesStep, LastAfterStep, StepTells, HandAfterStep, unread};
 ghost use Rattle.spill_pass.specs.FewPages.{FreshListIsShort, FreshRecordsAreShort, WritesFewPages};
@@ -44,7 +45,8 @@ pub fn step_and_count<F: Flash>(
     ensures gives { F.told ≡ true → (right : ℕ → List ℕ) → AreRight (F.state flash.old).page right merge.old.cursors.items → GivesStep right merge.old merge.new result }
     ensures right { F.told ≡ true → (right : ℕ → List ℕ) → AreRight (F.state flash.old).page right merge.old.cursors.items → AreRight (F.state flash.new).page right merge.new.cursors.items }
     ensures sound { F.told ≡ true → (right : ℕ → List ℕ) → AreRight (F.state flash.old).page right merge.old.cursors.items → BlamesOutOfRows (F.state flash.new).page merge.new.cursors.items result }
-    ensures blames { (since : ℕ) → since ≤ (F.state flash.old).calls → AllGiven since (F.state flash.old) pool.old merge.old.cursors.items → BlamesLists since (F.state flash.new) merge.new.cursors.items result }
+    ensures blames { (since : Since) → IsSince F.told (F.state flash.old) since → AllGiven since (F.state flash.old) pool.old merge.old.cursors.items → Blames since (F.state flash.new) result }
+    ensures slot { (since : Since) → IsSince F.told (F.state flash.old) since → AllGiven since (F.state flash.old) pool.old merge.old.cursors.items → BlamesLists since (F.state flash.new) merge.new.cursors.items result }
     ensures last { LastAfterStep merge.old merge.new result }
     ensures tells { StepTells (F.state flash.old) (F.state flash.new) (unread pool.old merge.old) (unread pool.new merge.new) result }
     ensures at_most { (F.state flash.new).calls ≤ (F.state flash.old).calls + 1 }

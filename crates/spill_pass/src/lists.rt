@@ -17,7 +17,7 @@ pub enum Lists<S> {
 }
 
 impl<S: ListSource + Drop> ListSource for Lists<S> {
-    ghost use Rattle.spill_pass.specs.Listings.{source_in, ready_in, calls_in, has_in, blamed_in, damaged_in};
+    ghost use Rattle.spill_pass.specs.Listings.{source_in, ready_in, calls_in, has_in, given_in, damaged_in};
 
     ghost source = { source_in S.source };
 
@@ -27,7 +27,7 @@ impl<S: ListSource + Drop> ListSource for Lists<S> {
 
     ghost has_lists = { has_in S.has_lists };
 
-    ghost blamed = { blamed_in S.blamed };
+    ghost given = { given_in S.given };
 
     ghost damaged = { damaged_in S.damaged };
 

@@ -1,6 +1,7 @@
 //! Lists that lie one behind another in a run, as a source of lists.
 
-ghost use Rattle.spill_pass.specs.Places.{CanGive, DamagesPlace, DamagesReader, ReaderHas, reads_place, source_of};
+ghost use Rattle.spill_pass.specs.Listings.{ReaderGiven};
+ghost use Rattle.spill_pass.specs.Places.{CanGive, DamagesReader, ReaderHas, reads_place, source_of};
 
 use crate::places::PlaceReader;
 use crate::source::ListSource;
@@ -18,7 +19,7 @@ impl ListSource for PlaceReader {
 
     ghost has_lists = { ReaderHas };
 
-    ghost blamed = { DamagesPlace };
+    ghost given = { ReaderGiven };
 
     ghost damaged = { DamagesReader };
 

@@ -1,13 +1,13 @@
 //! The places of lists that lie one behind another in a run.
 
-ghost use Rattle.std.specs.Prelude.{◌≡◌, ◌^◌, ◌<◌, ◌≤◌, ◌++◌, Bool, true, ℕ, IfOk, IfErr, OnErr, MatchOption};
+ghost use Rattle.std.specs.Prelude.{◌≡◌, ◌^◌, ◌<◌, ◌≤◌, ◌++◌, Bool, true, ℕ};
 ghost use Rattle.ghost_model.specs.forms.Runs.{page_of, number_cell, number_in};
 ghost use Rattle.ghost_base.specs.Runs.{run_of};
 ghost use Rattle.edge_traits.specs.Devices.{Device};
 ghost use Rattle.page_pool.specs.Pools.{Pool, IsOut};
-ghost use Rattle.flash_pages.specs.Reads.{Reads, CanRead, WasGiven};
+ghost use Rattle.flash_pages.specs.Reads.{CanRead, WasGiven};
 ghost use Rattle.flash_pages.specs.Runs.{HasRun};
-ghost use Rattle.spill_pass.specs.Places.{CanReadPlaces, GivesPlace, IsNextList, SamePlaces, DamagesPlace, BlamesPlace, HoldsPlaces, reads_place};
+ghost use Rattle.spill_pass.specs.Places.{CanReadPlaces, GivesPlace, BlamesPlace, TakesPlace, ReadsPlace, reads_place};
 
 use edge_traits::flash::Flash;
 use flash_pages::cells::{found_of, number_at};
@@ -75,13 +75,9 @@ impl PlaceReader {
     ) -> Result<Option<ListRef>, PageFault>
         requires ready { CanReadPlaces F.told (F.state flash.old) pool.old self.old }
         ensures gives { F.told ≡ true → GivesPlace (F.state flash.old).page self.old result }
-        ensures step { IfOk result (λ list. MatchOption list ((self.old.at ≡ self.old.places.count) × (self.new ≡ self.old)) (IsNextList self.old self.new)) }
-        ensures fault { OnErr result (self.new ≡ self.old) }
         ensures blames { (since : ℕ) → since ≤ (F.state flash.old).calls → WasGiven since (F.state flash.old) pool.old self.old.lease → BlamesPlace since (F.state flash.new) self.old result }
-        ensures ready { CanReadPlaces F.told (F.state flash.new) pool.new self.new }
-        ensures same { SamePlaces self.old self.new }
-        ensures holds { HoldsPlaces pool.old self.old → HoldsPlaces pool.new self.new }
-        ensures read { Reads F.told (F.state flash.old) (F.state flash.new) pool.old pool.new self.old.lease (reads_place pool.old self.old) (page_of (run_of self.old.places) self.old.at) result }
+        ensures always { TakesPlace F.told (F.state flash.new) pool.old pool.new self.old self.new result }
+        ensures read { ReadsPlace F.told (F.state flash.old) (F.state flash.new) pool.old pool.new self.old result }
     {
         if self.at >= self.places.count {
             return Ok(None);

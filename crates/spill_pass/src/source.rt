@@ -3,7 +3,8 @@
 ghost use Rattle.std.specs.Prelude.{◌≡◌, ◌+◌, ◌-◌, ◌*◌, ◌^◌, ◌<◌, ◌≤◌, Bool, true, ℕ, List, IfOk, OnOk};
 ghost use Rattle.edge_traits.specs.Devices.{Device, Counts};
 ghost use Rattle.page_pool.specs.Pools.{Pool};
-ghost use Rattle.flash_pages.specs.Reads.{WasGiven};
+ghost use Rattle.id_merge.specs.Since.{Since, IsSince, Blames};
+ghost use Rattle.spill_pass.specs.Known.{KnowsNext};
 ghost use Rattle.spill_pass.specs.Lists.{OutOfRowsIn};
 ghost use Rattle.spill_pass.specs.Sources.{Source, SparesSource, LooksUp, GaveNext, GivesLists, BlamesSource};
 
@@ -29,8 +30,9 @@ pub trait ListSource {
     /// Where pages are told: the lists still to come have these identifiers by right pages, of the rows and ascending.
     ghost has_lists: { (page right : ℕ → List ℕ) → (rows : ℕ) → Self → List (List ℕ) → Type 0 };
 
-    /// A slot that may be blamed, for what a read from that count of calls on gave.
-    ghost blamed: { (since : ℕ) → Device → Self → (number slot found : ℕ) → Type 0 };
+    /// What is at hand was read since then, and a slot of what is still to be read, lists of identifiers of the rows among it, may be
+    /// blamed, or it is in order.
+    ghost given: { (since : Since) → Device → Pool → (rows : ℕ) → Self → Type 0 };
 
     /// A slot that is damaged, by the bytes of the pages: what it has may not stand there by itself. It is one of the source's, or
     /// that of a record of its run that has no identifier of the rows.
@@ -47,7 +49,8 @@ pub trait ListSource {
         requires ready { ready F.told (F.state flash.old) pool.old self.old }
         requires few { spent.old + 3 < 2 ^ 64 }
         ensures gives { F.told ≡ true → (right : ℕ → List ℕ) → (rows : ℕ) → (lists : List (List ℕ)) → has_lists (F.state flash.old).page right rows self.old lists → GivesLists (has_lists (F.state flash.new).page right rows self.new) (F.state flash.new).page right rows lists result }
-        ensures blames { (since : ℕ) → since ≤ (F.state flash.old).calls → WasGiven since (F.state flash.old) pool.old (source self.old).lease → BlamesSource (blamed since (F.state flash.new) self.new) result }
+        ensures blames { (since : Since) → (rows : ℕ) → IsSince F.told (F.state flash.old) since → given since (F.state flash.old) pool.old rows self.old → Blames since (F.state flash.new) result }
+        ensures known { (since : Since) → (rows : ℕ) → IsSince F.told (F.state flash.old) since → given since (F.state flash.old) pool.old rows self.old → KnowsNext (given since (F.state flash.new) pool.new rows self.new) since (F.state flash.new).page rows result }
         ensures sound { F.told ≡ true → (right : ℕ → List ℕ) → (rows : ℕ) → (lists : List (List ℕ)) → has_lists (F.state flash.old).page right rows self.old lists → BlamesSource (damaged (F.state flash.new).page rows self.old) result }
         ensures less { (page : ℕ → List ℕ) → (rows : ℕ) → (number slot found : ℕ) → damaged page rows self.new number slot found → damaged page rows self.old number slot found }
         ensures gave { IfOk result (GaveNext (F.state flash.new) (source self.old) (source self.new)) }
@@ -71,10 +74,11 @@ pub trait ListSource {
     fn end(self) -> Lease
         ensures lease { result ≡ (source self).lease };
 
-    /// A law: the next list may be asked for where nobody changed the pages and the buffer in use, and the lists are the same. A
-    /// record of their run that has no identifier of the rows is damaged.
+    /// A law: the next list may be asked for where nobody changed the pages and the buffer in use, the lists are the same, and what is
+    /// at hand was read since as before. A record of their run that has no identifier of the rows is damaged.
     fn spared(&self)
         ensures stays { (told : Bool) → (before now : Device) → (pool later : Pool) → SparesSource before now pool later (source self.now) → ready told before pool self.now → ready told now later self.now }
+        ensures given { (since : Since) → (told : Bool) → (before now : Device) → (pool later : Pool) → (rows : ℕ) → SparesSource before now pool later (source self.now) → ((at number : ℕ) → (bytes : List ℕ) → before.gave at number bytes ≡ true → now.gave at number bytes ≡ true) → ready told before pool self.now → given since before pool rows self.now → given since now later rows self.now }
         ensures same { (page now right : ℕ → List ℕ) → (rows : ℕ) → (ids : List (List ℕ)) → ((number : ℕ) → (source self.now).uses number ≡ true → now number ≡ page number) → has_lists page right rows self.now ids → has_lists now right rows self.now ids }
         ensures judged { (page right : ℕ → List ℕ) → (rows : ℕ) → (ids : List (List ℕ)) → has_lists page right rows self.now ids → (number slot found : ℕ) → OutOfRowsIn page (source self.now).run rows number slot found → damaged page rows self.now number slot found };
 }

@@ -1,7 +1,7 @@
 //! What goes on where others use other pages and buffers.
 
 ghost use Rattle.spill_pass.specs.Spared.{StaysMerging, StillGathers};
-ghost use Rattle.spill_pass.specs.Sparing.{GathersStays, MergingCallsStay, MergingIsSmall, MergingLeftStays, MergingStays, MergingStaysOutside, ReduceLeftStays, ReducingIsSmall, ReducingStays, SourceIsSpared};
+ghost use Rattle.spill_pass.specs.Sparing.{GathersStays, MergingCallsStay, MergingIsSmall, MergingLeftStays, MergingStays, MergingStaysGiven, MergingStaysOutside, ReduceLeftStays, ReducingIsSmall, ReducingStays, SourceIsSpared};
 
 /// A law: a step may still be made, and the list still has what it had, where nobody changed the pages and buffers in use.
 pub fn spared()
@@ -15,6 +15,7 @@ pub fn spared()
 pub fn merging_is_spared()
     ensures merging { MergingStays }
     ensures gathers { GathersStays }
+    ensures given { MergingStaysGiven }
     ensures left { MergingLeftStays }
     ensures calls { MergingCallsStay }
     ensures outside { MergingStaysOutside }

@@ -12,6 +12,9 @@ use Rattle.spill_pass.proofs.Closing.{put_goes, closed_goes, closed_grouping, ca
 use Rattle.spill_pass.proofs.Taking.{outs_of_two}
 use Rattle.spill_pass.proofs.Over.{outside_none, over_none}
 use Rattle.spill_pass.proofs.Listing.{closed_lists}
+use Rattle.id_merge.specs.Cursors.{CursorGiven}
+use Rattle.spill_pass.proofs.Grouping.{each_none}
+use Rattle.spill_pass.proofs.PutLists.{lists_as, lists_closed}
 use Rattle.spill_pass.proofs.groups.Groups.close.Goals as goal
 
 pub put_and_count-requires-clause-can : goal.put_and_count-requires-clause-can
@@ -122,3 +125,22 @@ returns-clause-over g c = λ run rows over.
 pub returns-clause-outside : goal.returns-clause-outside
 returns-clause-outside g c = λ low high outside.
     outside_none low high c.replace-merge.new.dest.cursors.items (ap (λ (m : Merge). m.cursors.items) c.replace-merge.ensures.after ∙ c.no_lists.ensures.cursors)
+
+pub returns-clause-given : goal.returns-clause-given
+returns-clause-given g c = λ since from was.
+    let old = c.args.self.now in
+    let is = c.requires.grouping in
+    let put = c.in_ok-put_and_count.ensures in
+    let gives = c.end.ensures.given ∙ ap (λ (m : Merge). all_given c.put_and_count.new.pool (leases_of m.cursors.items)) c.replace-merge.ensures.value in
+    let after = c.replace-merge.new.dest in
+    let none = ap (λ (m : Merge). m.cursors.items) c.replace-merge.ensures.after ∙ c.no_lists.ensures.cursors in
+    record {
+      lists = each_none (CursorGiven since (g.F.Flash.state c.put_and_count.new.flash) c.end.new.pool) after.cursors.items none tt;
+      puts = λ tells.
+          let told = sym from.tells ∙ tells in
+          lists_as (record { into = record { merge = after; writer = old.into.writer; rows = old.into.rows }; places = c.put_and_count.new.self; begun = old.into.writer.filler.count; size = old.size }) told
+          (lists_closed old c.put_and_count.new.self after c.place_cell-cell.result is
+          (changes_wider put.writes.others old.places.filler.first (places_end old) (omega arith)
+          (place_reach old is (omega (arith, places_below old is, c.requires.place))))
+          put.buffer gives c.place_cell-cell.ensures.cell put.appended (lists_as old (sym told) (was.puts tells)));
+    }

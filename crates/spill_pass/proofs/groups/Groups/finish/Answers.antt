@@ -1,6 +1,8 @@
+use Rattle.std.proofs.Common.{◌∙◌, sym}
 use Rattle.spill_pass.proofs.Grouping.{goes_on}
 use Rattle.spill_pass.proofs.Going.{finish_in_area}
 use Rattle.spill_pass.proofs.Finishing.{can_finish, finish_lists_goes, finish_places_goes, finish_places_in_area, finished_lists}
+use Rattle.spill_pass.proofs.PutLists.{lists_as, lists_stand}
 use Rattle.spill_pass.proofs.groups.Groups.finish.Goals as goal
 
 pub finish_and_count-requires-2-clause-can : goal.finish_and_count-requires-2-clause-can
@@ -42,3 +44,13 @@ returns-clause-stores g c = λ told right first lists was.
     let two = c.in_ok-places.ensures in
     finished_lists old c.in_ok-lists.lists c.in_ok-places.places told is c.requires.none_found (finish_in_area is.merging one.writes.others one.unwritten)
     (finish_places_in_area old is two.writes.others two.unwritten) one.buffers one.run (one.stores told) (two.stores told) was
+
+pub returns-clause-in_order : goal.returns-clause-in_order
+returns-clause-in_order g c = λ since from was tells.
+    let told = sym from.tells ∙ tells in
+    let old = c.args.self.now in
+    let is = c.requires.grouping in
+    let one = c.in_ok-lists.ensures in
+    let two = c.in_ok-places.ensures in
+    lists_stand old c.in_ok-lists.lists c.in_ok-places.places is c.requires.none_found (finish_in_area is.merging one.writes.others one.unwritten)
+    (finish_places_in_area old is two.writes.others two.unwritten) one.buffers one.run (one.stores told) (two.stores told) (lists_as old (sym told) (was.puts tells))

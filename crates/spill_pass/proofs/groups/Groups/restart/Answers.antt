@@ -11,3 +11,6 @@ returns-clause-grouping c = λ told device pool can.
     let P : ℕ → Type 0 = λ l. CanBegin device pool a.lists a.places a.self.now.into.rows a.size l a.self.now.places.lease in
     let Q : ℕ → Type 0 = λ p. CanBegin device pool a.lists a.places a.self.now.into.rows a.size c.end.result p in
     c.begin.ensures.grouping told device pool (subst Q (sym places) (subst P (sym lists) can))
+
+pub returns-clause-given : goal.returns-clause-given
+returns-clause-given c = λ since device pool. c.begin.ensures.given since device pool

@@ -22,3 +22,15 @@ returns-in-Placed-clause-sound g c =
     (λ told right rows lists has.
     placed_sound (g.F.Flash.state c.args.flash.now).page (g.F.Flash.state c.next_list-in-Placed.new.flash).page right rows _ lists _
     c.next_list-in-Placed.result n.looks.kept.page has (n.sound told right rows lists has.has))
+
+pub returns-in-Given-clause-blames : goal.returns-in-Given-clause-blames
+returns-in-Given-clause-blames g c = rw c.in-Given.is c.next_list.ensures.blames
+
+pub returns-in-Given-clause-known : goal.returns-in-Given-clause-known
+returns-in-Given-clause-known g c = rw c.in-Given.is c.next_list.ensures.known
+
+pub returns-in-Placed-clause-blames : goal.returns-in-Placed-clause-blames
+returns-in-Placed-clause-blames g c = rw c.in-Placed.is c.next_list-in-Placed.ensures.blames
+
+pub returns-in-Placed-clause-known : goal.returns-in-Placed-clause-known
+returns-in-Placed-clause-known g c = rw c.in-Placed.is c.next_list-in-Placed.ensures.known

@@ -1,9 +1,11 @@
 use Rattle.std.proofs.Common.{ℕ, sym, subst}
 use Rattle.std.proofs.lemmas.Result.{err_from_is_err_and}
+use Rattle.id_merge.proofs.SinceLaws.{since_later}
+use Rattle.spill_pass.specs.Given.{PassKnown}
 use Rattle.spill_pass.specs.PassContents.{PassHas}
 use Rattle.spill_pass.proofs.ListCalls.{ends_counts}
 use Rattle.spill_pass.proofs.PassContents.{took_none, took_some}
-use Rattle.spill_pass.proofs.Over.{none_blamed, none_damaged}
+use Rattle.spill_pass.proofs.Over.{none_blames, none_damaged}
 use Rattle.spill_pass.proofs.PassFrames.{pass_goes_on}
 use Rattle.spill_pass.proofs.passes.Pass.fill.Goals as goal
 
@@ -11,10 +13,25 @@ pub returns-clause-goes : goal.returns-clause-goes
 returns-clause-goes g c = pass_goes_on c.take.ensures.goes c.finish.ensures.goes
 
 pub returns-clause-blames : goal.returns-clause-blames
-returns-clause-blames g c = λ since from given read.
-    none_blamed (g.S.ListSource.blamed since (g.F.Flash.state c.finish.new.flash) c.finish.new.self.lists)
-    (g.S.ListSource.source c.finish.new.self.lists).run since (g.F.Flash.state c.finish.new.flash) c.finish.new.self.groups.into.merge.cursors.items
-    c.finish.result c.finish.ensures.no_slot
+returns-clause-blames g c = λ since from given. none_blames since (g.F.Flash.state c.finish.new.flash) c.finish.result c.finish.ensures.no_slot
+
+pub returns-clause-known : goal.returns-clause-known
+returns-clause-known g c = λ since from given.
+    let now = g.F.Flash.state c.finish.new.flash in
+    let R : ℕ → Type 0 = λ rows. PassKnown g.S.ListSource.given since now c.finish.new.pool rows c.finish.new.self c.finish.result in
+    subst R c.take.ensures.goes.rows
+    (c.finish.ensures.known since (since_later c.take.ensures.goes.changes.never_falls from) (c.in_ok-calls.ensures.given since from given))
+
+pub returns-in_err-calls-clause-blames : goal.returns-in_err-calls-clause-blames
+returns-in_err-calls-clause-blames g c = λ since from given.
+    let p = err_from_is_err_and c.from_residual.result c.from_residual.ensures.1 in
+    rw (p.1, p.2) (c.in_err-calls.ensures.blames since from given)
+
+pub returns-in-Some-clause-known : goal.returns-in-Some-clause-known
+returns-in-Some-clause-known g c = λ since from given. c.in_ok-calls.ensures.given since from given
+
+pub returns-then-lists-gt0-clause-known : goal.returns-then-lists-gt0-clause-known
+returns-then-lists-gt0-clause-known g c = λ since from given. let was = c.in_ok-calls.ensures.given since from given in record { source = was.source; groups = was.groups }
 
 pub returns-clause-sound : goal.returns-clause-sound
 returns-clause-sound g c = λ told right lists h.

@@ -51,3 +51,6 @@ returns-clause-outside g c = λ low high uses outside.
 
 pub returns-clause-ends : goal.returns-clause-ends
 returns-clause-ends g c = omega (arith, c.in_ok-placed.ensures.runs.lists_count)
+
+pub returns-clause-known : goal.returns-clause-known
+returns-clause-known g c = λ since from given tells. c.in_ok-placed.ensures.in_order since from given.groups tells
