@@ -258,13 +258,13 @@ counts_again {a = a} {c = c} old mid new one two first second =
 
 -- a slot of the list that is blamed is one of a run of which one may be
 pub next_blamed :
-    (T : Type 0) {told : Bool} {before now : Device} {pool : Pool} (since : Since) (cursor new : RunCursor) (fault : PageFault)
+    (T : Type 0) {told : Bool} {before : Device} {pool : Pool} (now : Device) (since : Since) (cursor new : RunCursor) (fault : PageFault)
     → IsSince told before since → IsReady told before pool cursor → ListGiven since before pool cursor
     → (told ≡ true → GivesNext before.page cursor new (Err fault)) → BlamesNext since.calls now cursor {T = Option ℕ} (Err fault)
     → Blames since now {T = T} (Err fault)
-next_blamed T since cursor new Flash from ready given gives blames = tt
-next_blamed T {before = before} since cursor new (Damaged number slot found) from ready given gives blames =
-    list_blamed since cursor (may_of (λ tells was. none_damaged before.page cursor found was (gives (sym from.tells ∙ tells))) given.may) ready.list blames
+next_blamed T now since cursor new Flash from ready was gives blames = tt
+next_blamed T {before = before} now since cursor new (Damaged number slot found) from ready was gives blames =
+    list_blamed since cursor (may_of (λ tells order. none_damaged before.page cursor found order (gives (sym from.tells ∙ tells))) was.may) ready.list blames
 
 -- one that ascends still does, one identifier on
 pub ascends_next :
