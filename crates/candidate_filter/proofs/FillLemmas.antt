@@ -14,14 +14,16 @@ use Rattle.ghost_base.specs.Runs.{run_of}
 use Rattle.flash_pages.specs.declared.fault.PageFault.{PageFault}
 use Rattle.flash_pages.specs.declared.fault.PageFault.TheVariants.{Flash, Damaged}
 use Rattle.flash_pages.specs.Faults.{BlamesNoSlot}
-use Rattle.flash_pages.specs.Cursors.{IsReady, SameList, GivesNext, GivesId, ids_left, place}
+use Rattle.flash_pages.specs.Cursors.{BlamesNext, IsReady, SameList, GivesNext, GivesId, ids_left, place}
 use Rattle.flash_pages.specs.Reads.{WasGiven}
 use Rattle.flash_pages.proofs.LeaseFrames.{ready_kept, given_kept}
 use Rattle.bloom_post.specs.Filters.{StandsFor, KeepsBeside}
 use Rattle.bloom_post.specs.Laws.{FiltersStay}
 use Rattle.bloom_post.proofs.LeasedBits.{beside_keeps_out}
-use Rattle.id_merge.specs.Cursors.{ListAscends, id_in}
+use Rattle.id_merge.specs.Cursors.{ListAscends, ListGiven, id_in}
+use Rattle.id_merge.specs.Since.{Blames, IsSince, MayBlame, Since}
 use Rattle.id_merge.proofs.ListReads.{id_same, next_id}
+use Rattle.id_merge.proofs.SinceLaws.{list_blamed, may_of, may_then, none_damaged, since_later}
 use Rattle.candidate_lists.specs.Reduces.{TakesOver}
 use Rattle.candidate_filter.specs.declared.filling.Filling.{Filling}
 use Rattle.candidate_filter.specs.Fills.{Fills, IsFilling, GoesFilling, filling_leases}
@@ -80,8 +82,9 @@ pub went_next :
     {told : Bool} {before now : Device} {pool later : Pool} (filling : Filling) (cursor : RunCursor) → IsFilling told before pool filling
     → KeepsPages before now → ChangesPage pool later filling.cursor.lease → SameList filling.cursor cursor → IsReady told now later cursor
     → ((since : ℕ) → since ≤ before.calls → WasGiven since before pool filling.cursor.lease → WasGiven since now later filling.cursor.lease)
+    → (told ≡ true → ListAscends before.page filling.cursor → ListAscends now.page cursor)
     → GoesFilling told before now pool later filling (record { cursor = cursor; filter = filling.filter })
-went_next {now = now} {later = later} filling cursor is kept buffer list ready gives =
+went_next {told = told} {before = before} {now = now} {later = later} filling cursor is kept buffer list ready gives ascends =
     let P : ℕ → Type 0 = λ lease. AreOut later (lease ∷ filling.filter) in
     record {
       kept = kept;
@@ -90,8 +93,12 @@ went_next {now = now} {later = later} filling cursor is kept buffer list ready g
       list = list;
       filter = refl;
       given = λ since from given.
-          let W : ℕ → Type 0 = λ lease. WasGiven since now later lease in
-          subst W (sym list.lease) (gives since from given);
+          let W : ℕ → Type 0 = λ lease. WasGiven since.calls now later lease in
+          let M : ListRef → Type 0 = λ l. MayBlame since (run_of l.run) (ListAscends now.page cursor) in
+          record {
+            read = subst W (sym list.lease) (gives since.calls from.calls given.read);
+            may = subst M (sym list.list) (may_then (λ tells was. ascends (sym from.tells ∙ tells) was) given.may);
+          };
       filling = record { ready = ready; leases = subst P (sym list.lease) (outs_kept (filling_leases filling) (change_keeps_out buffer) is.leases); some = is.some };
     }
 
@@ -108,7 +115,7 @@ went_add {device = device} {pool = pool} filling is beside =
       others = others_fewer (λ other out. out_beside_fewer pool filling.cursor.lease filling.filter other out) beside.kept;
       list = record { list = refl; rows = refl; lease = refl };
       filter = refl;
-      given = λ since from given. given_kept since device device (λ at number bytes gave. gave) same given;
+      given = λ since from given. record { read = given_kept since.calls device device (λ at number bytes gave. gave) same given.read; may = given.may };
       filling = record {
         ready = ready_kept refl (λ is_told i within. refl) (out_kept keeps is.ready.buffer.out) same is.ready;
         leases = outs_kept (filling_leases filling) keeps is.leases;
@@ -131,7 +138,7 @@ goes_again {pool = pool} {then = then} {later = later} {old = old} {mid = mid} o
           (subst P (ap (λ leases. others_out then leases) held ∙ others_kept (filling_leases old) (record { out = one.out; size = one.others.size })) two.others);
       list = record { list = two.list.list ∙ one.list.list; rows = two.list.rows ∙ one.list.rows; lease = two.list.lease ∙ one.list.lease };
       filter = two.filter ∙ one.filter;
-      given = λ since from given. two.given since (omega (arith, from, one.kept.never_falls)) (one.given since from given);
+      given = λ since from given. two.given since (since_later one.kept.never_falls from) (one.given since from given);
       filling = two.filling;
     }
 
@@ -159,13 +166,13 @@ filling_takes {later = later} {old = old} {new = new} goes =
     }
 
 -- the identifiers to come ascend still: over the same pages, and after one more
-ascends_same : {page now : ℕ → List ℕ} {cursor new : RunCursor} → now ≡ page → new ≡ cursor → ListAscends page cursor → ListAscends now new
+pub ascends_same : {page now : ℕ → List ℕ} {cursor new : RunCursor} → now ≡ page → new ≡ cursor → ListAscends page cursor → ListAscends now new
 ascends_same {page = page} {new = new} pages same was =
     let P : RunCursor → Type 0 = λ run. ListAscends page run in
     let Q : (ℕ → List ℕ) → Type 0 = λ f. ListAscends f new in
     subst Q (sym pages) (subst P (sym same) was)
 
-ascends_on :
+pub ascends_on :
     {page : ℕ → List ℕ} (before now : RunCursor) (id : ℕ) → SameList before now → before.at < before.list.count → now.at ≡ before.at + 1
     → now.last ≡ id → id ≡ id_in page before before.at → ListAscends page before → ListAscends page now
 ascends_on {page = page} before now id same some at last is was =
@@ -248,3 +255,19 @@ counts_again {a = a} {c = c} old mid new one two first second =
     let P : ℕ → Type 0 = λ n. Counts n a c in
     let sum : (mid - old) + (new - mid) ≡ new - old = omega (arith, one, two) in
     subst P sum (counts_more first second)
+
+-- a slot of the list that is blamed is one of a run of which one may be
+pub next_blamed :
+    (T : Type 0) {told : Bool} {before : Device} {pool : Pool} (now : Device) (since : Since) (cursor new : RunCursor) (fault : PageFault)
+    → IsSince told before since → IsReady told before pool cursor → ListGiven since before pool cursor
+    → (told ≡ true → GivesNext before.page cursor new (Err fault)) → BlamesNext since.calls now cursor {T = Option ℕ} (Err fault)
+    → Blames since now {T = T} (Err fault)
+next_blamed T now since cursor new Flash from ready was gives blames = tt
+next_blamed T {before = before} now since cursor new (Damaged number slot found) from ready was gives blames =
+    list_blamed since cursor (may_of (λ tells order. none_damaged before.page cursor found order (gives (sym from.tells ∙ tells))) was.may) ready.list blames
+
+-- one that ascends still does, one identifier on
+pub ascends_next :
+    {page now : ℕ → List ℕ} (cursor new : RunCursor) (id : ℕ) → now ≡ page → SameList cursor new → cursor.at < cursor.list.count
+    → new.at ≡ cursor.at + 1 → GivesId page cursor new id → ListAscends page cursor → ListAscends now new
+ascends_next cursor new id pages same some at gives was = ascends_same pages refl (ascends_on cursor new id same some at gives.last (next_id some gives) was)

@@ -4,3 +4,4 @@ pub mod SiftContents
 pub mod Sparing
 pub mod Opening
 pub mod Filled
+pub mod Knowing

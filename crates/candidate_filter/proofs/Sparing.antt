@@ -21,6 +21,8 @@ use Rattle.bloom_post.specs.Laws.{FiltersStay}
 use Rattle.bloom_post.proofs.LeasedBits.{bit_of_member}
 use Rattle.id_merge.specs.Cursors.{ListAscends, id_in}
 use Rattle.id_merge.specs.declared.merge.Merge.{Merge}
+use Rattle.id_merge.specs.Since.{Since}
+use Rattle.id_merge.proofs.SinceLaws.{may_then}
 use Rattle.id_merge.specs.Spared.{CursorsStayGiven, CursorsStayRight, Spares}
 use Rattle.spill_pass.specs.Grouping.{AreApart}
 use Rattle.spill_pass.specs.Merging.{IsPlaced, area_end, area_pages, leases_held}
@@ -35,6 +37,8 @@ use Rattle.subtree_keys.specs.Tables.{row_spelled, slot_row}
 use Rattle.candidate_filter.specs.Sifts.{IsSifted, IsUnderWay, SiftsSoFar, SiftingHasBy, Tests, HasKeys, IsSiftingBy, may_have, passes_row, sift_leases}
 use Rattle.candidate_filter.specs.Outside.{SiftingOutside}
 use Rattle.candidate_filter.specs.Laws.{RepliedRowsPass, ListedRowsPass, LedCandidatesPass, FillingStays, FillingStaysGiven, FillsStay, SiftingStays, SiftingStaysGiven, SiftingHasStays, SiftingLeftStays, SiftingKeeps, SiftingIsSmall}
+use Rattle.candidate_lists.proofs.Giving.{knows_stays}
+use Rattle.candidate_filter.specs.Given.{SiftedGiven}
 use Rattle.candidate_filter.proofs.SiftLemmas.{all_three, beside_page, may_stays}
 
 pub rows_pass : RepliedRowsPass
@@ -100,7 +104,15 @@ filling_stays low high told before now pool later filling spares outside is = re
 }
 
 pub filling_given : FillingStaysGiven
-filling_given low high since before now pool later filling spares given = given_kept since before now spares.changes.gave (spares.buffers 0 (omega arith)) given
+filling_given low high told since before now pool later filling spares outside is given = record {
+  read = given_kept since.calls before now spares.changes.gave (spares.buffers 0 (omega arith)) given.read;
+  may =
+      may_then
+      (λ tells was.
+      ascends_kept before.page now.page filling.cursor is.ready.list
+      (λ i within. beside_page (page_of (run_of filling.cursor.list.run) i) spares.changes (outside i within)) was)
+      given.may;
+}
 
 pub fills_stay : FiltersStay → FillsStay
 fills_stay stay low high told before now pool later filling ids spares outside is was = record {
@@ -184,14 +196,53 @@ sifting_by told s (Some run) stays spares outside is = record { placed = is.plac
 pub sifting_stays : MergingStays → SiftingStays
 sifting_stays stays low high told before now pool later s spares outside is = sifting_by told s s.run stays spares outside is
 
-pub sifting_given : CursorsStayGiven → SiftingStaysGiven
-sifting_given stays low high since before now pool later s spares given =
-    let held = spares_first (leases_held s.into) (s.lease ∷ s.filter) spares in
+sifted_given_by :
+    (low high : ℕ) (told : Bool) (since : Since) (before now : Device) (pool later : Pool) (s : Sifting) (run : Option Run) → CursorsStayGiven
+    → Spares low high before now pool later (sift_leases s) → SiftingOutside low high s → IsSiftingBy told before pool s run
+    → SiftedGiven since before pool s run → SiftedGiven since now later s run
+sifted_given_by low high told since before now pool later s None stays spares outside is was =
+    let into = s.into in
+    let held = spares_first (leases_held into) (s.lease ∷ s.filter) spares in
+    let merging = is.can.merging in
+    let ends = next_within into.writer.filler.first into.writer.filler.pages into.writer.filler.held into.writer.filler.count into.rows
+    merging.can.area.block (pages_below merging) merging.count in
     record {
-      lists = stays low high since before now pool later s.into.merge.cursors.items
-          (record { changes = held.changes; out = held.out; buffers = λ i within. held.buffers (suc i) (omega (arith, within)) }) given.lists;
-      record_of = given_kept since before now spares.changes.gave (spares_rest (leases_held s.into) (s.lease ∷ s.filter) spares 0 (omega arith)) given.record_of;
+      buffers = record {
+        lists =
+            stays low high told since before now pool later into.merge.cursors.items
+            (record { changes = held.changes; out = held.out; buffers = λ i within. held.buffers (suc i) (omega (arith, within)) })
+            outside.merging.lists merging.can.step.cursors was.buffers.lists;
+        record_of =
+            given_kept since.calls before now spares.changes.gave (spares_rest (leases_held into) (s.lease ∷ s.filter) spares 0 (omega arith))
+            was.buffers.record_of;
+      };
+      area = was.area;
+      puts = λ tells.
+          let puts = was.puts tells in
+          record {
+            ids = puts.ids;
+            put =
+                put_kept into.writer
+                (λ is_told number from to. (area_spared into.writer.filler.first (area_end into) spares.changes outside.merging.area number from (omega (arith, to, ends.0))).bytes)
+                (held.buffers 0 (omega arith)) puts.put;
+            ascending = puts.ascending;
+            above = puts.above;
+            below = puts.below;
+          };
     }
+sifted_given_by low high told since before now pool later s (Some run) stays spares outside is was =
+    knows_stays before.page now.page s.into.rows run is.placed.width is.placed.count
+    (λ number from to.
+    (area_spared s.into.writer.filler.first (area_end s.into) spares.changes outside.merging.area number (omega (arith, from, is.placed.first))
+    (omega (arith, to, is.placed.first))).bytes)
+    was
+
+pub sifting_given : CursorsStayGiven → SiftingStaysGiven
+sifting_given stays low high told since size before now pool later s spares outside is given = record {
+  list = sifted_given_by low high told since before now pool later s s.run stays spares outside is given.list;
+  table = given.table;
+  areas = given.areas;
+}
 
 left_by : (pool later : Pool) (s : Sifting) (run : Option Run) → closing_left later s.into None ≡ closing_left pool s.into None → closing_left later s.into run ≡ closing_left pool s.into run
 left_by pool later s None same = same

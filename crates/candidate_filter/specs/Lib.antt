@@ -1,4 +1,5 @@
 pub mod Fills
 pub mod Sifts
 pub mod Outside
+pub mod Given
 pub mod Laws

@@ -1,6 +1,7 @@
 pub mod Unions
 pub mod Lists
 pub mod Frames
+pub mod Giving
 pub mod Contents
 pub mod Standing
 pub mod Staying

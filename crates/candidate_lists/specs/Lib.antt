@@ -11,3 +11,4 @@ pub mod Regions
 pub mod Joins
 pub mod Few
 pub mod Staying
+pub mod Given

@@ -1,6 +1,7 @@
 //! The areas that a text's candidates and lists are written into.
 
 ghost use Rattle.std.specs.Prelude.{◌≡◌};
+ghost use Rattle.candidate_lists.specs.Given.{MayBeFewer, MayExchange, MayTurn};
 ghost use Rattle.candidate_lists.specs.Outside.{TurnedIsOutside};
 ghost use Rattle.candidate_lists.specs.Scratch.{HasTurned, TurnsAgain, areas_of, exchanged, turned};
 
@@ -67,9 +68,13 @@ impl Scratch {
     }
 }
 
-/// A law: the areas are there, and lie outside of a region, after candidates were written too, however often.
+/// A law: the areas are there, and lie outside of a region, after candidates were written too, however often. A run in one of them may be
+/// blamed as before, also where the areas for other candidates are taken, and for fewer rows and lists.
 pub fn turned_areas()
     ensures has { HasTurned }
     ensures outside { TurnedIsOutside }
     ensures again { TurnsAgain }
+    ensures may { MayTurn }
+    ensures exchanged { MayExchange }
+    ensures fewer { MayBeFewer }
 {}

@@ -1,6 +1,7 @@
 //! What stays where others write other areas.
 
-ghost use Rattle.candidate_lists.specs.Spared.{ClosedStays, ClosingSpares, ClosingSparesRead, ListsStay, ReduceKeeps, ScratchStays};
+ghost use Rattle.candidate_lists.specs.Given.{CandidatesStayGiven, ClosedStaysGiven, ClosingStaysGiven};
+ghost use Rattle.candidate_lists.specs.Spared.{ClosedStays, ClosingSpares, ListsStay, ReduceKeeps, ScratchStays};
 ghost use Rattle.candidate_lists.specs.Staying.{BesideStays, ClosedIsKept, ClosingCallsStay, ClosingCostsStay, ClosingHasStays, ClosingIsSmall, ClosingLeftStays, ClosingStays, DamageStays, HeldStays, JoinedStays, JoiningStays, OpenedStays, OpeningStays, ReducedStays, ScratchIsOutside, SparesRest};
 ghost use Rattle.candidate_lists.specs.Regions.{BesideKeeps, JoiningKeeps, OpeningKeeps, RegionIsKept, RegionKeepsClosed, RegionStaysKept, WritingKeeps};
 
@@ -13,9 +14,9 @@ use spill_pass::spared::merging_is_spared;
 pub fn spared()
     ensures closed { ClosedStays }
     ensures lists { ListsStay }
+    ensures given { ClosedStaysGiven }
     ensures reduce { ReduceKeeps }
     ensures closing { ClosingSpares }
-    ensures read { ClosingSparesRead }
     ensures scratch { ScratchStays }
 {}
 
@@ -25,10 +26,12 @@ pub fn spared()
 pub fn candidates_are_spared()
     ensures rest { SparesRest }
     ensures held { HeldStays }
+    ensures given { CandidatesStayGiven }
     ensures damage { DamageStays }
     ensures opening { OpeningStays }
     ensures opened { OpenedStays }
     ensures closing { ClosingStays }
+    ensures closing_given { ClosingStaysGiven }
     ensures closing_has { ClosingHasStays }
     ensures closing_left { ClosingLeftStays }
     ensures closing_calls { ClosingCallsStay }

@@ -1,3 +1,4 @@
+use Rattle.candidate_lists.proofs.Giving.{may_be_fewer, may_exchange, may_turn}
 use Rattle.candidate_lists.proofs.Turning.{has_turned, turned_is_outside, turns_again}
 use Rattle.candidate_lists.proofs.scratch.turned_areas.Goals as goal
 
@@ -9,3 +10,12 @@ returns-clause-outside c = turned_is_outside
 
 pub returns-clause-again : goal.returns-clause-again
 returns-clause-again c = turns_again
+
+pub returns-clause-may : goal.returns-clause-may
+returns-clause-may c = may_turn
+
+pub returns-clause-exchanged : goal.returns-clause-exchanged
+returns-clause-exchanged c = may_exchange
+
+pub returns-clause-fewer : goal.returns-clause-fewer
+returns-clause-fewer c = may_be_fewer

@@ -1,5 +1,6 @@
 use Rattle.id_merge.specs.Cursors.{leases_of}
 use Rattle.candidate_lists.proofs.Damaging.{damage_stays}
+use Rattle.candidate_lists.proofs.Giving.{candidates_stay_given, closing_stays_given}
 use Rattle.candidate_lists.proofs.Sparing.{beside_stays, closed_is_kept, closing_calls_stay, closing_has_stays, closing_is_small, closing_left_stays, closing_stays, held_stays, opened_stays, opening_stays, reduced_stays, scratch_is_outside, spares_rest}
 use Rattle.candidate_lists.proofs.Costs.{closing_costs_stay}
 use Rattle.candidate_lists.proofs.Joins.{joined_stays, joining_stays}
@@ -57,3 +58,9 @@ pub returns-clause-closing_costs : goal.returns-clause-closing_costs
 returns-clause-closing_costs c = λ low high before now pool later closing most spares.
     closing_costs_stay most closing.into closing.run c.cursors_are_spared.ensures.unread
     (spares_rest low high before now pool later closing.into.writer.lease (leases_of closing.into.merge.cursors.items) spares)
+
+pub returns-clause-given : goal.returns-clause-given
+returns-clause-given c = candidates_stay_given c.cursors_are_spared.ensures.given
+
+pub returns-clause-closing_given : goal.returns-clause-closing_given
+returns-clause-closing_given c = closing_stays_given c.merging_is_spared.ensures.given

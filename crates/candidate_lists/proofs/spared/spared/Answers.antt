@@ -1,4 +1,5 @@
-use Rattle.candidate_lists.proofs.Staying.{closed_stays, closing_spares, closing_spares_read, lists_stay, reduce_keeps, scratch_stays}
+use Rattle.candidate_lists.proofs.Giving.{closed_stays_given}
+use Rattle.candidate_lists.proofs.Staying.{closed_stays, closing_spares, lists_stay, reduce_keeps, scratch_stays}
 use Rattle.candidate_lists.proofs.spared.spared.Goals as goal
 
 pub returns-clause-closed : goal.returns-clause-closed
@@ -16,5 +17,5 @@ returns-clause-closing c = closing_spares
 pub returns-clause-scratch : goal.returns-clause-scratch
 returns-clause-scratch c = scratch_stays
 
-pub returns-clause-read : goal.returns-clause-read
-returns-clause-read c = closing_spares_read
+pub returns-clause-given : goal.returns-clause-given
+returns-clause-given c = closed_stays_given
