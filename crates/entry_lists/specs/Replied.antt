@@ -8,13 +8,13 @@ use Rattle.page_pool.specs.Pools.{Pool, page_at}
 use Rattle.flash_pages.specs.Cursors.{IsPageOf}
 use Rattle.flash_pages.specs.Reads.{CanRead, must_read}
 use Rattle.climbing_index.specs.Directories as directories
-use Rattle.climbing_index.specs.Directories.{BlamesSlot, HasDamage, entry_page, entry_stands}
+use Rattle.climbing_index.specs.Directories.{HasDamage, entry_page, entry_stands}
 use Rattle.visible_spool.specs.Replies as replies
 use Rattle.visible_spool.specs.Replies.{HoldsRows, id_of, id_of_bytes}
 use Rattle.spill_pass.specs.Lists.{OutOfRowsIn}
 use Rattle.spill_pass.specs.Sources.{Source}
 use Rattle.entry_lists.specs.declared.replies.ReplyLists.{ReplyLists}
-use Rattle.entry_lists.specs.Entries.{HaveEntries, is_in, level_run, may_come}
+use Rattle.entry_lists.specs.Entries.{HaveEntries, is_in, level_run}
 
 -- an identifier is at hand, and the entry of the next one
 abbrev pub has_hand : ReplyLists → Bool
@@ -71,22 +71,6 @@ pub record CanGive (told : Bool) (device : Device) (pool : Pool) (lists : ReplyL
 -- whether a row begins with an identifier above the last one, of so many rows
 abbrev pub may_follow : (last rows : ℕ) → List ℕ → Bool
 may_follow last rows bytes = nat_lt last (number_in bytes 0) && nat_le (number_in bytes 0) rows
-
--- A slot that is blamed: that of the row that is looked at next, on a page of the reply, or that of the entry of an identifier at
--- hand, on a page of the directory; what a read from that count of calls on gave there may not come.
-pub record BlamesReplied (since : ℕ) (device : Device) (lists : ReplyLists) (number slot found : ℕ) : Type 0 where
-  pub hand : has_hand lists ≡ true
-  pub blames : BlamesSlot since device (run_of lists.directory.run) (may_come lists.directory lists.level lists.left) (entry_at_hand lists) number slot found
-  pub used : is_in (run_of lists.directory.run) number ≡ true
-
-pub record BlamesRow (since : ℕ) (device : Device) (lists : ReplyLists) (number slot found : ℕ) : Type 0 where
-  pub none : has_hand lists ≡ false
-  pub within : lists.given < lists.reply.run.count
-  pub blames : BlamesSlot since device (run_of lists.reply.run) (may_follow lists.last lists.reply.rows) lists.given number slot found
-  pub used : is_in (run_of lists.reply.run) number ≡ true
-
-abbrev pub Blames : (since : ℕ) → Device → ReplyLists → (number slot found : ℕ) → Type 0
-Blames since device lists number slot found = BlamesReplied since device lists number slot found ⊎ BlamesRow since device lists number slot found
 
 -- A slot that is damaged: that of the entry of an identifier that the pages have in a row, with bytes that may not stand there,
 -- whatever stands in others.
