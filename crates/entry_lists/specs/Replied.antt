@@ -1,12 +1,13 @@
 -- Lists of the identifiers of a reply, one after another.
-use Rattle.std.specs.Prelude.{◌≡◌, ◌⊎◌, ℕ, ◌+◌, ◌-◌, ◌<◌, ◌≤◌, Bool, true, false, ◌&&◌, ◌||◌, nat_le, nat_lt, List, length, map, drop, get_or, IfSome, if◌then◌else◌}
+use Rattle.std.specs.Prelude.{◌≡◌, ◌⊎◌, ℕ, ◌+◌, ◌-◌, ◌<◌, ◌≤◌, Bool, true, false, ◌&&◌, ◌||◌, nat_le, nat_lt, List, length, map, drop, get_or, Result, IfErr, IfSome, OnOk, if◌then◌else◌}
 use Rattle.std.specs.List.{concat}
 use Rattle.ghost_model.specs.forms.Runs.{page_of, id_at, number_in}
 use Rattle.ghost_base.specs.Runs.{run_of}
-use Rattle.edge_traits.specs.Devices.{Device}
-use Rattle.page_pool.specs.Pools.{Pool, page_at}
+use Rattle.edge_traits.specs.Devices.{Device, KeepsPages, next_if}
+use Rattle.page_pool.specs.Pools.{Pool, ChangesPage, page_at}
 use Rattle.flash_pages.specs.Cursors.{IsPageOf}
-use Rattle.flash_pages.specs.Reads.{CanRead, must_read}
+use Rattle.flash_pages.specs.declared.fault.PageFault.{PageFault}
+use Rattle.flash_pages.specs.Reads.{CanRead, FaultTells, WasGiven, must_read}
 use Rattle.climbing_index.specs.Directories as directories
 use Rattle.climbing_index.specs.Directories.{HasDamage, entry_page, entry_stands}
 use Rattle.visible_spool.specs.Replies as replies
@@ -121,3 +122,16 @@ pub record TakesIds (old new : ReplyLists) : Type 0 where
   pub level : new.level ≡ old.level
   pub left : new.left ≡ old.left
   pub lease : new.lease ≡ old.lease
+
+-- one page is read at most under a lease, that with a number, and none where none is needed: what a reader of a page says, but for the page
+-- that the buffer has then
+pub record ReadsOnce {T : Type 0} (told : Bool) (before now : Device) (pool later : Pool) (lease : ℕ) (reads : Bool) (number : ℕ) (result : Result T PageFault) : Type 0 where
+  pub kept : KeepsPages before now
+  pub calls : now.calls ≡ next_if reads before.calls
+  pub at_most : now.calls ≤ before.calls + 1
+  pub deep_reads : now.deep_reads ≡ next_if (reads && nat_le 64 number) before.deep_reads
+  pub no_fault : OnOk result (now.faults ≡ before.faults)
+  pub fault : IfErr result (FaultTells before now (reads ≡ true))
+  pub buffer : ChangesPage pool later lease
+  pub ready : CanRead told now later lease
+  pub given : (since : ℕ) → since ≤ before.calls → WasGiven since before pool lease → WasGiven since now later lease
