@@ -1,6 +1,6 @@
 -- What was read through the buffer of lists, and of which runs a slot may be blamed: the directory and the level file of an index, and a
 -- reply, unless pages are told and its identifiers are in order.
-use Rattle.std.specs.Prelude.{◌≡◌, ℕ, ◌+◌, ◌<◌, ◌≤◌, Bool, true, List}
+use Rattle.std.specs.Prelude.{◌≡◌, ℕ, ◌<◌, true, List}
 use Rattle.ghost_model.specs.forms.Runs.{id_at}
 use Rattle.ghost_base.specs.Runs.{run_of}
 use Rattle.edge_traits.specs.Devices.{Device}

@@ -1,5 +1,5 @@
 -- Lists of the identifiers of a reply, one after another.
-use Rattle.std.specs.Prelude.{◌≡◌, ◌⊎◌, ℕ, ◌+◌, ◌-◌, ◌<◌, ◌≤◌, Bool, true, false, ◌&&◌, ◌||◌, nat_le, nat_lt, List, length, map, drop, get_or, Result, IfErr, IfSome, OnOk, if◌then◌else◌}
+use Rattle.std.specs.Prelude.{◌≡◌, ◌⊎◌, ℕ, ◌+◌, ◌-◌, ◌<◌, ◌≤◌, Bool, true, ◌&&◌, ◌||◌, nat_le, nat_lt, List, length, map, drop, get_or, Result, IfErr, IfSome, OnOk, if◌then◌else◌}
 use Rattle.std.specs.List.{concat}
 use Rattle.ghost_model.specs.forms.Runs.{page_of, id_at, number_in}
 use Rattle.ghost_base.specs.Runs.{run_of}
