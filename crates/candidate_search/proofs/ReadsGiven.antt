@@ -1,6 +1,5 @@
 -- What was read: buffers that others leave alone keep what reads gave, and a slot that a search blames is one that may be blamed.
-use Rattle.std.proofs.Common.{◌≡◌, ℕ, ◌<◌, ◌≤◌, inl, inr, Bool, List, ◌∷◌, sym, subst, arith}
-use Rattle.ghost_model.specs.forms.Runs as runs
+use Rattle.std.proofs.Common.{◌≡◌, ℕ, inl, inr, Bool, List, sym, subst, arith}
 use Rattle.ghost_base.specs.Runs.{run_of}
 use Rattle.edge_traits.specs.Devices.{Device}
 use Rattle.page_pool.specs.Laws.{SameBuffer}
