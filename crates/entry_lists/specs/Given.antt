@@ -21,7 +21,7 @@ pub record IndexMay (since : Since) (directory : Directory) (level : ℕ) : Type
   pub entries : since.may (run_of directory.run) ≡ true
   pub lists : since.may (run_of (level_run directory level)) ≡ true
 
--- lists of entries: the buffer has what a read gave
+-- lists of entries, whatever the rows: the buffer has what a read gave
 pub record EntriesGiven (since : Since) (device : Device) (pool : Pool) (rows : ℕ) (lists : EntryLists) : Type 0 where
   pub buffer : WasGiven since.calls device pool lists.lease
   pub index : IndexMay since lists.directory lists.level
@@ -35,7 +35,8 @@ pub record AreInOrder (page : ℕ → List ℕ) (lists : ReplyLists) : Type 0 wh
   pub rows : RowsAscend page lists.reply
   pub follows : looked_at lists < lists.reply.run.count → lists.last < id_at page (run_of lists.reply.run) (looked_at lists)
 
--- lists of a reply's identifiers
+-- lists of a reply's identifiers, whatever the rows that they are of: the buffer has what a read gave, and a slot of the reply may be blamed, or
+-- its rows are in order
 pub record RepliesGiven (since : Since) (device : Device) (pool : Pool) (rows : ℕ) (lists : ReplyLists) : Type 0 where
   pub buffer : WasGiven since.calls device pool lists.lease
   pub reply : MayBlame since (run_of lists.reply.run) (AreInOrder device.page lists)
