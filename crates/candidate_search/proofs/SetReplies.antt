@@ -19,10 +19,13 @@ use Rattle.edge_traits.specs.Devices.{Device}
 use Rattle.flash_pages.specs.Runs.{HasRun}
 use Rattle.id_merge.specs.declared.merge.Merge.{Merge}
 use Rattle.id_merge.specs.Merges.{Remains}
-use Rattle.spill_pass.specs.Lists.{IsReadable as IsListReadable}
+use Rattle.id_merge.specs.Since.{MayBlame, Since}
+use Rattle.spill_pass.specs.Known.{KnowsList}
+use Rattle.spill_pass.specs.Lists.{IsOrdered, IsReadable as IsListReadable}
 use Rattle.spill_pass.specs.Reducing.{whole_list}
 use Rattle.visible_spool.specs.declared.reply.Reply.{Reply}
 use Rattle.visible_spool.specs.Replies.{IsReadable, IsSound, id_of, id_of_bytes, is_narrow, kinds_of}
+use Rattle.entry_lists.specs.Given.{RowsAscend}
 use Rattle.candidate_lists.specs.declared.closing.Closed.{Closed}
 use Rattle.candidate_lists.specs.Closes.{ListsAll}
 use Rattle.candidate_rows.specs.Working.{IsRowOf}
@@ -58,6 +61,14 @@ readable device set reply is of can = record {
   has = subst (HasRun device) (sym (run_is is)) can.run;
   sound = sound set reply is of;
 }
+
+pub known :
+    (since : Since) (page : ℕ → List ℕ) (set : Closed) (reply : Reply) → IsReplyOf set reply → KnowsList since page set.rows (whole_list set.run)
+    → MayBlame since (run_of reply.run) (RowsAscend page reply)
+known since page set reply is known_is =
+    let R : Run → Type 0 = λ run. MayBlame since (run_of run) (IsOrdered page page reply.rows (whole_list run)) in
+    let N : ℕ → Type 0 = λ rows. MayBlame since (run_of set.run) (IsOrdered page page rows (whole_list set.run)) in
+    subst R (sym is.run_is) (subst N (sym is.rows_are) known_is)
 
 -- the identifier in four bytes
 first_number : (n : ℕ) → n < 2 ^ 32 → number_in (number_cell n) 0 ≡ n

@@ -11,6 +11,8 @@ use Rattle.ghost_base.specs.Runs.{run_of}
 use Rattle.edge_traits.specs.Devices.{Device}
 use Rattle.id_merge.specs.declared.merge.Merge.{Merge}
 use Rattle.id_merge.specs.Merges.{Remains}
+use Rattle.id_merge.specs.Since.{MayBlame, Since}
+use Rattle.spill_pass.specs.Known.{KnowsList}
 use Rattle.spill_pass.specs.Lists.{IsReadable as IsListReadable}
 use Rattle.spill_pass.specs.Reducing.{whole_list}
 use Rattle.climbing_index.specs.declared.index.IdIndex.{IdIndex}
@@ -20,6 +22,7 @@ use Rattle.visible_spool.specs.declared.reply.Reply.{Reply}
 use Rattle.visible_spool.specs.Replies.{HoldsRows, IsReadable, IsSound, id_of_bytes}
 use Rattle.entry_lists.specs.declared.replies.ReplyLists.{ReplyLists}
 use Rattle.entry_lists.specs.Entries.{is_in, level_run}
+use Rattle.entry_lists.specs.Given.{RowsAscend}
 use Rattle.candidate_lists.specs.declared.closing.Closed.{Closed}
 use Rattle.candidate_lists.specs.Closes.{ListsAll}
 use Rattle.candidate_lists.specs.Held.{over}
@@ -81,6 +84,10 @@ pub record SetsAreReplies : Type 0 where
   pub rows :
       (page first : ℕ → List ℕ) (low : ℕ) (merge : Merge) (set : Closed) (reply : Reply) → IsReplyOf set reply → IsSet set
       → ListsAll page first low merge set → HoldsSet page reply (Remains first merge)
+  -- where the list is known to be in order, or a slot of its run may be blamed, so are the rows
+  pub known :
+      (since : Since) (page : ℕ → List ℕ) (set : Closed) (reply : Reply) → IsReplyOf set reply → KnowsList since page set.rows (whole_list set.run)
+      → MayBlame since (run_of reply.run) (RowsAscend page reply)
   -- identifiers of a table's rows are those of a reply
   pub replied :
       (cat : Catalog) (table : ℕ) (identifiers : List ℕ) → ((identifier : ℕ) → Contains identifiers identifier → IsRowOf cat table identifier)

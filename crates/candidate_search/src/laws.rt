@@ -1,7 +1,7 @@
 //! Laws of the lists of terms.
 
 ghost use Rattle.candidate_search.specs.Gathered.{CandidatesAreGathered};
-ghost use Rattle.candidate_search.specs.Given.{ListsBlame, SearchesBlame};
+ghost use Rattle.candidate_search.specs.Given.{SearchesBlame};
 ghost use Rattle.candidate_search.specs.Laws.{ListsHaveTheirRows, RepliesAreLists, DamageOfListsIsOfSlots};
 ghost use Rattle.candidate_search.specs.Sets.{RightsOfSets, SetsAreReplies};
 
@@ -55,12 +55,7 @@ pub fn candidates_are_gathered()
     condition_lists::laws::lists_are_of_terms();
 }
 
-/// What a search blames stood in a page of the index which a read gave.
+/// What a search blames stood in a slot of the index, as a read gave it.
 pub fn searches_blame()
     ensures { SearchesBlame }
-{}
-
-/// What lists blame stood in a page which a read gave, outside of regions outside of which they lie.
-pub fn lists_blame()
-    ensures { ListsBlame }
 {}

@@ -12,4 +12,5 @@ pub mod TwoReads
 pub mod ReplyGiving
 pub mod ReplyFrames
 pub mod RepliedLists
+pub mod Kept
 pub mod Blamed

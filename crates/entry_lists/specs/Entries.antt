@@ -13,7 +13,7 @@ use Rattle.flash_pages.specs.Reads.{CanRead, must_read}
 use Rattle.climbing_index.specs.declared.directory.Directory.{Directory}
 use Rattle.climbing_index.specs.declared.directory.LevelFile.{LevelFile}
 use Rattle.climbing_index.specs.declared.search.Group.{Group}
-use Rattle.climbing_index.specs.Directories.{BlamesSlot, FailsAt, GivesListed, GivesPlace, HasDamage, IsReadable, entry_bytes, entry_page, entry_stands, place_bytes}
+use Rattle.climbing_index.specs.Directories.{FailsAt, GivesListed, GivesPlace, HasDamage, IsReadable, entry_bytes, entry_page, entry_stands, place_bytes}
 use Rattle.spill_pass.specs.Lists.{IsOrdered, OutOfRowsIn, id_of}
 use Rattle.spill_pass.specs.Sources.{Source}
 use Rattle.entry_lists.specs.declared.entries.EntryLists.{EntryLists}
@@ -102,14 +102,6 @@ GivesEntry page directory level left entry (Err fault) = FailsAt page (run_of di
 pub record IsListIn (directory : Directory) (level : ℕ) (list : ListRef) : Type 0 where
   pub run_is : list.run ≡ level_run directory level
   pub inside : list.first + list.count ≤ list.run.count
-
--- a slot that is blamed: that of the next entry, on a page of the directory; what a read from that count of calls on gave there may
--- not come
-pub record BlamesEntry (since : ℕ) (device : Device) (lists : EntryLists) (number slot found : ℕ) : Type 0 where
-  pub entry : ℕ
-  pub next : next_entry lists ≡ Some entry
-  pub blames : BlamesSlot since device (run_of lists.directory.run) (may_come lists.directory lists.level lists.left) entry number slot found
-  pub used : is_in (run_of lists.directory.run) number ≡ true
 
 -- a slot that is damaged: that of an entry still to come, with bytes that may not stand there, whatever stands in others
 pub record DamagesEntry (page : ℕ → List ℕ) (lists : EntryLists) (number slot found : ℕ) : Type 0 where

@@ -1,4 +1,5 @@
 pub mod Entries
+pub mod Given
 pub mod Laws
 pub mod Replied
 pub mod ReplyLaws

@@ -1,20 +1,21 @@
 -- Lists of the identifiers of a reply, one after another.
-use Rattle.std.specs.Prelude.{◌≡◌, ◌⊎◌, ℕ, ◌+◌, ◌-◌, ◌<◌, ◌≤◌, Bool, true, false, ◌&&◌, ◌||◌, nat_le, nat_lt, List, length, map, drop, get_or, IfSome, if◌then◌else◌}
+use Rattle.std.specs.Prelude.{◌≡◌, ◌⊎◌, ℕ, ◌+◌, ◌-◌, ◌<◌, ◌≤◌, Bool, true, ◌&&◌, ◌||◌, nat_le, nat_lt, List, length, map, drop, get_or, Result, IfErr, IfSome, OnOk, if◌then◌else◌}
 use Rattle.std.specs.List.{concat}
 use Rattle.ghost_model.specs.forms.Runs.{page_of, id_at, number_in}
 use Rattle.ghost_base.specs.Runs.{run_of}
-use Rattle.edge_traits.specs.Devices.{Device}
-use Rattle.page_pool.specs.Pools.{Pool, page_at}
+use Rattle.edge_traits.specs.Devices.{Device, KeepsPages, next_if}
+use Rattle.page_pool.specs.Pools.{Pool, ChangesPage, page_at}
 use Rattle.flash_pages.specs.Cursors.{IsPageOf}
-use Rattle.flash_pages.specs.Reads.{CanRead, must_read}
+use Rattle.flash_pages.specs.declared.fault.PageFault.{PageFault}
+use Rattle.flash_pages.specs.Reads.{CanRead, FaultTells, WasGiven, must_read}
 use Rattle.climbing_index.specs.Directories as directories
-use Rattle.climbing_index.specs.Directories.{BlamesSlot, HasDamage, entry_page, entry_stands}
+use Rattle.climbing_index.specs.Directories.{HasDamage, entry_page, entry_stands}
 use Rattle.visible_spool.specs.Replies as replies
 use Rattle.visible_spool.specs.Replies.{HoldsRows, id_of, id_of_bytes}
 use Rattle.spill_pass.specs.Lists.{OutOfRowsIn}
 use Rattle.spill_pass.specs.Sources.{Source}
 use Rattle.entry_lists.specs.declared.replies.ReplyLists.{ReplyLists}
-use Rattle.entry_lists.specs.Entries.{HaveEntries, is_in, level_run, may_come}
+use Rattle.entry_lists.specs.Entries.{HaveEntries, is_in, level_run}
 
 -- an identifier is at hand, and the entry of the next one
 abbrev pub has_hand : ReplyLists → Bool
@@ -72,22 +73,6 @@ pub record CanGive (told : Bool) (device : Device) (pool : Pool) (lists : ReplyL
 abbrev pub may_follow : (last rows : ℕ) → List ℕ → Bool
 may_follow last rows bytes = nat_lt last (number_in bytes 0) && nat_le (number_in bytes 0) rows
 
--- A slot that is blamed: that of the row that is looked at next, on a page of the reply, or that of the entry of an identifier at
--- hand, on a page of the directory; what a read from that count of calls on gave there may not come.
-pub record BlamesReplied (since : ℕ) (device : Device) (lists : ReplyLists) (number slot found : ℕ) : Type 0 where
-  pub hand : has_hand lists ≡ true
-  pub blames : BlamesSlot since device (run_of lists.directory.run) (may_come lists.directory lists.level lists.left) (entry_at_hand lists) number slot found
-  pub used : is_in (run_of lists.directory.run) number ≡ true
-
-pub record BlamesRow (since : ℕ) (device : Device) (lists : ReplyLists) (number slot found : ℕ) : Type 0 where
-  pub none : has_hand lists ≡ false
-  pub within : lists.given < lists.reply.run.count
-  pub blames : BlamesSlot since device (run_of lists.reply.run) (may_follow lists.last lists.reply.rows) lists.given number slot found
-  pub used : is_in (run_of lists.reply.run) number ≡ true
-
-abbrev pub Blames : (since : ℕ) → Device → ReplyLists → (number slot found : ℕ) → Type 0
-Blames since device lists number slot found = BlamesReplied since device lists number slot found ⊎ BlamesRow since device lists number slot found
-
 -- A slot that is damaged: that of the entry of an identifier that the pages have in a row, with bytes that may not stand there,
 -- whatever stands in others.
 pub record DamagesReplied (page : ℕ → List ℕ) (lists : ReplyLists) (number slot found : ℕ) : Type 0 where
@@ -137,3 +122,16 @@ pub record TakesIds (old new : ReplyLists) : Type 0 where
   pub level : new.level ≡ old.level
   pub left : new.left ≡ old.left
   pub lease : new.lease ≡ old.lease
+
+-- one page is read at most under a lease, that with a number, and none where none is needed: what a reader of a page says, but for the page
+-- that the buffer has then
+pub record ReadsOnce {T : Type 0} (told : Bool) (before now : Device) (pool later : Pool) (lease : ℕ) (reads : Bool) (number : ℕ) (result : Result T PageFault) : Type 0 where
+  pub kept : KeepsPages before now
+  pub calls : now.calls ≡ next_if reads before.calls
+  pub at_most : now.calls ≤ before.calls + 1
+  pub deep_reads : now.deep_reads ≡ next_if (reads && nat_le 64 number) before.deep_reads
+  pub no_fault : OnOk result (now.faults ≡ before.faults)
+  pub fault : IfErr result (FaultTells before now (reads ≡ true))
+  pub buffer : ChangesPage pool later lease
+  pub ready : CanRead told now later lease
+  pub given : (since : ℕ) → since ≤ before.calls → WasGiven since before pool lease → WasGiven since now later lease

@@ -1,7 +1,7 @@
 use Rattle.std.proofs.Common.{[], ◌∷◌, sym, map}
 use Rattle.visible_spool.specs.Replies.{id_of_bytes}
 use Rattle.candidate_search.specs.Sets.{reply_with}
-use Rattle.candidate_search.proofs.SetReplies.{identifiers, met_among, readable, replied, rows, sound}
+use Rattle.candidate_search.proofs.SetReplies.{identifiers, known, met_among, readable, replied, rows, sound}
 use Rattle.candidate_search.proofs.laws.sets_are_replies.Goals as goal
 
 pub returns : goal.returns
@@ -9,6 +9,7 @@ returns c = record {
   sound = sound;
   readable = readable;
   rows = rows;
+  known = known;
   replied = replied;
   identifiers = identifiers;
   met = met_among;
