@@ -1,7 +1,6 @@
 pub mod Scratches
 pub mod Regions
 pub mod ReadPages
-pub mod ReadLists
 pub mod GivenOn
 pub mod Buffers
 pub mod TermKinds

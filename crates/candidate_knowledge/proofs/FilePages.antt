@@ -42,7 +42,7 @@ module _ (cat : Catalog) (tree : IsTree cat.schema) (narrow : AreNarrow cat) (la
       let end = laid.files_end in
       omega (arith, pages, first, next, later, end)
 
-  is_static : (file : File) → has_file cat.schema file ≡ true → IsStatic cat file
+  pub is_static : (file : File) → has_file cat.schema file ≡ true → IsStatic cat file
   is_static (layout.Cells table column) has = record {
     some = narrow.least table column has;
     fits = omega (arith, narrow.most table column);

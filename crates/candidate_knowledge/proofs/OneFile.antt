@@ -314,7 +314,9 @@ module _ (cat : Catalog) where
         let ends = ap run_end is in
         let more = sum_by_more (sums.level_pages cat) levels level 0 low in
         let within = sum_by-take-le (sums.level_pages cat) levels (level + 1) in
-        in_index table column (suc (suc level)) both.0 (omega (arith, first, from), omega (arith, ends, to, more)) (omega (arith, ends, to, more, within))
+        let up : suc (suc level) + 1 ≡ suc (suc (level + 1)) = omega arith in
+        let behind = ap (index_parts table column) up in
+        in_index table column (suc (suc level)) both.0 (omega (arith, first, from), omega (arith, behind, ends, to, more)) (omega (arith, ends, to, more, within))
     lies_at (IdDirectory table) has from to =
         let above = not_empty (is_empty (above_of cat.schema table)) has in
         let first = laid.id_directory table (low_is_table cat.schema tree table above) in
@@ -328,7 +330,9 @@ module _ (cat : Catalog) where
         let ends = ap run_end is in
         let more = sum_by_more (sums.level_pages cat) levels level 0 low in
         let within = sum_by-take-le (sums.level_pages cat) levels (level + 1) in
-        in_ids table (suc level) above (omega (arith, first, from), omega (arith, ends, to, more)) (omega (arith, ends, to, more, within))
+        let up : suc level + 1 ≡ suc (level + 1) = omega arith in
+        let behind = ap (id_parts table) up in
+        in_ids table (suc level) above (omega (arith, first, from), omega (arith, behind, ends, to, more)) (omega (arith, ends, to, more, within))
 
     pub one_file : (file other : File) → has_file cat.schema file ≡ true → has_file cat.schema other ≡ true
         → (run_of_file cat file).first ≤ number → number < run_end (run_of_file cat file)

@@ -83,7 +83,6 @@ pub fn bad_slots_are_read()
 pub fn runs_may_be_blamed()
     ensures { RunsMay }
 {
-    ghost_model::layout::files_lie_as_summed();
     ghost_model::layout::files_lie_in_order();
     ghost_model::layout::levels_are_ancestors();
 }
