@@ -16,7 +16,7 @@ use Rattle.visible_spool.specs.Areas.{half_begin, half_end}
 use Rattle.candidate_knowledge.specs.Found.{InFile, InReplies, InScratch, WasFoundAt, WasFoundBetween, WasFoundByForms}
 use Rattle.candidate_knowledge.specs.Laws.{BadSlotsAreRead, BlamedAreFound}
 use Rattle.candidate_knowledge.specs.May.{files_in, is_run_read, is_same_run, lies_in, may_blame, since_for}
-use Rattle.candidate_knowledge.specs.Reading.{IsReadByForms, is_read_by}
+use Rattle.candidate_knowledge.specs.Reading.{IsBadSlotBy, IsReadByForms, is_read_by}
 use Rattle.candidate_knowledge.proofs.FilePages.{is_static}
 use Rattle.candidate_knowledge.proofs.Listed.{run_is, some_of}
 use Rattle.candidate_knowledge.proofs.OneFile.{one_file}

@@ -148,18 +148,22 @@ module _ (cat : Catalog) where
       first (suc (suc zero)) = omega arith
       first (suc (suc (suc zero))) = omega arith
       first (suc (suc (suc (suc more)))) = omega arith
+
       second : (b : ℕ) → kinds table 1 ≤ kinds table (suc b)
       second zero = omega arith
       second (suc zero) = omega arith
       second (suc (suc zero)) = omega arith
       second (suc (suc (suc more))) = omega arith
+
       third : (b : ℕ) → kinds table 2 ≤ kinds table (suc (suc b))
       third zero = omega arith
       third (suc zero) = omega arith
       third (suc (suc more)) = omega arith
+
       fourth : (b : ℕ) → kinds table 3 ≤ kinds table (suc (suc (suc b)))
       fourth zero = omega arith
       fourth (suc more) = omega arith
+
       by : (a b : ℕ) → a ≤ b → kinds table a ≤ kinds table b
       by zero b low = first b
       by (suc zero) zero low = absurd (omega (arith, low))
@@ -223,13 +227,13 @@ module _ (cat : Catalog) where
       let Ct : ℕ → Type 0 = λ t. C t (kind_in other) in
       let Ck : ℕ → Type 0 = λ k. C (table_in file) k in
       let held = one_place (columns number (table_in file) (kind_in file)) (columns_rise number (table_in file) (kind_in file)) number (column_in file) (column_in other) here.at_column
-          (subst Ck (sym sorts) (subst Ct (sym tables) there.at_column)) in
+      (subst Ck (sym sorts) (subst Ct (sym tables) there.at_column)) in
       let P : ℕ → ℕ → ℕ → Type 0 = λ t k c. IsAt (parts number t k c) (part_in other) number in
       let Pt : ℕ → Type 0 = λ t. P t (kind_in other) (column_in other) in
       let Pk : ℕ → Type 0 = λ k. P (table_in file) k (column_in other) in
       let Pc : ℕ → Type 0 = λ c. P (table_in file) (kind_in file) c in
       let piece = one_place (parts number (table_in file) (kind_in file) (column_in file)) (parts_rise number (table_in file) (kind_in file) (column_in file)) number (part_in file) (part_in other)
-          here.at_part (subst Pc (sym held) (subst Pk (sym sorts) (subst Pt (sym tables) there.at_part))) in
+      here.at_part (subst Pc (sym held) (subst Pk (sym sorts) (subst Pt (sym tables) there.at_part))) in
       sym (file_is file)
       ∙ (λ i. file_at (sorts i) (tables i) (held i) (piece i))
       ∙ file_is other

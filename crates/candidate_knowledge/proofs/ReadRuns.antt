@@ -107,6 +107,7 @@ rows_ascend page reply held rows holds same = record {
   where
     within : (i : ℕ) → i < reply.run.count → i < length held
     within i low = let count = holds.has.count in omega (arith, count, low)
+
     id_is : (i : ℕ) → (low : i < reply.run.count) → id_at page (run_of reply.run) (0 + i) ≡ number_in (get_or held i []) 0
     id_is i low = let here : 0 + i ≡ i = omega arith in ap (id_at page (run_of reply.run)) here ∙ ap (λ bytes. number_in bytes 0) (holds.has.each i low)
 
@@ -178,19 +179,20 @@ module _ (orders : FilesLieInOrder) (levels : LevelsAreAncestors) (told : Bool) 
   entries_may at table column index level is compared lists =
       let low = slice_get_within (levels_of cat.schema table) level at is.level_is in
       let directory = may_file (IndexDirectory table column) (run_of index.directory.run) is.index_is.run_is is.hidden compared in
-      let level_read = ap (λ found. option_map_or (has_lists cat.schema asked forced top) found false) is.level_is ∙ lists in
-      (record {
-        header = may_file (IndexHeader table column) (run_of index.header) is.index_is.header_is is.hidden compared;
-        entries = directory;
-      },
-      record {
-        entries = directory;
-        lists =
-            may_file (IndexLevel table column level) (run_of (level_run index.directory level))
-            (file_at (index_level cat table column) (length (levels_of cat.schema table)) index.directory is.index_is.levels_are level low)
-            (both (is_hidden cat.schema table column) (nat_lt level (length (levels_of cat.schema table))) is.hidden (lt-ltb level (length (levels_of cat.schema table)) low))
-            (both (compares asked table column) (option_map_or (has_lists cat.schema asked forced top) (slice_get (levels_of cat.schema table) level) false) compared level_read);
-      })
+      let level_read = ap (λ found. option_map_or (has_lists cat.schema asked forced top) found false) is.level_is ∙ lists in (
+        record {
+          header = may_file (IndexHeader table column) (run_of index.header) is.index_is.header_is is.hidden compared;
+          entries = directory;
+        },
+        record {
+          entries = directory;
+          lists =
+              may_file (IndexLevel table column level) (run_of (level_run index.directory level))
+              (file_at (index_level cat table column) (length (levels_of cat.schema table)) index.directory is.index_is.levels_are level low)
+              (both (is_hidden cat.schema table column) (nat_lt level (length (levels_of cat.schema table))) is.hidden (lt-ltb level (length (levels_of cat.schema table)) low))
+              (both (compares asked table column) (option_map_or (has_lists cat.schema asked forced top) (slice_get (levels_of cat.schema table) level) false) compared level_read);
+        },
+      )
 
   -- the index of a table's identifiers, at another table
   ids_at_table : (at table : ℕ) (index : IdIndex) (level : ℕ) → IsIdIndexAt cat at table index level → is_below cat.schema top table ≡ true → seeks_by cat.schema asked forced table ≡ true
@@ -321,12 +323,13 @@ module _ (orders : FilesLieInOrder) (levels : LevelsAreAncestors) (told : Bool) 
       let T : ℕ → Type 0 = λ t. ReplyMay S half device.page index.directory.run.count t in
       let reply = subst T (sym is.0) (subst R (sym rows) (own_reply_may table is.1.there)) in
       let sought = behind (compares asked table 0) (is_compared cat.schema asked table && may_unite forced)
-          (both (is_compared cat.schema asked table) (may_unite forced) compared (united (nat_eq table top) refl parts.1)) in
+      (both (is_compared cat.schema asked table) (may_unite forced) compared (united (nat_eq table top) refl parts.1)) in
       (reply, ids_may orders levels told calls cat asked forced top side tree table index level is.1 sought)
     where
       by_form : (found : Option Form) → get_or forms table None ≡ found → option_map_or unites_whole found false ≡ true → may_unite forced ≡ true
       by_form None e u = absurd (cc u)
       by_form (Some form) e u = (taken table form e).unites (and_parts (unites form) (not (crosses form)) u).0
+
       united : (own : Bool) → nat_eq table top ≡ own → (own || option_map_or unites_whole (get_or forms table None) false) ≡ true → may_unite forced ≡ true
       united true e u = let I : ℕ → Type 0 = λ t. IsIdIndexAt cat top t index level in absurd (no_return top level index (subst I (eqb-true table top e) is.1))
       united false e u = by_form (get_or forms table None) refl u
@@ -343,7 +346,7 @@ module _ (orders : FilesLieInOrder) (levels : LevelsAreAncestors) (told : Bool) 
       elim (found cat table (filter (is_listed cat.schema table) asked.conditions) (table ∷ []) terms are place term at) [
         | inl one ↦ condition_may table (inr set) one.condition term (from_filter (is_listed cat.schema table) one.condition asked.conditions one.among).0 one.is
         | inr other ↦ (
-            let own : table ≡ other.table = elim other.among [ | inl e ↦ e | inr none ↦ absurd none ] in
+            let own : table ≡ other.table = elim other.among [ inl e ↦ e | inr none ↦ absurd none ] in
             let I : ℕ → Type 0 = λ t. IsReplyTermOf cat table t term in
             own_may_at term (subst I (sym own) other.is))
       ]
@@ -352,6 +355,7 @@ module _ (orders : FilesLieInOrder) (levels : LevelsAreAncestors) (told : Bool) 
       there =
           let below = (and_parts (is_below cat.schema top table) (is_compared cat.schema asked table && crosses_at cat.schema asked forced table) set).0 in
           low_is_table cat.schema tree table (any_some (λ above. above == top) (above_of cat.schema table) below)
+
       own_may_at : (term : Term) → IsReplyTermOf cat table table term → TermMay S half device.page table (count_of cat table) term
       own_may_at (Ranges first second) is = absurd is
       own_may_at (Entries other column index level bounds) is = absurd is
@@ -377,6 +381,7 @@ with_form (Some one) false replied rows form e = (λ u. unites_still one (ap uni
     unites_still Post u = u
     unites_still CrossPre u = u
     unites_still CrossPost u = u
+
     never : (one : Form) → crosses (plain one) ≡ true → ⊥
     never Pre c = cc c
     never Post c = cc c
