@@ -1,6 +1,6 @@
 -- What is blamed of runs that may be was found in a file that is read, or, where pages are not told, in a reply or in scratch; and the
 -- file is the one in which the slot is damaged.
-use Rattle.std.proofs.Common.{◌≡◌, ◌∙◌, ap, refl, sym, subst, ℕ, ◌+◌, ◌-◌, ◌/◌, ◌<◌, ◌≤◌, inl, inr, Bool, true, false, not, ◌&&◌, ◌||◌, nat_eq, nat_le, nat_lt, List, length, Option, arith}
+use Rattle.std.proofs.Common.{◌≡◌, refl, sym, subst, ℕ, ◌-◌, ◌/◌, ◌<◌, ◌≤◌, inl, inr, Bool, true, false, not, ◌&&◌, ◌||◌, nat_eq, nat_le, nat_lt, Option, arith}
 use Rattle.std.specs.List.{list_any}
 use Rattle.std.proofs.lemmas.Bool.{and_parts, or_cases, leb-true, ltb-true, eqb-true}
 use Rattle.ghost_model.specs.core.Channel.{Catalog}
@@ -15,7 +15,7 @@ use Rattle.leakless_plan.specs.declared.form.Form.{Form}
 use Rattle.visible_spool.specs.Areas.{half_begin, half_end}
 use Rattle.candidate_knowledge.specs.Found.{InFile, InReplies, InScratch, WasFoundAt, WasFoundBetween, WasFoundByForms}
 use Rattle.candidate_knowledge.specs.Laws.{BadSlotsAreRead, BlamedAreFound}
-use Rattle.candidate_knowledge.specs.May.{files_in, is_run_read, is_same_run, lies_in, may_blame, since_for}
+use Rattle.candidate_knowledge.specs.May.{files_in, is_run_read, is_same_run, lies_in, since_for}
 use Rattle.candidate_knowledge.specs.Reading.{IsBadSlotBy, IsReadByForms, is_read_by}
 use Rattle.candidate_knowledge.proofs.FilePages.{is_static}
 use Rattle.candidate_knowledge.proofs.Listed.{run_is, some_of}

@@ -1,16 +1,16 @@
 -- A slot may be blamed of each run that is read for the terms of a query by its plan, and for those of a set.
-use Rattle.std.proofs.Common.{◌≡◌, ◌∙◌, ap, ap₂, refl, sym, subst, ℕ, zero, suc, ◌+◌, ◌-◌, ◌<◌, ◌≤◌, inl, inr, Bool, true, false, not, ◌&&◌, ◌||◌, nat_eq, nat_le, nat_lt, List, [], ◌∷◌, length, drop, map, filter, get_or, slice_get, Option, None, Some, is_some, arith}
+use Rattle.std.proofs.Common.{◌≡◌, ◌∙◌, ap, refl, sym, subst, ℕ, zero, suc, ◌+◌, ◌-◌, ◌<◌, ◌≤◌, inl, inr, Bool, true, false, not, ◌&&◌, ◌||◌, nat_eq, nat_le, nat_lt, List, [], ◌∷◌, length, drop, map, filter, get_or, slice_get, Option, None, Some, is_some, arith}
 use Rattle.std.specs.Prelude.{◌==◌, ◌*◌, ◌⊎◌, if◌then◌else◌, position}
 use Rattle.std.specs.List.{list_any, range_with_len}
 use Rattle.std.specs.Option.{option_map_or}
 use Rattle.std.proofs.lemmas.Bool.{and_parts, eqb-true, eq-eqb, le-leb, lt-ltb, ltb-true, ltb-false}
 use Rattle.std.proofs.lemmas.Option.{slice_get_within}
-use Rattle.ghost_model.specs.core.Schema.{Schema, ancestor, is_empty}
+use Rattle.ghost_model.specs.core.Schema.{Schema, is_empty}
 use Rattle.ghost_model.specs.core.Channel.{Catalog}
 use Rattle.ghost_model.specs.core.Query.{Condition, Field, Operator, Query, Compare, Join}
 use Rattle.ghost_model.specs.core.Values.{Value}
 use Rattle.ghost_model.specs.forms.Layout.{above_of, count_of, is_below, is_hidden, levels_of, need, spool_end, File, IndexHeader, IndexDirectory, IndexLevel, IdDirectory, IdLevel, run_of_file}
-use Rattle.ghost_model.specs.forms.Runs.{Run, id_at, number_in, page_of, record_at}
+use Rattle.ghost_model.specs.forms.Runs.{Run, id_at, number_in, page_of}
 use Rattle.ghost_model.specs.forms.Slots.{has_file}
 use Rattle.ghost_model.specs.laws.LayoutLaws.{FilesLieInOrder, LevelsAreAncestors}
 use Rattle.ghost_model.specs.laws.SchemaTrees.{IsTree}
@@ -21,7 +21,7 @@ use Rattle.edge_traits.specs.Devices.{Device}
 use Rattle.id_merge.specs.Since.{Since, MayBlame, Blamed, InOrder}
 use Rattle.leakless_plan.specs.declared.form.Form.{Form}
 use Rattle.leakless_plan.specs.declared.form.Form.TheVariants.{Pre, Post, CrossPre, CrossPost}
-use Rattle.leakless_plan.specs.Choices.{crosses, form_by_rows, form_of, form_with, forms_of, is_crossed, is_linked, may_cross, plain, unites}
+use Rattle.leakless_plan.specs.Choices.{crosses, form_of, form_with, forms_of, is_crossed, is_linked, may_cross, plain, unites}
 use Rattle.flash_pages.proofs.RunFrames.{record_kept}
 use Rattle.climbing_index.specs.declared.index.ClimbingIndex.{ClimbingIndex}
 use Rattle.climbing_index.specs.declared.index.IdIndex.{IdIndex}
@@ -38,7 +38,7 @@ use Rattle.entry_lists.specs.Given.{IndexMay}
 use Rattle.entry_lists.proofs.ValueLists.{file_at}
 use Rattle.condition_lists.specs.declared.term.Term.{Term}
 use Rattle.condition_lists.specs.declared.term.Term.TheVariants.{Ranges, Entries, Identifiers, TopReply, Reply}
-use Rattle.condition_lists.specs.Terms.{AreIdentifiersOf, AreTableTerms, AreTermsBy, IsIndexAt, IsIdIndexAt, IsReplyTermOf, IsTermOf, has_level, is_compared, is_listed, is_replied, is_united, unites_whole}
+use Rattle.condition_lists.specs.Terms.{AreTableTerms, AreTermsBy, IsIndexAt, IsIdIndexAt, IsReplyTermOf, IsTermOf, has_level, is_compared, is_listed, is_replied, is_united, unites_whole}
 use Rattle.condition_lists.proofs.PathLemmas.{joined}
 use Rattle.condition_lists.proofs.PlaceLemmas.{found}
 use Rattle.candidate_search.specs.Begun.{rows_list}
