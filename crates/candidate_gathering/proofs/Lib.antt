@@ -1,8 +1,9 @@
 pub mod Scratches
+pub mod AreasMay
 pub mod Regions
 pub mod ReadPages
-pub mod ReadLists
 pub mod GivenOn
+pub mod TermsOn
 pub mod Buffers
 pub mod TermKinds
 pub mod TermSources

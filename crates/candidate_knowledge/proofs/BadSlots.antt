@@ -9,7 +9,7 @@ use Rattle.ghost_model.specs.forms.Layout.{File}
 use Rattle.climbing_index.specs.Laws.{IsOf}
 use Rattle.hidden_columns.specs.Laws.{FilesAreOfColumns}
 use Rattle.subtree_keys.specs.Laws.{TablesAreOfSlots}
-use Rattle.candidate_knowledge.specs.Known.{IsBadSlotIn, IsBadSlotOf, IsListFile, IsReadByForms, IsReadByIndexes}
+use Rattle.candidate_knowledge.specs.Known.{IsBadSlotIn, IsBadSlotOf, IsListFile, IsReadCrossing, IsReadByIndexes}
 use Rattle.candidate_knowledge.specs.Laws.{DamageIsBad, HeldFilesHaveNoDamage, RepliesHaveNoDamage}
 use Rattle.candidate_knowledge.proofs.BlamedFiles.{IsDamagedFor, cell_is, column_level_is, entries_is, id_level_is, identifiers_is, record_is, replies_is, search_is}
 
@@ -37,7 +37,7 @@ module _ (none : HeldFilesHaveNoDamage) (summed : FilesLieAsSummed) (cells : Fil
   pub are_bad : DamageIsBad
   are_bad = record {
     slots = λ page cat asked crosses top database of file place is number slot found damaged.
-        slot_is_bad page cat database of (IsReadByForms cat asked crosses top) number slot found (record { file = file; place = place; read_for = is; damaged = damaged });
+        slot_is_bad page cat database of (IsReadCrossing cat asked crosses top) number slot found (record { file = file; place = place; read_for = is; damaged = damaged });
     search = λ page cat asked top database of table column index level at compared number slot found fails.
         slot_is_bad page cat database of (IsListFile cat asked top) number slot found (search_is summed page cat asked top table column index level at compared number slot found fails);
     entries = λ page cat asked top database of table column index level at compared first second a b c d lists are number slot found damaged.

@@ -7,7 +7,6 @@ use Rattle.ghost_model.specs.forms.Runs.{Run, page_of, run_end, run_pages}
 use Rattle.ghost_model.specs.forms.Layout.{static_end, files_end, is_hidden, levels_of, above_of, descendants_of, File, run_of_file}
 use Rattle.ghost_model.specs.laws.ShortWords.{subtree_table}
 use Rattle.ghost_model.specs.forms.Layout as layout
-use Rattle.ghost_model.specs.forms.Slots as slots
 use Rattle.ghost_model.specs.forms.Slots.{has_file, in_slot, slots_in}
 use Rattle.ghost_model.specs.laws.SchemaTrees.{IsTree}
 use Rattle.ghost_model.specs.laws.LayoutLaws.{AreNarrow, LieAsSummed, LieInOrder, RecordsStandWithin}
@@ -42,7 +41,7 @@ module _ (cat : Catalog) (tree : IsTree cat.schema) (narrow : AreNarrow cat) (la
       let end = laid.files_end in
       omega (arith, pages, first, next, later, end)
 
-  is_static : (file : File) → has_file cat.schema file ≡ true → IsStatic cat file
+  pub is_static : (file : File) → has_file cat.schema file ≡ true → IsStatic cat file
   is_static (layout.Cells table column) has = record {
     some = narrow.least table column has;
     fits = omega (arith, narrow.most table column);

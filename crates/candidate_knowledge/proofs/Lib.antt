@@ -7,6 +7,9 @@ pub mod Staying
 pub mod BlamedFiles
 pub mod BadSlots
 pub mod ReadFiles
-pub mod ListPages
+pub mod Listed
+pub mod OneFile
+pub mod Blaming
+pub mod ReadRuns
 pub mod Candidates
 pub mod Holding

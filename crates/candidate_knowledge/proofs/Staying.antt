@@ -23,7 +23,8 @@ use Rattle.climbing_index.specs.Laws.{IsOf}
 use Rattle.climbing_index.proofs.WholeIndexes.{value_rows, id_rows}
 use Rattle.subtree_keys.specs.Laws.{rows_spelled}
 use Rattle.candidate_lists.specs.Held.{over}
-use Rattle.candidate_knowledge.specs.Known.{KeepsStatic, KnowsIndexes, IsBadSlotIn, IsListFile, IsReadByForms}
+use Rattle.candidate_knowledge.specs.Reading.{IsReadByForms}
+use Rattle.candidate_knowledge.specs.Known.{KeepsStatic, KnowsIndexes, IsBadSlotIn, IsListFile, IsReadCrossing}
 use Rattle.candidate_knowledge.specs.Laws.{KnowledgeStays}
 use Rattle.candidate_knowledge.proofs.FilePages.{above_some, slot_kept, slots_room}
 
@@ -235,7 +236,8 @@ module _ (summed : FilesLieAsSummed) (orders : FilesLieInOrder) (small : LayoutI
     header = header_same;
     right = right_pages;
     over_pages = λ page right low cat database high knows. right_pages page right (over right page low) cat database (over_keeps page right low cat high) knows;
-    bad = λ page now cat asked crosses top database. bad_kept page now cat database (IsReadByForms cat asked crosses top);
-    was_bad = λ page now cat asked crosses top database tree keeps. bad_kept now page cat database (IsReadByForms cat asked crosses top) tree (λ number low. sym (keeps number low));
+    bad = λ page now cat asked crosses top database. bad_kept page now cat database (IsReadCrossing cat asked crosses top);
+    was_bad = λ page now cat asked crosses top database tree keeps. bad_kept now page cat database (IsReadCrossing cat asked crosses top) tree (λ number low. sym (keeps number low));
+    bad_by = λ page now cat asked forced top database. bad_kept page now cat database (IsReadByForms cat asked forced top);
     bad_list = λ page now cat asked top database. bad_kept page now cat database (IsListFile cat asked top);
   }

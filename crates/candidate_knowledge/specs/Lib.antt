@@ -1,3 +1,5 @@
 pub mod Known
+pub mod Reading
 pub mod Found
+pub mod May
 pub mod Laws

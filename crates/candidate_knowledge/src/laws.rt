@@ -1,7 +1,6 @@
 //! Laws of what is known of the pages.
 
-ghost use Rattle.candidate_knowledge.specs.Found.{ListPagesAreRead};
-ghost use Rattle.candidate_knowledge.specs.Laws.{HeldFilesAreKnown, HeldFilesHaveNoDamage, KnowledgeStays, DamageIsBad, ListsAreRead, RepliesHaveNoDamage, RowsWithoutLinesAreLeftOut, CandidatesAreSifted};
+ghost use Rattle.candidate_knowledge.specs.Laws.{HeldFilesAreKnown, HeldFilesHaveNoDamage, KnowledgeStays, DamageIsBad, ListsAreRead, BlamedAreFound, BadSlotsAreRead, RunsMay, RepliesHaveNoDamage, RowsWithoutLinesAreLeftOut, CandidatesAreSifted};
 
 /// Pages that hold all files of a database are right pages, and known by themselves.
 pub fn held_files_are_known()
@@ -58,16 +57,35 @@ pub fn damage_is_bad()
     subtree_keys::laws::tables_are_of_slots();
 }
 
-/// Each page that lists in hand may have is read for the query.
-pub fn list_pages_are_read()
-    ensures read { ListPagesAreRead }
-{}
-
 /// What is bad of the lists at the top table is bad for the query, and where cross forms may be taken, so is what is bad of the lists at
-/// a table below it with conditions on visible columns. The same of what was found there.
+/// a table below it with conditions on visible columns.
 pub fn lists_are_read()
     ensures { ListsAreRead }
 {}
+
+/// What is blamed of runs that may be was found in a slot of a file that the query reads by its plan, or, where pages are not told, of a
+/// reply or of scratch.
+pub fn blamed_slots_are_found()
+    ensures found { BlamedAreFound }
+{}
+
+/// Where pages are told, a slot that was found so and is bad for some plan is bad for this one.
+pub fn bad_slots_are_read()
+    ensures read { BadSlotsAreRead }
+{
+    ghost_model::layout::files_lie_as_summed();
+    ghost_model::layout::files_lie_in_order();
+    ghost_model::layout::layout_is_small();
+    ghost_model::layout::records_stand_within();
+}
+
+/// A slot may be blamed of each run that is read for the terms of a query, by the forms that its plan may take, and for those of a set.
+pub fn runs_may_be_blamed()
+    ensures { RunsMay }
+{
+    ghost_model::layout::files_lie_in_order();
+    ghost_model::layout::levels_are_ancestors();
+}
 
 /// Where the pages have the rows of a reply, none of its records is without an identifier of the table's rows.
 pub fn replies_have_no_damage()
