@@ -11,3 +11,4 @@ mod CrossedLists
 mod Walking
 mod Turning
 mod Staying
+mod LinkRuns
