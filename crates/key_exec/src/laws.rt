@@ -1,6 +1,6 @@
 //! Laws of jobs and of texts that are told, which need no code.
 
-ghost use Rattle.key_exec.specs.Laws.{WholeRepliesAreOfAsked, WholeRepliesAreOfAll, KnowledgeIsEnough, HeldPagesAreKnown, DamageIsNeverMet, PagesStayKnown, PagesStayKnownBut, DamageStays, KnowledgeIsSpared, BuffersStayGiven, BuffersStayBlankOrRead, OthersSpareHalves, JobsSpareHalves, ReadersKeep, KeptStays, FewStepsAreLeft};
+ghost use Rattle.key_exec.specs.Laws.{WholeRepliesAreOfAsked, WholeRepliesAreOfAll, KnowledgeIsEnough, HeldPagesAreKnown, DamageIsNeverMet, PagesStayKnown, PagesStayKnownBut, DamageStays, ToldDamageLiesInFiles, KnowledgeIsSpared, BuffersStayGiven, BuffersStayBlankOrRead, OthersSpareHalves, JobsSpareHalves, ReadersKeep, KeptStays, FewStepsAreLeft};
 ghost use Rattle.key_exec.specs.Filled.{SlotsCanBeFilled, NoOthersHaveRows, AnswersAreOfEach};
 
 /// One reply to each ask of a query is about asked tables alone, and about all of them.
@@ -46,6 +46,11 @@ pub fn knowledge_stays()
     ghost_model::flash::holdings_are_kept();
     candidate_knowledge::laws::knowledge_stays();
 }
+
+/// Where the flash tells its pages, a slot that is blamed lies in a file that the plan reads, and never in the spool or in scratch.
+pub fn damage_lies_in_files()
+    ensures files { ToldDamageLiesInFiles }
+{}
 
 /// What is known with a query and its replies stays so where the static pages and the half of the replies are spared.
 pub fn knowledge_is_spared()
