@@ -7,7 +7,6 @@ use Rattle.ghost_model.specs.core.Query.{Query}
 use Rattle.visible_spool.specs.declared.half.Half.{Half}
 use Rattle.ghost_model.specs.core.Asks.{kind_at}
 use Rattle.ghost_model.specs.forms.Runs.{Run, Stores, page_of, record_at, run_end, run_pages, found_in}
-use Rattle.ghost_model.specs.forms.Layout as layout
 use Rattle.ghost_model.specs.forms.Layout.{is_hidden, count_of, width_at, descendants_of, static_end, files_end, Cells}
 use Rattle.ghost_model.specs.laws.ShortWords.{column_file, subtree_table}
 use Rattle.ghost_model.specs.forms.Slots.{child_rows, spelled, may_stand, IsOutOfOrder, in_slot}
@@ -24,7 +23,6 @@ use Rattle.ghost_model.specs.forms.Flash.{HoldsFiles}
 use Rattle.ghost_model.specs.laws.FlashLaws.{HoldingsAreKept}
 use Rattle.climbing_index.specs.Laws.{IsOf}
 use Rattle.candidate_knowledge.specs.Laws.{HeldFilesAreKnown, KnowledgeStays}
-use Rattle.leakless_plan.specs.Choices.{may_cross}
 use Rattle.key_exec.specs.Plans.{by_indexes}
 use Rattle.key_exec.specs.Reading.{Knows, KnowsBut, KnowsBy, KnowsButBy}
 use Rattle.key_exec.specs.Blaming.{IsDamaged, IsDamagedInScan}
@@ -267,7 +265,7 @@ pub damage_kept :
 damage_kept small order stand stays plans.Scan told page now cat asked top side half number slot found tree keeps is =
     scan_damage_kept small order stand told page now cat asked top side half number slot found tree keeps is
 damage_kept small order stand stays (plans.Linked forced) told page now cat asked top side half number slot found tree keeps is = λ database knows.
-    stays.bad page now cat asked (may_cross forced) top database tree keeps number slot found
+    stays.bad_by page now cat asked forced top database tree keeps number slot found
     (is database (columns_kept_by small order stand stays by_indexes told now page cat database tree (λ at low. sym (keeps at low)) knows))
 
 pub files_kept :

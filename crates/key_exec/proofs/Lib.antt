@@ -28,3 +28,6 @@ pub mod ByLemmas
 pub mod CalledLemmas
 pub mod CostLemmas
 pub mod PhaseLemmas
+pub mod FilledRows
+pub mod FilledDatabases
+pub mod FilledSlots

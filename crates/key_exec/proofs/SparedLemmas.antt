@@ -29,6 +29,7 @@ use Rattle.leakless_plan.specs.declared.plan.Plan.{Plan}
 use Rattle.id_merge.specs.declared.merge.Merge.{Merge}
 use Rattle.id_merge.specs.Cursors.{AllReady, leases_of, unread_in}
 use Rattle.id_merge.specs.Spared as merged
+use Rattle.id_merge.specs.Since.{Since}
 use Rattle.id_merge.specs.Spared.{AllOutside, MergeStaysReady, CursorsStayGiven, CursorsStayRight, UnreadStays}
 use Rattle.candidate_lists.specs.Staying.{DamageStays}
 use Rattle.candidate_knowledge.specs.Known.{KeepsStatic}
@@ -191,7 +192,6 @@ walking_still stay fill give merges cat asked side told before now pool later ha
   work_is = work_at_still stay cat asked side before now half plan rows scan.next (work_in scan work) (half_spared spares) is.work_is;
   merge_is = merges _ _ told before now pool later merge (spares_second leases (leases_of merge.cursors.items) spares) is.outside is.merge_is;
   outside = is.outside;
-  pages = is.pages;
   at_most = is.at_most;
   lent = lent_still fill give told cat side before now half pool later leases lies (spares_first leases (leases_of merge.cursors.items) spares) is.lent;
   out = outs_kept (leases ++ leases_of merge.cursors.items) spares.out is.out;
@@ -209,8 +209,9 @@ pub record LinkingIsSpared (linking : LinkingModel) : Type 0 where
       → LinkingHas told now.page later cat asked crosses database given top half linking
   pub left : (before now : Device) (pool later : Pool) (cat : Catalog) (side : ℕ) → SparesLinking cat side before now pool later linking
       → linking_left later linking ≡ linking_left pool linking
-  pub given : (before now : Device) (pool later : Pool) (cat : Catalog) (side since : ℕ) → SparesLinking cat side before now pool later linking
-      → LinkingGiven since before pool linking → LinkingGiven since now later linking
+  pub given : (told : Bool) (before now : Device) (pool later : Pool) (cat : Catalog) (asked : Query) (crosses : Bool) (top side : ℕ) (half : Half)
+      → SparesLinking cat side before now pool later linking → IsLinking told before pool cat asked crosses top side half linking
+      → (since : Since) (size : ℕ) → LinkingGiven since size half before pool linking → LinkingGiven since size half now later linking
   pub costs : (told : Bool) (before now : Device) (pool later : Pool) (cat : Catalog) (asked : Query) (crosses : Bool) (top side : ℕ) (half : Half)
       → SparesLinking cat side before now pool later linking → IsLinking told before pool cat asked crosses top side half linking
       → (database : Database) (given : List Reply) (cost : ℕ) → LinkingCosts told before.page pool cat asked database given top half linking cost
@@ -265,18 +266,20 @@ phase_still stay fill give merges unread by cat asked side told before now pool 
 
 -- what its buffers hold was read since
 pub phase_given_still :
-    sparing.BuffersStayGiven → CursorsStayGiven → (cat : Catalog) (side : ℕ) (before now : Device) (pool later : Pool) (since : ℕ) (phase : Phase) → SparedIn phase
-    → Spares cat side before now pool later (leases_in phase) → PhaseGiven since before pool phase → PhaseGiven since now later phase
-phase_given_still give cursors cat side before now pool later since Begun law spares given = tt
-phase_given_still give cursors cat side before now pool later since (Scanning leases scan) law spares given =
-    given_still give cat side before now pool later leases.items since spares given
-phase_given_still give cursors cat side before now pool later since (Linking linking) law spares given =
-    law.given before now pool later cat side since (spares_all spares) given
-phase_given_still give cursors cat side before now pool later since (Walking leases merge scan) law spares given = (
-  given_still give cat side before now pool later leases.items since (spares_first leases.items (leases_of merge.cursors.items) spares) given.0,
-  cursors _ _ since before now pool later merge.cursors.items (spares_second leases.items (leases_of merge.cursors.items) spares) given.1,
+    sparing.BuffersStayGiven → CursorsStayGiven → (by : Plan) (cat : Catalog) (asked : Query) (side : ℕ) (told : Bool) (before now : Device) (pool later : Pool) (half : Half)
+    (plan : RowPlan) (rows left given spent : ℕ) (work : RowWork) (since : Since) (size : ℕ) (phase : Phase) → SparedIn phase
+    → Spares cat side before now pool later (leases_in phase) → IsAtPhase by cat asked side told before pool half plan rows left given spent work phase
+    → PhaseGiven since size half before pool phase → PhaseGiven since size half now later phase
+phase_given_still give cursors by cat asked side told before now pool later half plan rows left count spent work since size Begun law spares at given = tt
+phase_given_still give cursors by cat asked side told before now pool later half plan rows left count spent work since size (Scanning leases scan) law spares at given =
+    given_still give cat side before now pool later leases.items since.calls spares given
+phase_given_still give cursors by cat asked side told before now pool later half plan rows left count spent work since size (Linking linking) law spares at given =
+    law.given told before now pool later cat asked (crosses_by by) plan.top side half (spares_all spares) at.1.is since size given
+phase_given_still give cursors by cat asked side told before now pool later half plan rows left count spent work since size (Walking leases merge scan) law spares at given = (
+  given_still give cat side before now pool later leases.items since.calls (spares_first leases.items (leases_of merge.cursors.items) spares) given.0,
+  cursors _ _ told since before now pool later merge.cursors.items (spares_second leases.items (leases_of merge.cursors.items) spares) at.1.0.outside at.1.0.merge_is.cursors given.1,
 )
-phase_given_still give cursors cat side before now pool later since Over law spares given = tt
+phase_given_still give cursors by cat asked side told before now pool later half plan rows left count spent work since size Over law spares at given = tt
 
 -- ---- what a job stands for
 

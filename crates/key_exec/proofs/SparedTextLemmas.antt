@@ -82,7 +82,7 @@ module _ (by : Plan) (told : Bool) (cat : Catalog) (side : ℕ) (before now : De
       by_is = has.by_is;
       half_is = has.half_is;
       ready = ready cat has.asked side told before now pool later spares has.ready;
-      reads = reads cat side before now pool later start.calls spares has.reads;
+      reads = reads cat has.asked side told before now pool later spares has.ready start.calls has.reads;
       given = has.given;
       handed_on = has.handed_on;
       counted = has.counted;

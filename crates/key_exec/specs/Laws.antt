@@ -23,7 +23,8 @@ use Rattle.key_exec.specs.Costs.{JobCosts}
 use Rattle.leakless_plan.specs.declared.plan.Plan.{Plan}
 pub use Rattle.candidate_knowledge.specs.Known.{KeepsStatic}
 use Rattle.key_exec.specs.Reading.{KnowsBy, KnowsButBy, KnowsAll, KeepsBy, AreOfAsked, AreAllAsked}
-use Rattle.key_exec.specs.Blaming.{IsDamaged}
+use Rattle.candidate_knowledge.specs.Found.{WasFoundInFile}
+use Rattle.key_exec.specs.Blaming.{IsDamaged, IsReadBy, WasDamaged}
 use Rattle.key_exec.specs.Ready.{IsReady, JobGiven, Stands, Spares}
 use Rattle.key_lines.specs.Handing.{Handed}
 use Rattle.channel_pump.specs.declared.state.ReplyState.{ReplyState}
@@ -71,6 +72,12 @@ DamageStays =
     (by : Plan) (told : Bool) (page now : ℕ → List ℕ) (cat : Catalog) (asked : Query) (top side : ℕ) (half : Half) (number slot found : ℕ) → IsTree cat.schema → KeepsStatic cat page now
     → IsDamaged by told page cat asked top side half number slot found → IsDamaged by told now cat asked top side half number slot found
 
+-- where the pages are told, a slot that a read gave and that is blamed lies in a file that the plan reads, whatever the pages hold
+abbrev pub ToldDamageLiesInFiles : Type 0
+ToldDamageLiesInFiles =
+    (by : Plan) (since : ℕ) (device : Device) (cat : Catalog) (asked : Query) (top side : ℕ) (half : Half) (number slot found : ℕ)
+    → WasDamaged by true since device cat asked top side half number slot found → WasFoundInFile since device cat (IsReadBy by cat asked top) number slot found
+
 -- what is known with a query and its replies stays known where the static pages and the half of the replies are spared
 abbrev pub KnowledgeIsSpared : Type 0
 KnowledgeIsSpared =
@@ -101,8 +108,9 @@ JobStillCosts job =
 -- and what its buffers hold was read since the same count of calls
 abbrev pub JobStaysGiven : Job → Type 0
 JobStaysGiven job =
-    (cat : Catalog) (side : ℕ) (before now : Device) (pool later : Pool) (since : ℕ)
-    → Spares cat side before now pool later (leases_of job) → JobGiven since before pool job → JobGiven since now later job
+    (cat : Catalog) (asked : Query) (side : ℕ) (told : Bool) (before now : Device) (pool later : Pool)
+    → Spares cat side before now pool later (leases_of job) → IsReady cat asked side told before pool job
+    → (since : ℕ) → JobGiven cat asked side told since before pool job → JobGiven cat asked side told since now later job
 
 abbrev pub BuffersStayGiven : Type 0
 BuffersStayGiven =

@@ -8,6 +8,7 @@ pub mod Rows
 pub mod Texts
 pub mod Telling
 pub mod Laws
+pub mod Filled
 pub mod Costs
 pub mod Lending
 pub mod Within

@@ -143,8 +143,8 @@ pub record HasGiven (by : Plan) (pages_told : Bool) (cat : Catalog) (side : ℕ)
   pub by_is : job.by ≡ by
   pub half_is : job.half ≡ half
   pub ready : IsReady cat asked side pages_told device pool job
-  -- what its buffers hold was read since
-  pub reads : JobGiven start.calls device pool job
+  -- what its buffers hold was read since, of files that the plan reads
+  pub reads : JobGiven cat asked side pages_told start.calls device pool job
   pub given : List Row
   pub handed_on : Hands (concat (map row_line given)) before now
   pub counted : job.given ≡ length given

@@ -1,6 +1,7 @@
 //! Laws of jobs and of texts that are told, which need no code.
 
-ghost use Rattle.key_exec.specs.Laws.{WholeRepliesAreOfAsked, WholeRepliesAreOfAll, KnowledgeIsEnough, HeldPagesAreKnown, DamageIsNeverMet, PagesStayKnown, PagesStayKnownBut, DamageStays, KnowledgeIsSpared, BuffersStayGiven, BuffersStayBlankOrRead, OthersSpareHalves, JobsSpareHalves, ReadersKeep, KeptStays, FewStepsAreLeft};
+ghost use Rattle.key_exec.specs.Laws.{WholeRepliesAreOfAsked, WholeRepliesAreOfAll, KnowledgeIsEnough, HeldPagesAreKnown, DamageIsNeverMet, PagesStayKnown, PagesStayKnownBut, DamageStays, ToldDamageLiesInFiles, KnowledgeIsSpared, BuffersStayGiven, BuffersStayBlankOrRead, OthersSpareHalves, JobsSpareHalves, ReadersKeep, KeptStays, FewStepsAreLeft};
+ghost use Rattle.key_exec.specs.Filled.{SlotsCanBeFilled, NoOthersHaveRows, AnswersAreOfEach};
 
 /// One reply to each ask of a query is about asked tables alone, and about all of them.
 pub fn whole_replies_are_of_asked()
@@ -46,6 +47,11 @@ pub fn knowledge_stays()
     candidate_knowledge::laws::knowledge_stays();
 }
 
+/// Where the flash tells its pages, a slot that is blamed lies in a file that the plan reads, and never in the spool or in scratch.
+pub fn damage_lies_in_files()
+    ensures files { ToldDamageLiesInFiles }
+{}
+
 /// What is known with a query and its replies stays so where the static pages and the half of the replies are spared.
 pub fn knowledge_is_spared()
     ensures spared { KnowledgeIsSpared }
@@ -80,3 +86,26 @@ pub fn what_jobs_keep_adds_up()
 pub fn few_steps_are_left()
     ensures few { FewStepsAreLeft }
 {}
+
+/// Any pages hold the hidden columns of some database but for slots that spell no value: of one for whatever values of their kind and
+/// range stand there, so in each of them any two can.
+pub fn slots_can_be_filled()
+    ensures { SlotsCanBeFilled }
+{
+    ghost_base::laws::cells_spell_one_value();
+    ghost_model::meaning::parts_by_flags();
+    ghost_model::flash::hidden_values_of_databases();
+}
+
+/// Only where a table that a row must name has a row there is a database; where it has none, no slot of the foreign key spells a value.
+pub fn no_others_have_rows()
+    ensures { NoOthersHaveRows }
+{}
+
+/// A text that a scan answers has the lines of its answer over each of these databases, whatever stands in the slots that spell no
+/// value.
+pub fn answers_are_of_each()
+    ensures { AnswersAreOfEach }
+{
+    slots_can_be_filled();
+}

@@ -287,6 +287,8 @@ halves_are told device pool catalog heard low top text replies k from =
           let upper = half.to in
           (omega (arith, here.0, lower, low_end), omega (arith, here.1, upper, high_end)));
       whole = λ is_told table there. (each table).whole is_told;
+      rows = λ table there some.
+          (each table).lies.most some ∙ (k.areas.each table (in_areas replies.spool.areas.items table ((each table).lies.visible some))).rows_is;
     }
 
 map_twice : (f : RowCells → RowValues) (rows : List (List ℕ)) → map f (map row_in rows) ≡ map (λ bytes. f (row_in bytes)) rows
