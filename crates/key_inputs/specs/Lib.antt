@@ -1,6 +1,7 @@
 pub mod FileLines
 pub mod Naming
 pub mod Openings
+pub mod Outside
 pub mod OpeningLaws
 pub mod Renaming
 pub mod Rules

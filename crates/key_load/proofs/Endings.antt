@@ -1,5 +1,5 @@
 -- How a loading ended, from what its parts did.
-use Rattle.std.proofs.Common.{◌≡◌, ◌⊎◌, inl, inr, ℕ, ◌≤◌, ◌<◌, ◌*◌, Bool, true, false, List, Some, Result, Ok, Err, OnOk, refl, ap, subst, ◌∙◌}
+use Rattle.std.proofs.Common.{◌≡◌, ◌⊎◌, inl, inr, ℕ, ◌≤◌, ◌<◌, ◌*◌, Bool, true, false, List, Option, Some, Result, Ok, Err, OnOk, refl, ap, subst, ◌∙◌}
 use Rattle.ghost_model.specs.core.Database.{IsDatabase}
 use Rattle.ghost_model.specs.forms.Flash.{HoldsCatalog, HoldsFiles, Holds}
 use Rattle.ghost_model.specs.forms.Layout.{need}
@@ -7,27 +7,36 @@ use Rattle.ghost_model.specs.core.Schema.{Schema}
 use Rattle.ghost_model.specs.core.Split.{Hidden, hidden_of}
 use Rattle.ghost_model.specs.core.Values.{Database}
 use Rattle.ghost_model.specs.core.Channel.{Catalog}
-use Rattle.edge_traits.specs.Files.{with_file}
+use Rattle.edge_traits.specs.Devices.{Device}
+use Rattle.edge_traits.specs.Files.{Files, with_file}
 use Rattle.edge_traits.specs.Written.{grown, GrowsByFront}
 use Rattle.key_inputs.specs.Openings.{Opening, TablesInput}
+use Rattle.key_inputs.specs.Outside.{Outside}
 use Rattle.key_inputs.specs.Views.{AreSpelled}
 use Rattle.key_inputs.specs.declared.opening.Input.{Input}
 use Rattle.key_words.specs.Words.{Load}
 use Rattle.key_load.specs.Loadings.{catalog_for, pages_for, loaded_line}
-use Rattle.key_load.specs.Preparing.{IsPrepared, IsBuilt}
-use Rattle.key_load.specs.Results.{LoadSide, Loading, loading, catalog_in, pages_in, HasHostFile, LeavesBoth, Builds, WritesFile, Stands, EndsLoading, EndsLoadCall, EndsSomeLoad, IsOfMaking, TellsPreparing}
+use Rattle.key_load.specs.Preparing.{IsPrepared, IsBuilt, HasImage, IsMade, IsMadeInOrder}
+use Rattle.key_load.specs.Results.{Loading, loading, catalog_in, pages_in, HasHostFile, LeavesBoth, Builds, WritesFile, Stands, EndsLoading, EndsLoadCall, EndsSomeLoad, IsOfMaking, TellsPreparing}
 use Rattle.key_load.specs.declared.failures.LoadFailure.{LoadFailure}
 use Rattle.key_load.specs.declared.failures.LoadFailure.TheVariants as failure
 use Rattle.key_load.specs.declared.preparing.Prepared.{Prepared}
 
--- where the catalog was written, the flash holds it and what it held before
-pub sealed : {T E : Type 0} (result : Result T E) (told : Bool) (page : ℕ → List ℕ) (cat : Catalog) (hidden : Hidden) → OnOk result (told ≡ true → HoldsCatalog page cat)
-    → (told ≡ true → HoldsFiles page cat hidden) → OnOk result (told ≡ true → Holds page cat hidden)
-sealed (Ok value) told page cat hidden catalog files = λ t. record { catalog = catalog t; files = files t }
-sealed (Err fault) told page cat hidden catalog files = tt
+-- where the catalog was written too, what was prepared stands at both ends
+pub made : {T E : Type 0} (result : Result T E) (told : Bool) (prepared : Prepared) (words : Load) (before after : Option Files) (device : Device)
+    → OnOk result (told ≡ true → HoldsCatalog device.page prepared.cat) → (told ≡ true → HoldsFiles device.page prepared.cat prepared.hidden)
+    → device.name ≡ Some words.flash → device.page_count ≡ 64 * prepared.blocks → OnOk result (HasImage prepared words before after)
+    → OnOk result (IsMade told prepared words before after device)
+made (Ok value) told prepared words before after device catalog files name pages file = record {
+  name = name;
+  holds = λ t. record { catalog = catalog t; files = files t };
+  pages = pages;
+  file = file;
+}
+made (Err fault) told prepared words before after device catalog files name pages file = tt
 
 -- nothing was prepared
-pub unprepared : (T : Type 0) (told : Bool) (one : Loading) (before after : LoadSide) (fault : LoadFailure) → LeavesBoth before after
+pub unprepared : (T : Type 0) (told : Bool) (one : Loading) (before after : Outside) (fault : LoadFailure) → LeavesBoth before after
     → TellsPreparing (catalog_in one) one.words.blocks fault → EndsLoading {T = T} told one (Err fault) before after
 unprepared T told one before after failure.NoMemory leaves tells = inl leaves
 unprepared T told one before after failure.Depot leaves tells = absurd tells
@@ -37,7 +46,7 @@ unprepared T told one before after failure.Flash leaves tells = absurd tells
 unprepared T told one before after failure.Sink leaves tells = absurd tells
 
 -- the writing failed
-pub failed : {T : Type 0} (result : Result T LoadFailure) (told : Bool) (one : Loading) (before after : LoadSide) (fault : LoadFailure) → IsOfMaking {T = T} (Err fault)
+pub failed : {T : Type 0} (result : Result T LoadFailure) (told : Bool) (one : Loading) (before after : Outside) (fault : LoadFailure) → IsOfMaking {T = T} (Err fault)
     → need (catalog_in one) ≤ pages_in one
     → (fault ≡ failure.Depot → Builds told one after)
     → (fault ≡ failure.Flash → (after.files ≡ before.files) ⊎ WritesFile told one before after)
@@ -54,7 +63,7 @@ failed result told one before after failure.Sink of enough builds files file hol
 
 module _ {T : Type 0} where
   -- a loading ended so of the tables that the files spell
-  pub ends_spelled : (told : Bool) (opening : Opening TablesInput) (input : Input) (words : Load) (result : Result T LoadFailure) (before after : LoadSide)
+  pub ends_spelled : (told : Bool) (opening : Opening TablesInput) (input : Input) (words : Load) (result : Result T LoadFailure) (before after : Outside)
       → AreSpelled opening input → EndsLoading told (loading input.schema input.tables words) result before after
       → EndsLoadCall told opening words result before after
   ends_spelled told opening input words (Ok done) before after are ended = record {
@@ -90,7 +99,7 @@ module _ {T : Type 0} where
   }
 
   -- a loading ended so of some database
-  pub ends_some : (told : Bool) (schema : Schema) (database : Database) (words : Load) (result : Result T LoadFailure) (before after : LoadSide)
+  pub ends_some : (told : Bool) (schema : Schema) (database : Database) (words : Load) (result : Result T LoadFailure) (before after : Outside)
       → IsDatabase schema database → EndsLoading told (loading schema database words) result before after
       → EndsSomeLoad told words result before after
   ends_some told schema database words (Ok done) before after are ended =
@@ -114,7 +123,7 @@ module _ (schema : Schema) (database : Database) (words : Load) (prepared : Prep
       subst (λ blocks. need (catalog_for schema database) ≤ 64 * blocks) are.blocks
       (subst (λ (cat : Catalog). need cat ≤ 64 * prepared.blocks) are.cat enough)
 
-  pub host_file : IsPrepared schema database words.blocks prepared → (before after : LoadSide)
+  pub host_file : IsPrepared schema database words.blocks prepared → (before after : Outside)
       → after.files ≡ with_file before.files words.visible prepared.image.items → HasHostFile (loading schema database words) before after
   host_file are before after file = file ∙ ap (λ bytes. with_file before.files words.visible bytes) are.image
 
@@ -130,7 +139,7 @@ module _ (schema : Schema) (database : Database) (words : Load) (prepared : Prep
 
   -- what was prepared was built
   pub built : (told : Bool) → IsPrepared schema database words.blocks prepared → need prepared.cat ≤ 64 * prepared.blocks
-      → (after : LoadSide) → IsBuilt told prepared words.flash after.device → Builds told (loading schema database words) after
+      → (after : Outside) → IsBuilt told prepared words.flash after.device → Builds told (loading schema database words) after
   built told are enough after is = record {
     enough = large_enough are enough;
     name = is.name;
@@ -139,7 +148,7 @@ module _ (schema : Schema) (database : Database) (words : Load) (prepared : Prep
   }
 
   -- the host's file is as before, or written where it was
-  pub written : (told : Bool) → IsPrepared schema database words.blocks prepared → need prepared.cat ≤ 64 * prepared.blocks → (before after : LoadSide)
+  pub written : (told : Bool) → IsPrepared schema database words.blocks prepared → need prepared.cat ≤ 64 * prepared.blocks → (before after : Outside)
       → (after.files ≡ before.files) ⊎ IsBuilt told prepared words.flash after.device
       → (after.files ≡ before.files) ⊎ (after.files ≡ with_file before.files words.visible prepared.image.items)
       → (after.files ≡ before.files) ⊎ WritesFile told (loading schema database words) before after
@@ -149,7 +158,7 @@ module _ (schema : Schema) (database : Database) (words : Load) (prepared : Prep
       inr (record { builds = built told are enough after is; file = host_file are before after file })
 
   -- what was prepared stands
-  pub stands : (told : Bool) → IsPrepared schema database words.blocks prepared → (before after : LoadSide)
+  pub stands : (told : Bool) → IsPrepared schema database words.blocks prepared → (before after : Outside)
       → need prepared.cat ≤ 64 * prepared.blocks
       → after.device.name ≡ Some words.flash
       → (told ≡ true → Holds after.device.page prepared.cat prepared.hidden)
@@ -170,12 +179,44 @@ module _ (schema : Schema) (database : Database) (words : Load) (prepared : Prep
       ap (λ (cat : Catalog). loaded_line cat (64 * prepared.blocks)) are.cat
       ∙ ap (λ blocks. loaded_line (catalog_for schema database) (64 * blocks)) are.blocks
 
-  pub printed : IsPrepared schema database words.blocks prepared → (before after : LoadSide)
+  pub printed : IsPrepared schema database words.blocks prepared → (before after : Outside)
       → after.written ≡ grown before.written (loaded_line prepared.cat (64 * prepared.blocks))
       → after.written ≡ grown before.written (loaded_line (catalog_for schema database) (pages_for (catalog_for schema database) words.blocks))
   printed are before after h = h ∙ ap (λ line. grown before.written line) (same_line are)
 
-  pub front_printed : IsPrepared schema database words.blocks prepared → (before after : LoadSide)
+  pub front_printed : IsPrepared schema database words.blocks prepared → (before after : Outside)
       → GrowsByFront before.written (loaded_line prepared.cat (64 * prepared.blocks)) after.written
       → GrowsByFront before.written (loaded_line (catalog_for schema database) (pages_for (catalog_for schema database) words.blocks)) after.written
   front_printed are before after h = subst (λ line. GrowsByFront before.written line after.written) (same_line are) h
+
+  -- how a loading of it ended: `held` are the files before the making
+  pub loaded : (told : Bool) → IsPrepared schema database words.blocks prepared → need prepared.cat ≤ 64 * prepared.blocks → (before after : Outside) (held : Option Files)
+      → held ≡ before.files → IsMade told prepared words held after.files after.device
+      → after.written ≡ grown before.written (loaded_line prepared.cat (64 * prepared.blocks))
+      → EndsLoading {T = Unit {0}} told (loading schema database words) (Ok tt) before after
+  loaded told are enough before after held same made line = record {
+    stands = stands told are before after enough made.name made.holds made.pages (made.file ∙ ap (λ (files : Option Files). with_file files words.visible prepared.image.items) same);
+    printed = printed are before after line;
+  }
+
+  pub unprinted : (told : Bool) → IsPrepared schema database words.blocks prepared → need prepared.cat ≤ 64 * prepared.blocks → (before after : Outside) (held : Option Files)
+      → held ≡ before.files → IsMade told prepared words held after.files after.device
+      → GrowsByFront before.written (loaded_line prepared.cat (64 * prepared.blocks)) after.written
+      → EndsLoading {T = Unit {0}} told (loading schema database words) (Err failure.Sink) before after
+  unprinted told are enough before after held same made front = record {
+    stands = stands told are before after enough made.name made.holds made.pages (made.file ∙ ap (λ (files : Option Files). with_file files words.visible prepared.image.items) same);
+    front = front_printed are before after front;
+  }
+
+  pub unmade : (told : Bool) → IsPrepared schema database words.blocks prepared → need prepared.cat ≤ 64 * prepared.blocks → (before after : Outside) (held : Option Files)
+      → held ≡ before.files → (fault : LoadFailure) → IsOfMaking {T = Unit {0}} (Err fault)
+      → IsMadeInOrder {T = Unit {0}} told prepared words (Err fault) held after.files after.device
+      → EndsLoading {T = Unit {0}} told (loading schema database words) (Err fault) before after
+  unmade told are enough before after held same fault of made =
+      let order = subst (λ (files : Option Files). IsMadeInOrder {T = Unit {0}} told prepared words (Err fault) files after.files after.device) same made in
+      failed {T = Unit {0}} (Err fault) told (loading schema database words) before after fault of
+      (large_enough are enough)
+      (λ of_depot. built told are enough after (order.depot_last (ap Err of_depot)))
+      (λ of_flash. written told are enough before after order.built_first (order.flash_file (ap Err of_flash)))
+      (λ some begun. host_file are before after (order.sealed_last some begun))
+      (λ some begun t. files_stand are after.device.page (order.files_first some begun t))

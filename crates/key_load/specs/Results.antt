@@ -8,25 +8,16 @@ use Rattle.ghost_model.specs.core.Schema.{Schema}
 use Rattle.ghost_model.specs.core.Split.{public_of, hidden_of, image}
 use Rattle.ghost_model.specs.core.Values.{Database}
 use Rattle.edge_traits.specs.Devices.{Device}
-use Rattle.edge_traits.specs.Files.{Files, with_file}
+use Rattle.edge_traits.specs.Files.{with_file}
 use Rattle.edge_traits.specs.Written.{grown, GrowsByFront}
 use Rattle.flash_build.specs.Sealing.{SpellsNoCatalog}
 use Rattle.key_inputs.specs.Openings.{Opening, Spelled, Broken, TablesInput}
+use Rattle.key_inputs.specs.Outside.{Outside, Verdicts, Risen, Same, verdicts}
 use Rattle.key_inputs.specs.Views.{rule_of}
 use Rattle.key_words.specs.Words.{Load}
 use Rattle.key_load.specs.Loadings.{catalog_for, pages_for, loaded_line}
 use Rattle.key_load.specs.declared.failures.LoadFailure.{LoadFailure}
 use Rattle.key_load.specs.declared.failures.LoadFailure.TheVariants as failure
-
--- the side of the outside that `load` changes: the flash, the depot's files where they are told, and what a sink that tells
--- it was written
-pub record LoadSide : Type 0 where
-  pub device : Device
-  pub files : Option Files
-  pub written : Option (List ℕ)
-
-abbrev pub load_side : Device → Option Files → Option (List ℕ) → LoadSide
-load_side device files written = record { device = device; files = files; written = written }
 
 -- what is to be loaded, and where to
 pub record Loading : Type 0 where
@@ -44,7 +35,7 @@ abbrev pub pages_in : Loading → ℕ
 pages_in one = pages_for (catalog_in one) one.words.blocks
 
 -- the host's file is the image of the public part
-abbrev pub HasHostFile : Loading → (before after : LoadSide) → Type 0
+abbrev pub HasHostFile : Loading → (before after : Outside) → Type 0
 HasHostFile one before after =
     after.files
     ≡ with_file before.files one.words.visible (image (catalog_in one) (public_of one.schema one.database))
@@ -56,19 +47,19 @@ pub record IsTooSmall (cat : Catalog) (pages : ℕ) (needed had : ℕ) : Type 0 
   pub less : had < needed
 
 -- flash and files are as before
-pub record LeavesBoth (before after : LoadSide) : Type 0 where
+pub record LeavesBoth (before after : Outside) : Type 0 where
   pub device : after.device ≡ before.device
   pub files : after.files ≡ before.files
 
 -- the flash was to be large enough, and the files of the hidden part stand on it
-pub record Builds (told : Bool) (one : Loading) (after : LoadSide) : Type 0 where
+pub record Builds (told : Bool) (one : Loading) (after : Outside) : Type 0 where
   pub enough : need (catalog_in one) ≤ pages_in one
   pub name : after.device.name ≡ Some one.words.flash
   pub pages : after.device.page_count ≡ pages_in one
   pub holds : told ≡ true → HoldsFiles after.device.page (catalog_in one) (hidden_of one.schema one.database)
 
 -- both ends' files stand
-pub record Stands (told : Bool) (one : Loading) (before after : LoadSide) : Type 0 where
+pub record Stands (told : Bool) (one : Loading) (before after : Outside) : Type 0 where
   pub name : after.device.name ≡ Some one.words.flash
   pub holds : told ≡ true → Holds after.device.page (catalog_in one) (hidden_of one.schema one.database)
   pub pages : after.device.page_count ≡ pages_in one
@@ -76,23 +67,23 @@ pub record Stands (told : Bool) (one : Loading) (before after : LoadSide) : Type
   pub file : HasHostFile one before after
 
 -- they stand, and the line was printed
-pub record Loads (told : Bool) (one : Loading) (before after : LoadSide) : Type 0 where
+pub record Loads (told : Bool) (one : Loading) (before after : Outside) : Type 0 where
   pub stands : Stands told one before after
   pub printed : after.written ≡ grown before.written (loaded_line (catalog_in one) (pages_in one))
 
 -- they stand, and no more than a front of the line was printed
-pub record LoadsUnprinted (told : Bool) (one : Loading) (before after : LoadSide) : Type 0 where
+pub record LoadsUnprinted (told : Bool) (one : Loading) (before after : Outside) : Type 0 where
   pub stands : Stands told one before after
   pub front : GrowsByFront before.written (loaded_line (catalog_in one) (pages_in one)) after.written
 
 -- the host's file is written where the files of the hidden part stand
-pub record WritesFile (told : Bool) (one : Loading) (before after : LoadSide) : Type 0 where
+pub record WritesFile (told : Bool) (one : Loading) (before after : Outside) : Type 0 where
   pub builds : Builds told one after
   pub file : HasHostFile one before after
 
 -- the flash failed: it was to be large enough, the files are as before or have the host's file, and where page 0 was begun
 -- the files of both ends stand
-pub record LeavesUnsealed (told : Bool) (one : Loading) (before after : LoadSide) : Type 0 where
+pub record LeavesUnsealed (told : Bool) (one : Loading) (before after : Outside) : Type 0 where
   pub enough : need (catalog_in one) ≤ pages_in one
   pub files : (after.files ≡ before.files) ⊎ WritesFile told one before after
   pub file : 0 < after.device.page_count → after.device.blank 0 ≡ false → HasHostFile one before after
@@ -101,7 +92,7 @@ pub record LeavesUnsealed (told : Bool) (one : Loading) (before after : LoadSide
       → HoldsFiles after.device.page (catalog_in one) (hidden_of one.schema one.database)
 
 -- how a loading of tables that were read ended
-abbrev pub EndsLoading : {T : Type 0} → (told : Bool) → Loading → Result T LoadFailure → (before after : LoadSide) → Type 0
+abbrev pub EndsLoading : {T : Type 0} → (told : Bool) → Loading → Result T LoadFailure → (before after : Outside) → Type 0
 EndsLoading told one (Ok _) before after = Loads told one before after
 EndsLoading told one (Err failure.NoMemory) before after =
     LeavesBoth before after ⊎ (need (catalog_in one) ≤ pages_in one)
@@ -113,14 +104,14 @@ EndsLoading told one (Err failure.Flash) before after = LeavesUnsealed told one 
 EndsLoading told one (Err failure.Sink) before after = LoadsUnprinted told one before after
 
 -- the files spell tables, whose loading ended so
-pub record EndsSpelledLoad {T : Type 0} (told : Bool) (opening : Opening TablesInput) (words : Load) (result : Result T LoadFailure) (before after : LoadSide) : Type 0 where
+pub record EndsSpelledLoad {T : Type 0} (told : Bool) (opening : Opening TablesInput) (words : Load) (result : Result T LoadFailure) (before after : Outside) : Type 0 where
   pub input : TablesInput
   pub spelled : opening ≡ Spelled input
   pub ended :
       EndsLoading told (loading input.schema (database_of input.schema input.files) words) result before after
 
 -- how a call ended of which the depot tells its files
-abbrev pub EndsLoadCall : {T : Type 0} → (told : Bool) → Opening TablesInput → Load → Result T LoadFailure → (before after : LoadSide) → Type 0
+abbrev pub EndsLoadCall : {T : Type 0} → (told : Bool) → Opening TablesInput → Load → Result T LoadFailure → (before after : Outside) → Type 0
 EndsLoadCall told opening words (Ok done) before after = EndsSpelledLoad told opening words (Ok done) before after
 EndsLoadCall {T = T} told opening words (Err failure.NoMemory) before after =
     LeavesBoth before after ⊎ EndsSpelledLoad {T = T} told opening words (Err failure.NoMemory) before after
@@ -133,14 +124,14 @@ EndsLoadCall {T = T} told opening words (Err failure.Flash) before after = EndsS
 EndsLoadCall {T = T} told opening words (Err failure.Sink) before after = EndsSpelledLoad {T = T} told opening words (Err failure.Sink) before after
 
 -- some database was read, whose loading ended so
-pub record EndsReadLoad {T : Type 0} (told : Bool) (words : Load) (result : Result T LoadFailure) (before after : LoadSide) : Type 0 where
+pub record EndsReadLoad {T : Type 0} (told : Bool) (words : Load) (result : Result T LoadFailure) (before after : Outside) : Type 0 where
   pub schema : Schema
   pub database : Database
   pub are : IsDatabase schema database
   pub ended : EndsLoading told (loading schema database words) result before after
 
 -- how a call ended, whether or not the depot tells its files
-abbrev pub EndsSomeLoad : {T : Type 0} → (told : Bool) → Load → Result T LoadFailure → (before after : LoadSide) → Type 0
+abbrev pub EndsSomeLoad : {T : Type 0} → (told : Bool) → Load → Result T LoadFailure → (before after : Outside) → Type 0
 EndsSomeLoad told words (Ok done) before after = EndsReadLoad told words (Ok done) before after
 EndsSomeLoad {T = T} told words (Err failure.NoMemory) before after =
     LeavesBoth before after ⊎ EndsReadLoad {T = T} told words (Err failure.NoMemory) before after
@@ -151,6 +142,16 @@ EndsSomeLoad {T = T} told words (Err (failure.TooSmall needed had)) before after
     EndsReadLoad {T = T} told words (Err (failure.TooSmall needed had)) before after
 EndsSomeLoad {T = T} told words (Err failure.Flash) before after = EndsReadLoad {T = T} told words (Err failure.Flash) before after
 EndsSomeLoad {T = T} told words (Err failure.Sink) before after = EndsReadLoad {T = T} told words (Err failure.Sink) before after
+
+-- what an outcome tells of the counts of faults of the sink, the depot, its appends and the flash
+abbrev pub told_by : {T : Type 0} → Result T LoadFailure → Verdicts
+told_by (Ok _) = verdicts Same Same Same Same
+told_by (Err failure.NoMemory) = verdicts Same Same Same Same
+told_by (Err failure.Depot) = verdicts Same Risen Same Same
+told_by (Err (failure.Input broken)) = verdicts Same Same Same Same
+told_by (Err (failure.TooSmall needed had)) = verdicts Same Same Same Same
+told_by (Err failure.Flash) = verdicts Same Same Same Risen
+told_by (Err failure.Sink) = verdicts Risen Same Same Same
 
 -- whether a call ends so without a write to the sink
 abbrev pub writes_nothing : {T : Type 0} → Result T LoadFailure → Bool

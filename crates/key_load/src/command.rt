@@ -1,28 +1,22 @@
 //! The command.
 
-ghost use Rattle.std.specs.Prelude.{◌≡◌, ◌⊎◌, ◌≤◌, ◌*◌, true, false, Some, Err, ℕ, List};
+ghost use Rattle.std.specs.Prelude.{◌≡◌, ◌⊎◌, true, Some, Err, ℕ, List};
 ghost use Rattle.ghost_model.specs.core.Causes.{Rose};
-ghost use Rattle.ghost_model.specs.core.Database.{IsDatabase};
-ghost use Rattle.ghost_model.specs.forms.Layout as layout;
-ghost use Rattle.ghost_model.specs.core.Schema.{Schema};
-ghost use Rattle.ghost_model.specs.core.Values.{Database};
 ghost use Rattle.edge_traits.specs.Files.{Files, AreSure, SameBut};
-ghost use Rattle.ghost_model.specs.forms.Flash.{IsHidden};
-ghost use Rattle.key_words.specs.Blocks.{most_blocks};
 ghost use Rattle.key_words.specs.Views.{load_view};
 ghost use Rattle.key_inputs.specs.Openings.{InputFault, Spelled, Broken, TablesInput, tables_opening};
-ghost use Rattle.key_load.specs.Results.{EndsLoadCall, EndsSomeLoad, EndsLoading, IsUnsealed, HasBlankPage0, is_faultless, makes_nothing, leaves_file, leaves_page_0, writes_nothing, load_side, loading};
-ghost use Rattle.key_load.specs.Preparing.{IsPrepared};
+ghost use Rattle.key_inputs.specs.Outside.{HasCauses, outside};
+ghost use Rattle.key_load.specs.Results.{EndsLoadCall, EndsSomeLoad, IsUnsealed, HasBlankPage0, is_faultless, makes_nothing, leaves_file, leaves_page_0, told_by, writes_nothing};
 ghost use Rattle.key_load.specs.declared.failures.LoadFailure.TheVariants as failure;
 
 use crate::failures::{LoadFailure, failure_of};
 use crate::line::print_line;
 use crate::making::make_both;
-use crate::preparing::{Prepared, prepare};
+use crate::preparing::prepare;
 use edge_traits::depot::Depot;
 use edge_traits::flash::{BLOCK_PAGES, Flash};
 use edge_traits::sink::Sink;
-use key_inputs::{Input, open_tables};
+use key_inputs::open_tables;
 use key_words::LoadWords;
 use std::alloc::Global;
 
@@ -42,9 +36,11 @@ pub fn load<D: Depot, F: Flash, O: Sink>(
 ) -> Result<(), LoadFailure>
     ensures ends { (files : Files) → D.contents depot.old ≡ Some files
         → EndsLoadCall F.told (tables_opening files words.now.schema.now words.now.tables.now) (load_view words.now) result
-        (load_side (F.state flash.old) (D.contents depot.old) (O.written out.old)) (load_side (F.state flash.new) (D.contents depot.new) (O.written out.new)) }
+        (outside (D.contents depot.old) (D.faults depot.old) (D.append_faults depot.old) (F.state flash.old) (O.written out.old) (O.faults out.old))
+        (outside (D.contents depot.new) (D.faults depot.new) (D.append_faults depot.new) (F.state flash.new) (O.written out.new) (O.faults out.new)) }
     ensures loads { EndsSomeLoad F.told (load_view words.now) result
-        (load_side (F.state flash.old) (D.contents depot.old) (O.written out.old)) (load_side (F.state flash.new) (D.contents depot.new) (O.written out.new)) }
+        (outside (D.contents depot.old) (D.faults depot.old) (D.append_faults depot.old) (F.state flash.old) (O.written out.old) (O.faults out.old))
+        (outside (D.contents depot.new) (D.faults depot.new) (D.append_faults depot.new) (F.state flash.new) (O.written out.new) (O.faults out.new)) }
     ensures complete { (files : Files) → (input : TablesInput) → D.contents depot.old ≡ Some files
         → (Rose (D.faults depot.old) (D.faults depot.new) → ⊥) → (Rose (F.state flash.old).faults (F.state flash.new).faults → ⊥) → (Rose (O.faults out.old) (O.faults out.new) → ⊥)
         → tables_opening files words.now.schema.now words.now.tables.now ≡ Spelled input → is_faultless result ≡ true }
@@ -56,92 +52,20 @@ pub fn load<D: Depot, F: Flash, O: Sink>(
     ensures page_0 { leaves_page_0 result ≡ true → (F.state flash.new ≡ F.state flash.old) ⊎ HasBlankPage0 (F.state flash.new) }
     ensures unsealed { (F.state flash.new ≡ F.state flash.old) ⊎ IsUnsealed F.told (F.state flash.new) }
     ensures others { SameBut words.now.visible.now (D.contents depot.old) (D.contents depot.new) }
-    ensures sink { result ≡ Err failure.Sink → Rose (O.faults out.old) (O.faults out.new) }
-    ensures no_sink { (result ≡ Err failure.Sink → ⊥) → O.faults out.new ≡ O.faults out.old }
-    ensures flash { result ≡ Err failure.Flash → Rose (F.state flash.old).faults (F.state flash.new).faults }
-    ensures no_flash { (result ≡ Err failure.Flash → ⊥) → (F.state flash.new).faults ≡ (F.state flash.old).faults }
-    ensures depot { result ≡ Err failure.Depot → Rose (D.faults depot.old) (D.faults depot.new) }
-    ensures no_depot { (result ≡ Err failure.Depot → ⊥) → D.faults depot.new ≡ D.faults depot.old }
-    ensures appends { D.append_faults depot.new ≡ D.append_faults depot.old }
+    ensures causes { HasCauses (told_by result)
+        (outside (D.contents depot.old) (D.faults depot.old) (D.append_faults depot.old) (F.state flash.old) (O.written out.old) (O.faults out.old))
+        (outside (D.contents depot.new) (D.faults depot.new) (D.append_faults depot.new) (F.state flash.new) (O.written out.new) (O.faults out.new)) }
     ensures judged { (files : Files) → D.contents depot.old ≡ Some files → AreSure files (D.sure depot.old) → result ≡ Err failure.Depot
         → (rule : InputFault) → tables_opening files words.now.schema.now words.now.tables.now ≡ Broken rule → ⊥ }
 {
-    match open_tables(alloc, words.schema, words.tables, depot) {
-        Ok(input) => load_input(alloc, input, words, depot, flash, out),
-        Err(fault) => Err(failure_of(fault)),
-    }
-}
-
-/// Loads tables that were read.
-fn load_input<D: Depot, F: Flash, O: Sink>(
-    alloc: Global,
-    input: Input,
-    words: &LoadWords<'_>,
-    depot: &mut D,
-    flash: &mut F,
-    out: &mut O,
-) -> Result<(), LoadFailure>
-    requires database { IsDatabase input.schema input.tables }
-    ensures ends { EndsLoading F.told (loading input.schema input.tables (load_view words.now)) result
-        (load_side (F.state flash.old) (D.contents depot.old) (O.written out.old)) (load_side (F.state flash.new) (D.contents depot.new) (O.written out.new)) }
-    ensures nothing_written { writes_nothing result ≡ true → O.written out.new ≡ O.written out.old }
-    ensures nothing_made { makes_nothing result ≡ true → F.state flash.new ≡ F.state flash.old }
-    ensures file_left { leaves_file result ≡ true → D.contents depot.new ≡ D.contents depot.old }
-    ensures made_first { (F.state flash.new).page_count ≡ 0 → D.contents depot.new ≡ D.contents depot.old }
-    ensures never_other { (F.state flash.new ≡ F.state flash.old) ⊎ ((other : List ℕ) → (F.state flash.new).name ≡ Some other → other ≡ words.now.flash.now) }
-    ensures page_0 { leaves_page_0 result ≡ true → (F.state flash.new ≡ F.state flash.old) ⊎ HasBlankPage0 (F.state flash.new) }
-    ensures unsealed { (F.state flash.new ≡ F.state flash.old) ⊎ IsUnsealed F.told (F.state flash.new) }
-    ensures others { SameBut words.now.visible.now (D.contents depot.old) (D.contents depot.new) }
-    ensures sink { result ≡ Err failure.Sink → Rose (O.faults out.old) (O.faults out.new) }
-    ensures no_sink { (result ≡ Err failure.Sink → ⊥) → O.faults out.new ≡ O.faults out.old }
-    ensures flash { result ≡ Err failure.Flash → Rose (F.state flash.old).faults (F.state flash.new).faults }
-    ensures no_flash { (result ≡ Err failure.Flash → ⊥) → (F.state flash.new).faults ≡ (F.state flash.old).faults }
-    ensures depot { result ≡ Err failure.Depot → Rose (D.faults depot.old) (D.faults depot.new) }
-    ensures no_depot { (result ≡ Err failure.Depot → ⊥) → D.faults depot.new ≡ D.faults depot.old }
-    ensures appends { D.append_faults depot.new ≡ D.append_faults depot.old }
-{
-    match prepare(alloc, input, words.blocks) {
-        Ok(prepared) => load_prepared(alloc, &prepared, words, depot, flash, out),
-        Err(fault) => Err(fault),
-    }
-}
-
-/// Writes what was prepared, and prints the line.
-fn load_prepared<D: Depot, F: Flash, O: Sink>(
-    alloc: Global,
-    prepared: &Prepared,
-    words: &LoadWords<'_>,
-    depot: &mut D,
-    flash: &mut F,
-    out: &mut O,
-) -> Result<(), LoadFailure>
-    requires part { IsHidden prepared.now.cat prepared.now.hidden }
-    requires enough { layout.need prepared.now.cat ≤ 64 * prepared.now.blocks }
-    requires most { prepared.now.blocks ≤ most_blocks }
-    ensures ends { (schema : Schema) → (database : Database) → IsPrepared schema database words.now.blocks prepared.now
-        → EndsLoading F.told (loading schema database (load_view words.now)) result
-        (load_side (F.state flash.old) (D.contents depot.old) (O.written out.old)) (load_side (F.state flash.new) (D.contents depot.new) (O.written out.new)) }
-    ensures nothing_written { writes_nothing result ≡ true → O.written out.new ≡ O.written out.old }
-    ensures made { makes_nothing result ≡ false }
-    ensures file_left { leaves_file result ≡ true → D.contents depot.new ≡ D.contents depot.old }
-    ensures made_first { (F.state flash.new).page_count ≡ 0 → D.contents depot.new ≡ D.contents depot.old }
-    ensures never_other { (other : List ℕ) → (F.state flash.new).name ≡ Some other → other ≡ words.now.flash.now }
-    ensures page_0 { leaves_page_0 result ≡ true → HasBlankPage0 (F.state flash.new) }
-    ensures unsealed { IsUnsealed F.told (F.state flash.new) }
-    ensures others { SameBut words.now.visible.now (D.contents depot.old) (D.contents depot.new) }
-    ensures sink { result ≡ Err failure.Sink → Rose (O.faults out.old) (O.faults out.new) }
-    ensures no_sink { (result ≡ Err failure.Sink → ⊥) → O.faults out.new ≡ O.faults out.old }
-    ensures flash { result ≡ Err failure.Flash → Rose (F.state flash.old).faults (F.state flash.new).faults }
-    ensures no_flash { (result ≡ Err failure.Flash → ⊥) → (F.state flash.new).faults ≡ (F.state flash.old).faults }
-    ensures depot { result ≡ Err failure.Depot → Rose (D.faults depot.old) (D.faults depot.new) }
-    ensures no_depot { (result ≡ Err failure.Depot → ⊥) → D.faults depot.new ≡ D.faults depot.old }
-    ensures appends { D.append_faults depot.new ≡ D.append_faults depot.old }
-{
-    match make_both(alloc, prepared, words, depot, flash) {
-        Ok(()) => match print_line(&prepared.cat, BLOCK_PAGES * prepared.blocks, out) {
-            Ok(()) => Ok(()),
-            Err(_) => Err(LoadFailure::Sink),
-        },
-        Err(fault) => Err(fault),
+    let input = match open_tables(alloc, words.schema, words.tables, depot) {
+        Ok(input) => input,
+        Err(fault) => return Err(failure_of(fault)),
+    };
+    let prepared = prepare(alloc, input, words.blocks)?;
+    make_both(alloc, &prepared, words, depot, flash)?;
+    match print_line(&prepared.cat, BLOCK_PAGES * prepared.blocks, out) {
+        Ok(()) => Ok(()),
+        Err(_) => Err(LoadFailure::Sink),
     }
 }

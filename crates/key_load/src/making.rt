@@ -1,16 +1,17 @@
 //! The writing of both ends' files.
 
-ghost use Rattle.std.specs.Prelude.{◌≡◌, ◌⊎◌, ◌<◌, ◌≤◌, ◌*◌, true, false, Some, Err, OnOk, ℕ, List};
-ghost use Rattle.ghost_model.specs.core.Causes.{Rose};
-ghost use Rattle.ghost_model.specs.forms.Flash.{HoldsCatalog, HoldsFiles, Holds, IsHidden};
+ghost use Rattle.std.specs.Prelude.{◌≡◌, ◌<◌, ◌≤◌, ◌*◌, true, false, Some, Err, OnOk, ℕ, List};
+ghost use Rattle.ghost_model.specs.forms.Flash.{HoldsCatalog, HoldsFiles, IsHidden};
 ghost use Rattle.ghost_model.specs.forms.Layout as layout;
 ghost use Rattle.ghost_model.specs.core.Split.{Hidden};
 ghost use Rattle.edge_traits.specs.Devices.{IsErased};
 ghost use Rattle.edge_traits.specs.Files.{SameBut, with_file};
 ghost use Rattle.flash_build.specs.Sealing.{SpellsNoCatalog};
 ghost use Rattle.key_words.specs.Blocks.{most_blocks};
-ghost use Rattle.key_load.specs.Preparing.{IsBuilt};
-ghost use Rattle.key_load.specs.Results.{IsOfMaking, IsOfWriting, leaves_file, leaves_page_0};
+ghost use Rattle.key_words.specs.Views.{load_view};
+ghost use Rattle.key_inputs.specs.Outside.{IsTold};
+ghost use Rattle.key_load.specs.Preparing.{IsMade, IsMadeInOrder};
+ghost use Rattle.key_load.specs.Results.{HasBlankPage0, IsOfMaking, IsOfWriting, IsUnsealed, leaves_file, leaves_page_0, told_by};
 ghost use Rattle.key_load.specs.declared.failures.LoadFailure.TheVariants as failure;
 
 use crate::failures::LoadFailure;
@@ -33,27 +34,18 @@ pub(crate) fn make_both<D: Depot, F: Flash>(
     requires part { IsHidden prepared.now.cat prepared.now.hidden }
     requires enough { layout.need prepared.now.cat ≤ 64 * prepared.now.blocks }
     requires most { prepared.now.blocks ≤ most_blocks }
-    ensures holds { OnOk result (F.told ≡ true → Holds (F.state flash.new).page prepared.now.cat prepared.now.hidden) }
-    ensures named { OnOk result ((F.state flash.new).name ≡ Some words.now.flash.now) }
-    ensures never_other { (other : List ℕ) → (F.state flash.new).name ≡ Some other → other ≡ words.now.flash.now }
-    ensures pages { OnOk result ((F.state flash.new).page_count ≡ 64 * prepared.now.blocks) }
-    ensures file { OnOk result (D.contents depot.new ≡ with_file (D.contents depot.old) words.now.visible.now prepared.now.image.items) }
+    ensures made { OnOk result (IsMade F.told prepared.now (load_view words.now) (D.contents depot.old) (D.contents depot.new) (F.state flash.new)) }
     ensures kinds { IsOfMaking result }
-    ensures unsealed { 0 < (F.state flash.new).page_count → F.told ≡ true → (F.state flash.new).blank 0 ≡ true → SpellsNoCatalog (F.state flash.new).page }
-    ensures sealed_last { 0 < (F.state flash.new).page_count → (F.state flash.new).blank 0 ≡ false → D.contents depot.new ≡ with_file (D.contents depot.old) words.now.visible.now prepared.now.image.items }
-    ensures page_0 { leaves_page_0 result ≡ true → 0 < (F.state flash.new).page_count → (F.state flash.new).blank 0 ≡ true }
-    ensures files_first { 0 < (F.state flash.new).page_count → (F.state flash.new).blank 0 ≡ false → F.told ≡ true → HoldsFiles (F.state flash.new).page prepared.now.cat prepared.now.hidden }
-    ensures built_first { (D.contents depot.new ≡ D.contents depot.old) ⊎ IsBuilt F.told prepared.now words.now.flash.now (F.state flash.new) }
-    ensures depot_last { result ≡ Err failure.Depot → IsBuilt F.told prepared.now words.now.flash.now (F.state flash.new) }
-    ensures flash_file { result ≡ Err failure.Flash → (D.contents depot.new ≡ D.contents depot.old) ⊎ (D.contents depot.new ≡ with_file (D.contents depot.old) words.now.visible.now prepared.now.image.items) }
+    ensures in_order { IsMadeInOrder F.told prepared.now (load_view words.now) result (D.contents depot.old) (D.contents depot.new) (F.state flash.new) }
+    ensures never_other { (other : List ℕ) → (F.state flash.new).name ≡ Some other → other ≡ words.now.flash.now }
+    ensures page_0 { leaves_page_0 result ≡ true → HasBlankPage0 (F.state flash.new) }
+    ensures unsealed { IsUnsealed F.told (F.state flash.new) }
     ensures file_left { leaves_file result ≡ true → D.contents depot.new ≡ D.contents depot.old }
     ensures made_first { (F.state flash.new).page_count ≡ 0 → D.contents depot.new ≡ D.contents depot.old }
     ensures others { SameBut words.now.visible.now (D.contents depot.old) (D.contents depot.new) }
-    ensures flash { result ≡ Err failure.Flash → Rose (F.state flash.old).faults (F.state flash.new).faults }
-    ensures no_flash { (result ≡ Err failure.Flash → ⊥) → (F.state flash.new).faults ≡ (F.state flash.old).faults }
-    ensures depot { result ≡ Err failure.Depot → Rose (D.faults depot.old) (D.faults depot.new) }
-    ensures no_depot { (result ≡ Err failure.Depot → ⊥) → D.faults depot.new ≡ D.faults depot.old }
+    ensures depot { IsTold (told_by result).depot (D.faults depot.old) (D.faults depot.new) }
     ensures appends { D.append_faults depot.new ≡ D.append_faults depot.old }
+    ensures flash { IsTold (told_by result).flash (F.state flash.old).faults (F.state flash.new).faults }
 {
     a_catalog_has_a_layout(&prepared.cat);
     match make_and_build(
@@ -92,10 +84,8 @@ fn write_both<D: Depot, F: Flash>(
     ensures page_0 { leaves_page_0 result ≡ true → (F.state flash.new).blank 0 ≡ true }
     ensures sealed_last { (F.state flash.new).blank 0 ≡ false → D.contents depot.new ≡ with_file (D.contents depot.old) words.now.visible.now prepared.now.image.items }
     ensures others { SameBut words.now.visible.now (D.contents depot.old) (D.contents depot.new) }
-    ensures flash { result ≡ Err failure.Flash → Rose (F.state flash.old).faults (F.state flash.new).faults }
-    ensures no_flash { (result ≡ Err failure.Flash → ⊥) → (F.state flash.new).faults ≡ (F.state flash.old).faults }
-    ensures depot { result ≡ Err failure.Depot → Rose (D.faults depot.old) (D.faults depot.new) }
-    ensures no_depot { (result ≡ Err failure.Depot → ⊥) → D.faults depot.new ≡ D.faults depot.old }
+    ensures depot { IsTold (told_by result).depot (D.faults depot.old) (D.faults depot.new) }
+    ensures flash { IsTold (told_by result).flash (F.state flash.old).faults (F.state flash.new).faults }
     ensures appends { D.append_faults depot.new ≡ D.append_faults depot.old }
 {
     match depot.replace(words.visible, &prepared.image) {

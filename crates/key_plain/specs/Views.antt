@@ -7,6 +7,7 @@ use Rattle.ghost_model.specs.core.Printed.{printed}
 use Rattle.ghost_model.specs.core.Texts.{most_script_bytes, most_texts, texts_of}
 use Rattle.edge_traits.specs.Written.{grown, GrowsByFront}
 use Rattle.key_inputs.specs.Openings.{Opening, Spelled, Broken}
+use Rattle.key_inputs.specs.Outside.{Verdicts, Risen, Same, verdicts}
 use Rattle.key_inputs.specs.Views.{rule_of}
 use Rattle.key_plain.specs.Openings.{PlainInput, printed_by}
 use Rattle.key_plain.specs.declared.faults.PlainFault.{PlainFault}
@@ -71,3 +72,11 @@ abbrev pub writes_nothing : {T : Type 0} → Result T PlainFault → Bool
 writes_nothing (Ok _) = false
 writes_nothing (Err fault.Sink) = false
 writes_nothing _ = true
+
+-- what an outcome tells of the counts of faults of the sink, the depot, its appends and the flash
+abbrev pub told_by : {T : Type 0} → Result T PlainFault → Verdicts
+told_by (Ok _) = verdicts Same Same Same Same
+told_by (Err fault.NoMemory) = verdicts Same Same Same Same
+told_by (Err fault.Depot) = verdicts Same Risen Same Same
+told_by (Err (fault.Input broken)) = verdicts Same Same Same Same
+told_by (Err fault.Sink) = verdicts Risen Same Same Same

@@ -2,11 +2,13 @@
 
 ghost use Rattle.std.specs.Prelude.{◌≡◌, ◌⊎◌, true, Some, Ok, Err};
 ghost use Rattle.ghost_model.specs.core.Causes.{Rose};
+ghost use Rattle.edge_traits.specs.Devices.{Device};
 ghost use Rattle.edge_traits.specs.Files.{Files, AreSure};
 ghost use Rattle.key_words.specs.Views.{plain_view};
 ghost use Rattle.key_inputs.specs.Openings.{Spelled, Missing};
+ghost use Rattle.key_inputs.specs.Outside.{HasCauses, outside};
 ghost use Rattle.key_plain.specs.Openings.{PlainInput, plain_opening};
-ghost use Rattle.key_plain.specs.Views.{EndsPlainCall, PrintsSomeRead, writes_nothing};
+ghost use Rattle.key_plain.specs.Views.{EndsPlainCall, PrintsSomeRead, told_by, writes_nothing};
 
 use crate::faults::{PlainFault, fault_of};
 use crate::opening::open;
@@ -19,7 +21,8 @@ use std::alloc::Global;
 /// Does the command `plain`: reads the schema, the files of its tables and then the script, and prints for each text of
 /// the script, in their order, the rows of its answer and their number, or the word of its refusal.
 ///
-/// The first broken rule of the files is told before anything is printed. After a failed write no further write is made.
+/// The first broken rule of the files is told before anything is printed. After a failed write no further write is made. Whatever
+/// flash lies beside is left alone.
 pub fn plain<D: Depot, O: Sink>(
     alloc: Global,
     words: &PlainWords<'_>,
@@ -33,11 +36,9 @@ pub fn plain<D: Depot, O: Sink>(
         → plain_opening files (plain_view words.now) ≡ Spelled input → (result ≡ Ok tt) ⊎ (result ≡ Err PlainFault.NoMemory) }
     ensures prints { PrintsSomeRead result (O.written out.old) (O.written out.new) }
     ensures nothing_written { writes_nothing result ≡ true → O.written out.new ≡ O.written out.old }
-    ensures sink { result ≡ Err PlainFault.Sink → Rose (O.faults out.old) (O.faults out.new) }
-    ensures no_sink { (result ≡ Err PlainFault.Sink → ⊥) → O.faults out.new ≡ O.faults out.old }
-    ensures depot { result ≡ Err PlainFault.Depot → Rose (D.faults depot.old) (D.faults depot.new) }
-    ensures no_depot { (result ≡ Err PlainFault.Depot → ⊥) → D.faults depot.new ≡ D.faults depot.old }
-    ensures appends { D.append_faults depot.new ≡ D.append_faults depot.old }
+    ensures causes { (device : Device) → HasCauses (told_by result)
+        (outside (D.contents depot.old) (D.faults depot.old) (D.append_faults depot.old) device (O.written out.old) (O.faults out.old))
+        (outside (D.contents depot.new) (D.faults depot.new) (D.append_faults depot.new) device (O.written out.new) (O.faults out.new)) }
     ensures same { D.contents depot.new ≡ D.contents depot.old }
     ensures missing { (files : Files) → D.contents depot.old ≡ Some files → AreSure files (D.sure depot.old) → result ≡ Err PlainFault.Depot
         → plain_opening files (plain_view words.now) ≡ Missing }

@@ -1,18 +1,15 @@
 //! The command.
 
-ghost use Rattle.std.specs.Prelude.{◌≡◌, ◌≤◌, ℕ, [], List, true, false, min, Some, Err, IfOk, IfErr, OnErr};
+ghost use Rattle.std.specs.Prelude.{◌≡◌, ◌≤◌, ℕ, List, true, min, Some, Err, IfOk, IfErr, OnErr};
 ghost use Rattle.ghost_model.specs.core.Causes.{Rose, last_count};
 ghost use Rattle.ghost_model.specs.core.Channel as channel;
 ghost use Rattle.edge_traits.specs.Files.{Files, AreSure};
 ghost use Rattle.key_words.specs.Views.{query_view};
 ghost use Rattle.key_inputs.specs.Openings.{Spelled, Missing};
+ghost use Rattle.key_inputs.specs.Outside.{HasCauses, outside};
 ghost use Rattle.key_inputs.specs.Scripts.{script_opening};
-ghost use Rattle.key_lines.specs.Handing.{handed};
-ghost use Rattle.key_exec.specs.Rows.{PrintsSome};
-ghost use Rattle.key_session.specs.Running.{is_sink, blames_flash, spares_flash};
-ghost use Rattle.key_session.specs.Telling.{session_side};
 ghost use Rattle.key_query.specs.PublicPages.{HasCatalog};
-ghost use Rattle.key_query.specs.Results.{Runs, TellsScript, TellsFlash, is_faultless, is_of_opened_flash, is_of_script};
+ghost use Rattle.key_query.specs.Results.{Runs, IsUnbegun, TellsScript, TellsFlash, is_faultless, is_of_opened_flash, is_of_script, told_by};
 ghost use Rattle.key_query.specs.declared.failures.QueryFailure.TheVariants as failure;
 
 use crate::failures::QueryFailure;
@@ -40,33 +37,24 @@ pub fn query<D: Depot, F: Flash, L: Link, O: Sink>(
     link: &mut L,
     out: &mut O,
 ) -> Result<Tally, QueryFailure>
-    ensures ran { IfOk result (λ tally. Runs (λ journal. L.went link.old journal link.new) (L.faults link.old) (L.faults link.new) F.told (query_view words.now) (D.contents depot.old)
-        (session_side false (O.faults out.old) (O.written out.old) (F.state flash.old)) (session_side (is_sink tally.status) (O.faults out.new) (O.written out.new) (F.state flash.new)) tally) }
-    ensures prints { IfOk result (λ tally. PrintsSome (handed false (O.faults out.old) (O.written out.old)) (handed (is_sink tally.status) (O.faults out.new) (O.written out.new))) }
-    ensures sink_rose { IfOk result (λ tally. is_sink tally.status ≡ true → Rose (O.faults out.old) (O.faults out.new)) }
-    ensures sink_same { IfOk result (λ tally. is_sink tally.status ≡ false → O.faults out.new ≡ O.faults out.old) }
-    ensures flash_rose { IfOk result (λ tally. blames_flash tally.status ≡ true → Rose (F.state flash.old).faults (F.state flash.new).faults) }
-    ensures flash_same { IfOk result (λ tally. spares_flash tally.status ≡ true → (F.state flash.new).faults ≡ (F.state flash.old).faults) }
+    ensures ran { IfOk result (λ tally. Runs (λ journal. L.went link.old journal link.new) (L.faults link.old) (L.faults link.new) F.told (query_view words.now)
+        (outside (D.contents depot.old) (D.faults depot.old) (D.append_faults depot.old) (F.state flash.old) (O.written out.old) (O.faults out.old))
+        (outside (D.contents depot.new) (D.faults depot.new) (D.append_faults depot.new) (F.state flash.new) (O.written out.new) (O.faults out.new)) tally) }
+    ensures unbegun { OnErr result (IsUnbegun (λ journal. L.went link.old journal link.new) (L.faults link.old) (L.faults link.new) F.told
+        (outside (D.contents depot.old) (D.faults depot.old) (D.append_faults depot.old) (F.state flash.old) (O.written out.old) (O.faults out.old))
+        (outside (D.contents depot.new) (D.faults depot.new) (D.append_faults depot.new) (F.state flash.new) (O.written out.new) (O.faults out.new))) }
     ensures script { IfErr result (λ fault. TellsScript (D.contents depot.old) words.now.script.now fault) }
     ensures device { IfErr result (λ fault. TellsFlash F.told words.now.flash.now (F.state flash.new) fault) }
     ensures complete { (files : Files) → (script : List ℕ) → (cat : channel.Catalog) → F.told ≡ true → D.contents depot.old ≡ Some files
         → (Rose (D.faults depot.old) (D.faults depot.new) → ⊥) → (Rose (F.state flash.old).faults (F.state flash.new).faults → ⊥)
         → script_opening files words.now.script.now ≡ Spelled script → HasCatalog (F.state flash.new) cat → is_faultless result ≡ true }
-    ensures no_move { OnErr result (L.went link.old [] link.new) }
-    ensures link_left { OnErr result (L.faults link.new ≡ L.faults link.old) }
-    ensures nothing_written { OnErr result (O.written out.new ≡ O.written out.old) }
-    ensures sink_left { OnErr result (O.faults out.new ≡ O.faults out.old) }
-    ensures no_deep_read { OnErr result ((F.state flash.new).deep_reads ≡ (F.state flash.old).deep_reads) }
-    ensures page { F.told ≡ true → OnErr result ((F.state flash.new).page ≡ (F.state flash.old).page) }
-    ensures flash { result ≡ Err failure.Flash → Rose (F.state flash.old).faults (F.state flash.new).faults }
-    ensures no_flash { IfErr result (λ fault. (fault ≡ failure.Flash → ⊥) → (F.state flash.new).faults ≡ (F.state flash.old).faults) }
+    ensures causes { HasCauses (told_by result)
+        (outside (D.contents depot.old) (D.faults depot.old) (D.append_faults depot.old) (F.state flash.old) (O.written out.old) (O.faults out.old))
+        (outside (D.contents depot.new) (D.faults depot.new) (D.append_faults depot.new) (F.state flash.new) (O.written out.new) (O.faults out.new)) }
     ensures flash_faults { min (F.state flash.old).faults last_count ≤ (F.state flash.new).faults }
     ensures link_faults { L.faults link.old ≤ L.faults link.new }
     ensures attached { IfErr result (λ fault. is_of_opened_flash fault ≡ true → Rose (F.state flash.old).calls (F.state flash.new).calls) }
     ensures flash_left { IfErr result (λ fault. is_of_script fault ≡ true → F.state flash.new ≡ F.state flash.old) }
-    ensures depot { result ≡ Err failure.Depot → Rose (D.faults depot.old) (D.faults depot.new) }
-    ensures no_depot { (result ≡ Err failure.Depot → ⊥) → D.faults depot.new ≡ D.faults depot.old }
-    ensures appends { D.append_faults depot.new ≡ D.append_faults depot.old }
     ensures same { D.contents depot.new ≡ D.contents depot.old }
     ensures missing { (files : Files) → D.contents depot.old ≡ Some files → AreSure files (D.sure depot.old) → result ≡ Err failure.Depot → script_opening files words.now.script.now ≡ Missing }
 {

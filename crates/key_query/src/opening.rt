@@ -1,17 +1,17 @@
 //! The opening of a session.
 
-ghost use Rattle.std.specs.Prelude.{◌≡◌, ◌≤◌, ℕ, List, length, true, min, Some, Err, IfOk, IfErr};
+ghost use Rattle.std.specs.Prelude.{◌≡◌, ◌≤◌, ℕ, List, true, min, Some, Err, IfOk, IfErr};
 ghost use Rattle.ghost_model.specs.core.Causes.{Rose, last_count};
 ghost use Rattle.ghost_model.specs.core.Channel as channel;
 ghost use Rattle.edge_traits.specs.Files.{Files, AreSure};
 ghost use Rattle.key_words.specs.Views.{query_view};
 ghost use Rattle.key_inputs.specs.Openings.{Spelled, Missing};
+ghost use Rattle.key_inputs.specs.Outside.{IsTold};
 ghost use Rattle.key_inputs.specs.Scripts.{script_opening};
-ghost use Rattle.page_pool.specs.Pools.{IsIdle};
 ghost use Rattle.key_exec.specs.Plans.{Suffices};
 ghost use Rattle.key_query.specs.Openings.{IsOpened};
 ghost use Rattle.key_query.specs.PublicPages.{HasCatalog};
-ghost use Rattle.key_query.specs.Results.{TellsScript, TellsFlash, IsOfFlash, is_faultless, is_of_opened_flash, is_of_script};
+ghost use Rattle.key_query.specs.Results.{KeepsDeep, TellsScript, TellsFlash, IsOfFlash, is_faultless, is_of_opened_flash, is_of_script, told_by_opening};
 ghost use Rattle.key_query.specs.declared.failures.QueryFailure.TheVariants as failure;
 
 use crate::failures::{QueryFailure, failure_of};
@@ -44,11 +44,8 @@ fn catalog_of<F: Flash>(flash: &mut F) -> Result<Catalog, QueryFailure>
     ensures device { (name : List ℕ) → (F.state flash.old).name ≡ Some name → IfErr result (λ fault. TellsFlash F.told name (F.state flash.new) fault) }
     ensures named { (F.state flash.new).name ≡ (F.state flash.old).name }
     ensures kinds { IfErr result (λ fault. IsOfFlash fault) }
-    ensures page { (F.state flash.new).page ≡ (F.state flash.old).page }
-    ensures deep_reads { (F.state flash.new).deep_reads ≡ (F.state flash.old).deep_reads }
-    ensures flash { result ≡ Err failure.Flash → Rose (F.state flash.old).faults (F.state flash.new).faults }
-    ensures no_flash { (result ≡ Err failure.Flash → ⊥) → (F.state flash.new).faults ≡ (F.state flash.old).faults }
-    ensures never_falls { (F.state flash.old).faults ≤ (F.state flash.new).faults }
+    ensures kept { KeepsDeep F.told (F.state flash.old) (F.state flash.new) }
+    ensures flash { IsTold (told_by_opening result).flash (F.state flash.old).faults (F.state flash.new).faults }
     ensures calls_stay { min (F.state flash.old).calls last_count ≤ (F.state flash.new).calls }
     ensures memory { result ≡ Err failure.NoMemory → ⊥ }
 {
@@ -74,48 +71,14 @@ fn open_flash<F: Flash>(alloc: Global, name: &str, flash: &mut F) -> Result<Cata
     ensures named { IfOk result (λ cat. (F.state flash.new).name ≡ Some name.now) }
     ensures device { IfErr result (λ fault. TellsFlash F.told name.now (F.state flash.new) fault) }
     ensures kinds { IfErr result (λ fault. IsOfFlash fault) }
-    ensures page { F.told ≡ true → (F.state flash.new).page ≡ (F.state flash.old).page }
-    ensures deep_reads { (F.state flash.new).deep_reads ≡ (F.state flash.old).deep_reads }
-    ensures flash { result ≡ Err failure.Flash → Rose (F.state flash.old).faults (F.state flash.new).faults }
-    ensures no_flash { (result ≡ Err failure.Flash → ⊥) → (F.state flash.new).faults ≡ (F.state flash.old).faults }
-    ensures never_falls { (F.state flash.old).faults ≤ (F.state flash.new).faults }
+    ensures kept { KeepsDeep F.told (F.state flash.old) (F.state flash.new) }
+    ensures flash { IsTold (told_by_opening result).flash (F.state flash.old).faults (F.state flash.new).faults }
     ensures attached { Rose (F.state flash.old).calls (F.state flash.new).calls }
 {
     match flash.attach(alloc, name) {
         Ok(_pages) => catalog_of(flash),
         Err(AttachFault::NoMemory) => Err(QueryFailure::NoMemory),
         Err(AttachFault::Failed) => Err(QueryFailure::Flash),
-    }
-}
-
-/// Opens a session over a script that was read.
-fn open_over<F: Flash>(
-    alloc: Global,
-    script: Vec<u8>,
-    words: &QueryWords<'_>,
-    flash: &mut F,
-) -> Result<Opened, QueryFailure>
-    ensures script { IfOk result (λ opened. opened.script ≡ script) }
-    ensures catalog { IfOk result (λ opened. F.told ≡ true → HasCatalog (F.state flash.new) opened.cat) }
-    ensures suffices { IfOk result (λ opened. Suffices opened.cat (F.state flash.new)) }
-    ensures idle { IfOk result (λ opened. IsIdle opened.pool) }
-    ensures buffers { IfOk result (λ opened. length opened.pool.pages ≡ words.now.buffers) }
-    ensures named { IfOk result (λ opened. (F.state flash.new).name ≡ Some words.now.flash.now) }
-    ensures device { IfErr result (λ fault. TellsFlash F.told words.now.flash.now (F.state flash.new) fault) }
-    ensures kinds { IfErr result (λ fault. IsOfFlash fault) }
-    ensures page { F.told ≡ true → (F.state flash.new).page ≡ (F.state flash.old).page }
-    ensures deep_reads { (F.state flash.new).deep_reads ≡ (F.state flash.old).deep_reads }
-    ensures flash { result ≡ Err failure.Flash → Rose (F.state flash.old).faults (F.state flash.new).faults }
-    ensures no_flash { (result ≡ Err failure.Flash → ⊥) → (F.state flash.new).faults ≡ (F.state flash.old).faults }
-    ensures never_falls { (F.state flash.old).faults ≤ (F.state flash.new).faults }
-    ensures attached { Rose (F.state flash.old).calls (F.state flash.new).calls }
-{
-    match open_flash(alloc, words.flash, flash) {
-        Ok(cat) => match PagePool::new(alloc, words.buffers) {
-            Ok(pool) => Ok(Opened { script, cat, pool }),
-            Err(_) => Err(QueryFailure::NoMemory),
-        },
-        Err(fault) => Err(fault),
     }
 }
 
@@ -132,21 +95,22 @@ pub(crate) fn open<D: Depot, F: Flash>(
     ensures complete { (files : Files) → (script : List ℕ) → (cat : channel.Catalog) → F.told ≡ true → D.contents depot.old ≡ Some files
         → (Rose (D.faults depot.old) (D.faults depot.new) → ⊥) → (Rose (F.state flash.old).faults (F.state flash.new).faults → ⊥)
         → script_opening files words.now.script.now ≡ Spelled script → HasCatalog (F.state flash.new) cat → is_faultless result ≡ true }
-    ensures page { F.told ≡ true → (F.state flash.new).page ≡ (F.state flash.old).page }
-    ensures deep_reads { (F.state flash.new).deep_reads ≡ (F.state flash.old).deep_reads }
-    ensures flash { result ≡ Err failure.Flash → Rose (F.state flash.old).faults (F.state flash.new).faults }
-    ensures no_flash { (result ≡ Err failure.Flash → ⊥) → (F.state flash.new).faults ≡ (F.state flash.old).faults }
-    ensures never_falls { (F.state flash.old).faults ≤ (F.state flash.new).faults }
+    ensures kept { KeepsDeep F.told (F.state flash.old) (F.state flash.new) }
+    ensures flash { IsTold (told_by_opening result).flash (F.state flash.old).faults (F.state flash.new).faults }
     ensures attached { IfErr result (λ fault. is_of_opened_flash fault ≡ true → Rose (F.state flash.old).calls (F.state flash.new).calls) }
     ensures flash_left { IfErr result (λ fault. is_of_script fault ≡ true → F.state flash.new ≡ F.state flash.old) }
-    ensures depot { result ≡ Err failure.Depot → Rose (D.faults depot.old) (D.faults depot.new) }
-    ensures no_depot { (result ≡ Err failure.Depot → ⊥) → D.faults depot.new ≡ D.faults depot.old }
+    ensures depot { IsTold (told_by_opening result).depot (D.faults depot.old) (D.faults depot.new) }
     ensures appends { D.append_faults depot.new ≡ D.append_faults depot.old }
     ensures same { D.contents depot.new ≡ D.contents depot.old }
     ensures missing { (files : Files) → D.contents depot.old ≡ Some files → AreSure files (D.sure depot.old) → result ≡ Err failure.Depot → script_opening files words.now.script.now ≡ Missing }
 {
-    match open_script(alloc, words.script, depot) {
-        Ok(script) => open_over(alloc, script, words, flash),
-        Err(fault) => Err(failure_of(fault)),
+    let script = match open_script(alloc, words.script, depot) {
+        Ok(script) => script,
+        Err(fault) => return Err(failure_of(fault)),
+    };
+    let cat = open_flash(alloc, words.flash, flash)?;
+    match PagePool::new(alloc, words.buffers) {
+        Ok(pool) => Ok(Opened { script, cat, pool }),
+        Err(_) => Err(QueryFailure::NoMemory),
     }
 }
