@@ -19,8 +19,8 @@ const ROOM: Room = Room {
 };
 
 const LINK_ROOM: LinkRoom = LinkRoom {
-    moves: 2_000,
-    bytes: 100_000,
+    moves: 220_000,
+    bytes: 500_000,
 };
 
 /// How many bytes are printed at most.
@@ -159,6 +159,25 @@ impl Bench {
     pub fn say(&mut self, text: &str) -> Result<(), AllocError> {
         let bytes = bytes_of(self.alloc, text)?;
         self.link.peer.bytes.extend_from_slice(&bytes)
+    }
+
+    /// Lets the other end say the bytes of a file more; answers whether there is such a file.
+    pub fn say_file(&mut self, name: &str) -> Result<bool, AllocError> {
+        match self.depot.file(name) {
+            None => Ok(false),
+            Some(bytes) => {
+                self.link.peer.bytes.extend_from_slice(bytes)?;
+                Ok(true)
+            }
+        }
+    }
+
+    /// Lets all its bytes come one at a time.
+    pub fn drip(&mut self) -> Result<(), AllocError> {
+        for _ in 0..self.link.peer.bytes.len() {
+            self.link.peer.pieces.push(1)?;
+        }
+        Ok(())
     }
 
     /// Lets its bytes come in pieces of these sizes.

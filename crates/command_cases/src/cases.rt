@@ -1,7 +1,7 @@
 //! The directives, one by one.
 
 use crate::bench::Bench;
-use crate::moves::{put_count, put_moves};
+use crate::moves::{put_count, put_moves, taken_in};
 use crate::pages::put_pages;
 use crate::rows::{put_brief, rows_of};
 use crate::texts::{bytes_of, number_of, put, put_lines, put_raw};
@@ -88,7 +88,13 @@ impl Cases {
             Directive::Blocks | Directive::Page | Directive::Fail => {
                 self.arrange(directive, rest)
             }
-            Directive::Say | Directive::Cut | Directive::Port => self.speak(directive, rest),
+            Directive::Say
+            | Directive::SayFile
+            | Directive::Cut
+            | Directive::Drip
+            | Directive::Port => self.speak(directive, rest),
+            Directive::MovesTo => self.put_told(rest),
+            Directive::TakenTo => self.put_taken(rest),
             _ => self.tell(directive, rest),
         }
     }
@@ -158,7 +164,9 @@ impl Cases {
     fn speak(&mut self, directive: Directive, rest: &str) -> Result<bool, AllocError> {
         match directive {
             Directive::Say => self.bench.say(rest)?,
+            Directive::SayFile => return self.bench.say_file(rest),
             Directive::Cut => self.bench.cut(rest)?,
+            Directive::Drip => self.bench.drip()?,
             _ => return self.bench.port(number_of(rest)),
         }
         Ok(true)
@@ -212,6 +220,26 @@ impl Cases {
             },
         }
         Ok(true)
+    }
+
+    /// Puts the file of the moves of the link; answers whether they are told and there was room.
+    fn put_told(&mut self, name: &str) -> Result<bool, AllocError> {
+        let Some(journal) = self.bench.link.journal() else {
+            return Ok(false);
+        };
+        let mut lines = Vec::new(self.alloc);
+        put_moves(self.alloc, &mut lines, &journal)?;
+        Ok(self.bench.depot.put(name, &lines))
+    }
+
+    /// Puts the file of all bytes that were taken by the moves of a journal; answers whether there is one, and was room.
+    fn put_taken(&mut self, names: &str) -> Result<bool, AllocError> {
+        let (name, journal) = first_of(names);
+        let Some(lines) = self.bench.depot.file(journal) else {
+            return Ok(false);
+        };
+        let taken = taken_in(self.alloc, lines)?;
+        Ok(self.bench.depot.put(name, &taken))
     }
 
     /// Tells how many calls of each object were made.

@@ -17,7 +17,9 @@
 //! | `page N TEXT` | a page of these bytes, and then bytes 0xFF; a flash that was not made is made with all its room |
 //! | `fail OBJECT N N ..` | counts the calls of the depot, flash, link or out anew, and lets these fail, from 1 |
 //! | `say TEXT` | the other end of the link says these bytes more |
+//! | `say-file NAME` | the other end of the link says the bytes of a file more |
 //! | `cut N N ..` | its bytes come in pieces of these sizes |
+//! | `drip` | all its bytes come one at a time |
 //! | `port N` | the port that a listening gets |
 //! | `also WORDS` | puts these words behind those of each further `key query` of the case |
 //! | `again` | begins anew, but leaves files and flash |
@@ -29,6 +31,8 @@
 //! | `same NAME NAME` | prints whether two files are there and have the same bytes |
 //! | `pages` | prints how many pages the flash has, and those that are not blank, up to their last byte that is not 0xFF |
 //! | `moves`, `moves-count` | prints the moves of the link, or how many they are |
+//! | `moves-to NAME` | the file of the moves of the link |
+//! | `taken-to NAME JOURNAL` | the file of all bytes that were taken by the moves of a journal |
 //!
 //! An empty line is passed over; any other is printed behind a `?`.
 #![tactic(auto)]

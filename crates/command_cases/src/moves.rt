@@ -93,6 +93,39 @@ pub fn put_moves(
     Ok(())
 }
 
+/// The value of a hexadecimal digit, small letters alone.
+fn digit_of(digit: u8) -> Option<u8> {
+    match digit {
+        b'0'..=b'9' => Some(digit - b'0'),
+        b'a'..=b'f' => Some(digit - b'a' + 10),
+        _ => None,
+    }
+}
+
+/// Adds the bytes that a take's answer spells; the words `failed` and `end` spell none.
+fn add_taken(bytes: &mut Vec<u8>, answer: &[u8]) -> Result<(), AllocError> {
+    for pair in answer.chunks_exact(2) {
+        let [high, low] = pair else { return Ok(()) };
+        let (Some(high), Some(low)) = (digit_of(*high), digit_of(*low)) else {
+            return Ok(());
+        };
+        bytes.push(high * 16 + low)?;
+    }
+    Ok(())
+}
+
+/// All bytes that were taken by the moves of a journal.
+pub fn taken_in(alloc: Global, journal: &[u8]) -> Result<Vec<u8>, AllocError> {
+    let mut taken = Vec::new(alloc);
+    for line in journal.split(|byte| *byte == b'\n') {
+        if let Some(rest) = line.strip_prefix(b"take ") {
+            let answer = rest.rsplit(|byte| *byte == b' ').next().unwrap_or(&[]);
+            add_taken(&mut taken, answer)?;
+        }
+    }
+    Ok(taken)
+}
+
 /// Adds how many moves there are, and whether the last one closed the link.
 pub fn put_count(
     alloc: Global,

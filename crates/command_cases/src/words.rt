@@ -14,7 +14,9 @@ pub enum Directive {
     Pages,
     Fail,
     Say,
+    SayFile,
     Cut,
+    Drip,
     Port,
     Also,
     Again,
@@ -27,9 +29,11 @@ pub enum Directive {
     Same,
     Moves,
     MovesCount,
+    MovesTo,
+    TakenTo,
 }
 
-const DIRECTIVES: [(&str, Directive); 24] = [
+const DIRECTIVES: [(&str, Directive); 28] = [
     ("#", Directive::Heading),
     ("case", Directive::Case),
     ("file", Directive::File),
@@ -41,7 +45,9 @@ const DIRECTIVES: [(&str, Directive); 24] = [
     ("pages", Directive::Pages),
     ("fail", Directive::Fail),
     ("say", Directive::Say),
+    ("say-file", Directive::SayFile),
     ("cut", Directive::Cut),
+    ("drip", Directive::Drip),
     ("port", Directive::Port),
     ("also", Directive::Also),
     ("again", Directive::Again),
@@ -54,6 +60,8 @@ const DIRECTIVES: [(&str, Directive); 24] = [
     ("same", Directive::Same),
     ("moves", Directive::Moves),
     ("moves-count", Directive::MovesCount),
+    ("moves-to", Directive::MovesTo),
+    ("taken-to", Directive::TakenTo),
 ];
 
 /// The directive of a first word.
