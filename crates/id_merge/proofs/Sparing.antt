@@ -1,5 +1,5 @@
 -- What cursors keep where others write other pages and use other buffers, and how much is left of them at most.
-use Rattle.std.proofs.Common.{◌≡◌, ◌∙◌, ℕ, zero, suc, ◌+◌, ◌-◌, ◌*◌, ◌/◌, ◌^◌, ◌<◌, ◌≤◌, ◌⊎◌, inl, inr, Bool, true, List, [], ◌∷◌, length, get_or, nat_lt, mul-le-mul, ap, sym, refl, subst, arith}
+use Rattle.std.proofs.Common.{◌≡◌, ℕ, zero, suc, ◌+◌, ◌-◌, ◌*◌, ◌/◌, ◌^◌, ◌<◌, ◌≤◌, ◌⊎◌, inl, inr, Bool, true, List, [], ◌∷◌, length, get_or, nat_lt, mul-le-mul, ap, sym, refl, subst, arith}
 use Rattle.std.proofs.lemmas.Bool.{cases_lt}
 use Rattle.std.proofs.lemmas.Nat.{div-add-mod', div_below}
 use Rattle.std.proofs.Math.Nat.{mod-lt}
@@ -8,7 +8,7 @@ use Rattle.ghost_model.specs.forms.Runs.{page_of, per_page}
 use Rattle.ghost_base.specs.declared.runs.ListRef.{ListRef}
 use Rattle.ghost_base.specs.Runs.{run_of}
 use Rattle.edge_traits.specs.Devices.{Device, SamePage, ChangesOnly}
-use Rattle.page_pool.specs.Pools.{Pool, AreOut}
+use Rattle.page_pool.specs.Pools.{Pool}
 use Rattle.page_pool.specs.Laws.{SameBuffer}
 use Rattle.page_pool.proofs.Leases.{outs_kept}
 use Rattle.flash_pages.specs.declared.cursor.RunCursor.{RunCursor}
@@ -18,7 +18,7 @@ use Rattle.id_merge.specs.declared.cursor.Cursor.{Cursor}
 use Rattle.id_merge.specs.declared.cursor.Cursor.TheVariants.{List as OfList, Range}
 use Rattle.id_merge.specs.Since.{Since}
 use Rattle.id_merge.specs.Cursors.{cursor_at, leases_of, page_last, unread_list, unread_of, unread_in, at_hand_of, at_hand_in, IsAtMost, CursorReady, CursorGiven, ListAscends, SameSource}
-use Rattle.id_merge.specs.Spared.{LiesOutside, Spares, CursorsStayReady, MergeStaysReady, CursorsStayRight, CursorsStayGiven, UnreadStays, OutsideStays, MergeIsSmall}
+use Rattle.id_merge.specs.Spared.{LiesOutside, CursorsStayReady, MergeStaysReady, CursorsStayRight, CursorsStayGiven, UnreadStays, OutsideStays, MergeIsSmall}
 use Rattle.id_merge.proofs.Holding.{lease_of_same}
 use Rattle.id_merge.proofs.ListReads.{some_records}
 use Rattle.id_merge.proofs.SinceLaws.{may_then}

@@ -8,7 +8,7 @@ use Rattle.flash_pages.specs.Writing.{IsEntered, reach}
 use Rattle.flash_pages.specs.Writers.{CanWrite, SameRun, next_page}
 use Rattle.id_merge.specs.declared.cursor.Cursor.{Cursor}
 use Rattle.id_merge.specs.declared.merge.Merge.{Merge}
-use Rattle.id_merge.specs.Cursors.{cursor_at, leases_of, CursorReady, IsAtMost, at_hand_in, unread_in}
+use Rattle.id_merge.specs.Cursors.{leases_of, CursorReady, IsAtMost, at_hand_in, unread_in}
 use Rattle.id_merge.specs.Merges.{at_hand}
 use Rattle.spill_pass.specs.declared.merging.MergeInto.{MergeInto}
 use Rattle.spill_pass.specs.declared.groups.Groups.{Groups}

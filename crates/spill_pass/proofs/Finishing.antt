@@ -16,13 +16,12 @@ use Rattle.flash_pages.proofs.RunFrames.{stores_kept}
 use Rattle.id_merge.specs.declared.merge.Merge.{Merge}
 use Rattle.spill_pass.specs.declared.merging.MergeInto.{MergeInto}
 use Rattle.spill_pass.specs.declared.groups.Groups.{Groups}
-use Rattle.spill_pass.specs.Merging.{area_pages, area_end, leases_held}
+use Rattle.spill_pass.specs.Merging.{area_pages, area_end}
 use Rattle.spill_pass.specs.Grouping.{IsGrouping, IsGrouped, GoesOn, StoresLists, groups_held, places_end, places_of}
 use Rattle.spill_pass.proofs.Writing.{wrote}
 use Rattle.spill_pass.proofs.Going.{finish_changes, finish_in_area, some_wait, same_pool}
 use Rattle.spill_pass.proofs.Grouping.{goes_into, place_within, places_below, apart_pages, same_beside_area, entered_still}
 use Rattle.spill_pass.proofs.Closing.{put_goes, place_reach, can_place_later, other_apart}
-use Rattle.spill_pass.proofs.Taking.{outs_of_one}
 use Rattle.spill_pass.proofs.Listing.{none_yet}
 
 -- the lists

@@ -13,7 +13,6 @@ use Rattle.page_pool.specs.Pools.{Pool, IsFree, AreOut, ChangesPage, all_given, 
 use Rattle.page_pool.specs.Laws.{SameBuffer}
 use Rattle.page_pool.proofs.Leases.{change_elsewhere, head_apart}
 use Rattle.flash_pages.specs.declared.writer.RunWriter.{RunWriter}
-use Rattle.flash_pages.specs.declared.cursor.RunCursor.{RunCursor}
 use Rattle.flash_pages.specs.Writers.{HasPut, IsRunOf}
 use Rattle.flash_pages.proofs.LeaseFrames.{put_kept}
 use Rattle.id_merge.specs.declared.merge.Merge.{Merge}

@@ -1,5 +1,5 @@
 -- What is at hand of a reader of places was read since then, and its places are in order, or a slot of them may be blamed.
-use Rattle.std.proofs.Common.{◌≡◌, ◌∙◌, ℕ, ◌+◌, ◌-◌, ◌*◌, ◌^◌, ◌<◌, ◌≤◌, Bool, true, List, [], ◌∷◌, length, map, ap, sym, refl, subst, arith}
+use Rattle.std.proofs.Common.{◌≡◌, ◌∙◌, ℕ, ◌+◌, ◌^◌, ◌<◌, ◌≤◌, Bool, true, List, [], ◌∷◌, length, map, ap, sym, refl, subst, arith}
 use Rattle.std.specs.Prelude.{Option, Some, None, Result, Ok, Err, OnErr, IfSome, IfOk, MatchOption}
 use Rattle.std.proofs.lemmas.List.{append-nil}
 use Rattle.ghost_model.specs.forms.Runs.{Stores, id_at, number_cell, number_in, page_of}
@@ -8,7 +8,6 @@ use Rattle.ghost_base.specs.declared.runs.ListRef.{ListRef}
 use Rattle.ghost_base.specs.Runs.{run_of}
 use Rattle.edge_traits.specs.Devices.{Device, GaveSince}
 use Rattle.page_pool.specs.Pools.{Pool, bytes_at, page_at}
-use Rattle.page_pool.specs.Laws.{SameBuffer}
 use Rattle.flash_pages.specs.declared.fault.PageFault.{PageFault}
 use Rattle.flash_pages.specs.declared.fault.PageFault.TheVariants.{Flash, Damaged}
 use Rattle.flash_pages.specs.Reads.{WasGiven}
@@ -24,7 +23,6 @@ use Rattle.spill_pass.specs.Known.{KnowsAnswer, KnowsNext}
 use Rattle.spill_pass.specs.Listings.{PlacedHas, ReaderGiven, ReadsInOrder}
 use Rattle.spill_pass.specs.Lists.{IsOrdered}
 use Rattle.spill_pass.specs.Places.{BlamesPlace, GivesPlace, HasPlace, HasPlaces, IsNextList, ReaderHas, SamePlaces, source_of}
-use Rattle.spill_pass.specs.Reducing.{whole_list}
 use Rattle.spill_pass.specs.Sources.{GivesLists, SparesSource}
 use Rattle.spill_pass.proofs.PlaceLaws.{lists_used}
 use Rattle.spill_pass.proofs.PlaceGiving.{gives_list, gives_sound}

@@ -1,10 +1,10 @@
 -- What passes have was read since then, and what they write is in order, or a slot of it may be blamed.
-use Rattle.std.proofs.Common.{◌≡◌, ◌∙◌, ℕ, ◌+◌, ◌*◌, ◌≤◌, Bool, true, false, List, sym, refl, subst, arith}
+use Rattle.std.proofs.Common.{◌≡◌, ℕ, ◌+◌, ◌*◌, ◌≤◌, Bool, true, List, sym, subst, arith}
 use Rattle.std.specs.Prelude.{Option, Some, None, Ok}
 use Rattle.ghost_base.specs.declared.runs.Run.{Run}
 use Rattle.edge_traits.specs.Devices.{Device}
 use Rattle.page_pool.specs.Pools.{Pool}
-use Rattle.id_merge.specs.Since.{Since, IsSince}
+use Rattle.id_merge.specs.Since.{Since}
 use Rattle.id_merge.specs.Spared.{Spares}
 use Rattle.id_merge.proofs.Sparing.{cursors_stay_given}
 use Rattle.spill_pass.specs.declared.groups.Groups.{Groups}
@@ -14,7 +14,7 @@ use Rattle.spill_pass.specs.declared.passes.PassTurn.{PassTurn}
 use Rattle.spill_pass.specs.declared.passes.PassTurn.TheVariants.{Went, Placed}
 use Rattle.spill_pass.specs.declared.reduce.Areas.{Areas}
 use Rattle.spill_pass.specs.declared.reduce.Reduce.{Reduce}
-use Rattle.spill_pass.specs.Given.{AreaMay, AreasMay, GroupsGiven, KnowsRun, PassGiven, PassKnown, PlacedGiven, PlacesMay, ReduceGiven, StandsInOrder, TurnKnown}
+use Rattle.spill_pass.specs.Given.{AreaMay, AreasMay, GroupsGiven, KnowsRun, PassGiven, PassKnown, PlacedGiven, ReduceGiven, StandsInOrder, TurnKnown}
 use Rattle.spill_pass.specs.Grouping.{places_end}
 use Rattle.spill_pass.specs.Passing.{PassEnds, pass_held}
 use Rattle.spill_pass.specs.Reducing.{IsForLists, IsForPlaces, IsReducing, ReduceOutside}

@@ -1,10 +1,9 @@
 -- A turn of the passes: what it leaves, and that less is left to do.
 use Rattle.std.proofs.Common.{◌≡◌, ◌≢◌, ◌∙◌, ℕ, ◌+◌, ◌*◌, ◌<◌, ◌≤◌, ◌⊎◌, inl, inr, Bool, true, false, List, if◌then◌else◌, nat_eq, mul-le-mul, ap, sym, refl, subst, arith}
-use Rattle.std.specs.Prelude.{Option, IfSome}
 use Rattle.std.proofs.lemmas.Bool.Decides.{nat_tests}
-use Rattle.edge_traits.specs.Devices.{Device, GaveSince}
+use Rattle.edge_traits.specs.Devices.{Device}
 use Rattle.edge_traits.proofs.DeviceFrames.{same_trans}
-use Rattle.page_pool.specs.Pools.{Pool, AreOut, KeepsOthers, bytes_at}
+use Rattle.page_pool.specs.Pools.{Pool, AreOut, KeepsOthers}
 use Rattle.page_pool.proofs.Leases.{others_trans}
 use Rattle.spill_pass.specs.declared.groups.Groups.{Groups}
 use Rattle.spill_pass.specs.declared.groups.PlacedLists.{PlacedLists}

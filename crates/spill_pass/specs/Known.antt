@@ -1,5 +1,5 @@
 -- Lists of which a slot may be blamed, or that are in order.
-use Rattle.std.specs.Prelude.{◌≡◌, ℕ, ⊤, List, Option, None, Some, Result, Ok, Err}
+use Rattle.std.specs.Prelude.{ℕ, ⊤, List, Option, None, Some, Result, Ok, Err}
 use Rattle.ghost_base.specs.declared.runs.ListRef.{ListRef}
 use Rattle.ghost_base.specs.Runs.{run_of}
 use Rattle.flash_pages.specs.declared.fault.PageFault.{PageFault}
