@@ -1,6 +1,6 @@
 -- What may stand in slots that spell no value. Any pages hold the hidden columns of some database but for such slots: of one for
 -- whatever values of their kind and range stand there. So what a scan answers in full is the answer over each of these databases, and
--- it passed over none of the slots.
+-- no such slot has a part in what it answers.
 use Rattle.std.specs.Prelude.{◌≡◌, ℕ, ◌≤◌, ◌&&◌, Bool, true, false, nat_eq, nat_lt, List, length, Some, None, Ok, unwrap_or}
 use Rattle.std.specs.List.{list_all}
 use Rattle.ghost_model.specs.core.Values.{Value, Database}
@@ -115,7 +115,7 @@ pub record NoOthersHaveRows : Type 0 where
       (page : ℕ → List ℕ) (cat : Catalog) (table column child : ℕ) → child_at cat.schema table column ≡ Some child → count_of cat child ≡ 0
       → (identifier : ℕ) → value_on page cat table column identifier ≡ None
 
--- So a text that a scan answers, over pages that are told, met none of these slots: its lines are those of its answer over each such
+-- So no such slot has a part in what a scan answers, over pages that are told: a text's lines are those of its answer over each such
 -- database, from replies that stand in the half; and these answers, of any two of them, have the same lines.
 pub record AnswersAreOfEach : Type 0 where
   pub each :
