@@ -5,7 +5,8 @@ ghost use Rattle.edge_traits.specs.Files.{Files, AreSure};
 ghost use Rattle.key_words.specs.Views.{plain_view, load_view, local_view, query_view};
 ghost use Rattle.key_words.specs.Refusals.{HasCause, told_kind};
 ghost use Rattle.key_words.specs.Words.{reading, PlainCommand, LoadCommand, LocalCommand, QueryCommand};
-ghost use Rattle.key_commands.specs.Doing.{IsUntouched, PlainDid, LoadDid, LocalDid, QueryDid, outside};
+ghost use Rattle.key_inputs.specs.Outside.{outside};
+ghost use Rattle.key_commands.specs.Doing.{IsUntouched, PlainDid, LoadDid, LocalDid, QueryDid};
 ghost use Rattle.key_commands.specs.Endings.{DoesAs, OfUsage, OfPlain, OfLoad, OfLocal, OfQuery, is_unbegun, is_usage, is_query};
 ghost use Rattle.key_commands.specs.Judging.{Judges, JudgesPlain, JudgesLoad, JudgesLocal, JudgesQuery};
 

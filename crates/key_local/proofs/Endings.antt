@@ -19,13 +19,15 @@ use Rattle.flash_build.specs.Building.{load_calls}
 use Rattle.edge_traits.specs.Devices.{Device, Counts, ChangesOnly}
 use Rattle.edge_traits.specs.Written.{grown}
 use Rattle.key_inputs.specs.Openings.{Opening}
+use Rattle.key_inputs.specs.Outside.{Outside, Risen}
+use Rattle.key_session.specs.Reasons.{HaveLines}
 use Rattle.key_session.specs.Calls.{session_calls}
 use Rattle.key_words.specs.Words.{Local}
 use Rattle.key_plain.specs.Openings.{PlainInput}
 use Rattle.key_lines.specs.Handing.{Hands, handed}
 use Rattle.key_local.specs.Lines.{Gives, bytes_given, is_cut}
-use Rattle.key_local.specs.Sessions.{Subject, subject, catalog_for, LocalSide, Ran, GivesLines, HasLines, session_side_in, is_sink}
-use Rattle.key_local.specs.Results.{EndsLocal, EndsLocalCall, EndsSomeLocal, IsMade, subject_of, blames_depot, blames_flash, is_faultless}
+use Rattle.key_local.specs.Sessions.{Subject, subject, catalog_for, Ran, GivesLines, HasLines, session_side_in, is_sink}
+use Rattle.key_local.specs.Results.{EndsLocal, EndsLocalCall, EndsSomeLocal, IsMade, subject_of, is_faultless, told_by}
 use Rattle.key_local.specs.Making.{IsOfMaking}
 use Rattle.key_local.specs.Reading.{AreSpelled}
 use Rattle.key_local.specs.Running.{RanOver}
@@ -37,7 +39,7 @@ use Rattle.key_local.specs.declared.opening.Opened.{Opened}
 use Rattle.key_local.proofs.Keeping.{lines_there}
 
 -- what was given since the flash was made was given since before
-abbrev gives_since : (schema : Schema) (database : Database) (texts : List (List ℕ)) (failed : Bool) (before middle after : LocalSide)
+abbrev gives_since : (schema : Schema) (database : Database) (texts : List (List ℕ)) (failed : Bool) (before middle after : Outside)
     → middle.device.faults ≡ before.device.faults → middle.sink_faults ≡ before.sink_faults → middle.written ≡ before.written
     → Gives schema database texts (session_side_in false middle) (session_side_in failed after) → Gives schema database texts (session_side_in false before) (session_side_in failed after)
 gives_since schema database texts failed before middle after faults sink written gives = record {
@@ -76,15 +78,19 @@ rose_after before more now later counts rose = of_cases (cases_lt now last_count
 few_since : (before more now later texts : ℕ) → Counts more before now → later ≤ now + texts → later ≤ before + (more + texts)
 few_since before more now later texts counts few = let most = counts.most in omega (arith, most, few)
 
-lines_since : (catalog : Catalog) (texts : List (List ℕ)) (journal : Journal) (failed : Bool) (before middle after : LocalSide) → middle.sink_faults ≡ before.sink_faults → middle.written ≡ before.written
+abbrev lines_since : (catalog : Catalog) (texts : List (List ℕ)) (journal : Journal) (failed : Bool) (before middle after : Outside) → middle.sink_faults ≡ before.sink_faults → middle.written ≡ before.written
     → GivesLines catalog texts journal (handed false middle.sink_faults middle.written) (handed failed after.sink_faults after.written)
     → GivesLines catalog texts journal (handed false before.sink_faults before.written) (handed failed after.sink_faults after.written)
-lines_since catalog texts journal failed before middle after sink written lines =
-    subst (λ (faults : ℕ). GivesLines catalog texts journal (handed false faults before.written) (handed failed after.sink_faults after.written)) sink
-    (subst (λ (held : Option (List ℕ)). GivesLines catalog texts journal (handed false middle.sink_faults held) (handed failed after.sink_faults after.written)) written lines)
+lines_since catalog texts journal failed before middle after sink written lines = record {
+  reasons = lines.reasons;
+  as_many = lines.as_many;
+  lines =
+      subst (λ (faults : ℕ). HaveLines catalog texts journal lines.reasons (handed false faults before.written) (handed failed after.sink_faults after.written)) sink
+      (subst (λ (held : Option (List ℕ)). HaveLines catalog texts journal lines.reasons (handed false middle.sink_faults held) (handed failed after.sink_faults after.written)) written lines.lines);
+}
 
 -- the session ran over what was made for it
-pub ran_of : (told : Bool) (schema : Schema) (database : Database) (texts : List (List ℕ)) (words : Local) (end : LocalEnd) (catalog : Catalog) (before middle after : LocalSide)
+pub ran_of : (told : Bool) (schema : Schema) (database : Database) (texts : List (List ℕ)) (words : Local) (end : LocalEnd) (catalog : Catalog) (before middle after : Outside)
     → catalog ≡ catalog_for schema database → RanOver words.plan words.pace told catalog database texts words.journal end middle after
     → middle.device.faults ≡ before.device.faults → middle.append_faults ≡ before.append_faults → middle.sink_faults ≡ before.sink_faults → middle.written ≡ before.written
     → HasLines middle.files words.journal []
@@ -119,6 +125,7 @@ ran_of told schema database texts words end catalog before middle after same ran
           rose_after before.device.calls (load_calls (catalog_for schema database) (hidden_of schema database)) middle.device.calls after.device.calls built (mine.damage_called is);
       undamaged = mine.undamaged;
       damaged = mine.damaged;
+      damage_read = mine.damage_read;
       holds = λ t. subst (λ (c : Catalog). Holds after.device.page c (hidden_of schema database)) same
           (still_holds laws catalog (hidden_of schema database) tree order middle.device after.device kept (there t));
       name = kept.name ∙ named;
@@ -126,7 +133,7 @@ ran_of told schema database texts words end catalog before middle after same ran
     }
 
 -- what was made for the session
-pub made_of : (told : Bool) (schema : Schema) (database : Database) (texts : List (List ℕ)) (words : Local) (catalog : Catalog) (hidden : Hidden) (after : LocalSide)
+pub made_of : (told : Bool) (schema : Schema) (database : Database) (texts : List (List ℕ)) (words : Local) (catalog : Catalog) (hidden : Hidden) (after : Outside)
     → catalog ≡ catalog_for schema database → hidden ≡ hidden_of schema database → after.device.name ≡ Some words.flash
     → (told ≡ true → Holds after.device.page catalog hidden)
     → after.device.page_count ≡ need catalog → IsMade told (subject schema database texts words) after
@@ -138,7 +145,7 @@ made_of told schema database texts words catalog hidden after same is named ther
 }
 
 -- the making failed
-pub unmade : (told : Bool) (schema : Schema) (database : Database) (texts : List (List ℕ)) (words : Local) (catalog : Catalog) (hidden : Hidden) (before after : LocalSide) (fault : LocalFailure)
+pub unmade : (told : Bool) (schema : Schema) (database : Database) (texts : List (List ℕ)) (words : Local) (catalog : Catalog) (hidden : Hidden) (before after : Outside) (fault : LocalFailure)
     → catalog ≡ catalog_for schema database → hidden ≡ hidden_of schema database → IsOfMaking {T = Unit {0}} (Err fault)
     → after.device.calls ≤ before.device.calls + load_calls catalog hidden
     → EndsLocal told (subject schema database texts words) (Err fault) before after
@@ -163,7 +170,7 @@ same_subject opened opening words are =
     ap (λ (database : Database). subject opened.tables.schema database (texts_of opened.script.items) words) are.tables
 
 -- the call ended so over what the files spell
-pub ends_spelled : (told : Bool) (opening : Opening PlainInput) (opened : Opened) (words : Local) (result : Result LocalEnd LocalFailure) (before after : LocalSide)
+pub ends_spelled : (told : Bool) (opening : Opening PlainInput) (opened : Opened) (words : Local) (result : Result LocalEnd LocalFailure) (before after : Outside)
     → AreSpelled opening opened → EndsLocal told (subject_read opened words) result before after → EndsLocalCall told opening words result before after
 ends_spelled told opening opened words (Ok end) before after are ended = record {
   input = inputs_of opened are.files;
@@ -188,7 +195,7 @@ ends_spelled told opening opened words (Err failure.Flash) before after are ende
 }
 
 -- it ended so over what was read
-pub ends_some : (told : Bool) (opened : Opened) (words : Local) (result : Result LocalEnd LocalFailure) (before after : LocalSide)
+pub ends_some : (told : Bool) (opened : Opened) (words : Local) (result : Result LocalEnd LocalFailure) (before after : Outside)
     → IsDatabase opened.tables.schema opened.tables.tables → EndsLocal told (subject_read opened words) result before after → EndsSomeLocal told words result before after
 ends_some told opened words (Ok end) before after are ended = record {
   schema = opened.tables.schema;
@@ -221,8 +228,8 @@ ends_some told opened words (Err failure.Flash) before after are ended = record 
 }
 
 -- nothing that was to be unbroken ended otherwise
-pub faultless : (told : Bool) (one : Subject) (result : Result LocalEnd LocalFailure) (before after : LocalSide) → EndsLocal told one result before after
-    → (blames_depot result ≡ true → ⊥) → (blames_flash result ≡ true → ⊥) → (result ≡ Ok ends.Sink → ⊥) → is_faultless told result ≡ true
+pub faultless : (told : Bool) (one : Subject) (result : Result LocalEnd LocalFailure) (before after : Outside) → EndsLocal told one result before after
+    → ((told_by result).depot ≡ Risen → ⊥) → ((told_by result).flash ≡ Risen → ⊥) → ((told_by result).sink ≡ Risen → ⊥) → is_faultless told result ≡ true
 faultless told one (Ok ends.Ok) before after ended depot flash sink = refl
 faultless told one (Ok ends.Sink) before after ended depot flash sink = absurd (sink refl)
 faultless told one (Ok ends.Depot) before after ended depot flash sink = absurd (depot refl)

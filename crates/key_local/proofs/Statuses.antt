@@ -78,3 +78,14 @@ pub no_damage : (failed : Bool) (session : Standing) (by_flash : Bool) → sessi
 no_damage true session by_flash going valid none = refl
 no_damage false session true going valid none = rw (going, valid, none) refl
 no_damage false session false going valid none = rw (going, valid, none) refl
+
+-- the damage that a status names is what was met
+pub damage_is : (failed : Bool) (session : Standing) (by_flash : Bool) (met : Option Damage) (damage : Damage) → session.stopped ≡ false → session.heard.broken ≡ false
+    → first_code session.heard.ended ≡ None → status_with failed session by_flash met ≡ status.Damaged damage → met ≡ Some damage
+damage_is true session by_flash met damage going valid none e = cc
+damage_is false session true met damage going valid none e =
+    let is : status_with false session true met ≡ status.Flash = rw (going, valid, none) refl in cc
+damage_is false session false None damage going valid none e =
+    let is : status_with false session false None ≡ status.Ok = rw (going, valid, none) refl in cc
+damage_is false session false (Some found) damage going valid none e =
+    let is : status_with false session false (Some found) ≡ status.Damaged found = rw (going, valid, none) refl in cc

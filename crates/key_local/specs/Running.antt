@@ -16,14 +16,15 @@ use Rattle.edge_traits.specs.Written.{grown}
 use Rattle.local_links.specs.Journaling.{told_file}
 use Rattle.local_links.specs.declared.host_link.HostLink.{HostLink}
 use Rattle.key_session.specs.Calls.{session_calls}
-use Rattle.key_session.specs.Damages.{IsSlot}
+use Rattle.key_session.specs.Damages.{WasRead}
 use Rattle.key_session.specs.Pacing.{KeepsPace}
 use Rattle.key_exec.specs.declared.damage.Damage.{Damage}
 use Rattle.key_session.specs.declared.tally.SessionStatus.{SessionStatus}
 use Rattle.key_session.specs.declared.tally.SessionStatus.TheVariants as status
 use Rattle.key_lines.specs.Handing.{handed}
 use Rattle.key_local.specs.Lines.{Gives, is_cut}
-use Rattle.key_local.specs.Sessions.{LocalSide, GivesLines, session_side_in, is_sink, is_damaged}
+use Rattle.key_inputs.specs.Outside.{Outside}
+use Rattle.key_local.specs.Sessions.{GivesLines, IsFirstSlot, session_side_in, is_sink, is_damaged}
 use Rattle.key_local.specs.Preparing.{IsHosted}
 use Rattle.key_local.specs.declared.ends.LocalEnd.{LocalEnd}
 use Rattle.key_local.specs.declared.ends.LocalEnd.TheVariants as ends
@@ -34,18 +35,6 @@ is_of_local status.Link = false
 is_of_local (status.Protocol kind at) = false
 is_of_local (status.Host code) = false
 is_of_local _ = true
-
--- whether an end comes only where no append failed: behind `Sink`, which is told first, one may have failed too
-abbrev pub clears_journal : LocalEnd → Bool
-clears_journal ends.Sink = false
-clears_journal ends.Depot = false
-clears_journal _ = true
-
--- whether an end comes only where the flash failed in no text: behind `Sink` and `Depot` it may have failed too
-abbrev pub clears_flash : LocalEnd → Bool
-clears_flash ends.Ok = true
-clears_flash (ends.Damaged damage) = true
-clears_flash _ = false
 
 -- a host that holds the public part of some database of the catalog is linked
 pub record IsSomeHosted {D : Type 0} (contents : D → Option Files) (sure : D → List ℕ → Type 0) (catalog : Catalog) (link : HostLink D) : Type 0 where
@@ -59,7 +48,7 @@ KeepsLines before after None journal = ⊤
 KeepsLines before after (Some name) journal = told_file after name ≡ grown (told_file before name) (lines journal)
 
 -- a session by a plan and at a pace with a host that holds the public part of a database was held to its end
-pub record RanOver (by : Plan) (pace : List ℕ) (told : Bool) (catalog : Catalog) (database : Database) (texts : List (List ℕ)) (name : Option (List ℕ)) (end : LocalEnd) (before after : LocalSide) : Type 0 where
+pub record RanOver (by : Plan) (pace : List ℕ) (told : Bool) (catalog : Catalog) (database : Database) (texts : List (List ℕ)) (name : Option (List ℕ)) (end : LocalEnd) (before after : Outside) : Type 0 where
   pub journal : Journal
   pub is_local : IsLocal catalog database [] texts journal
   pub finished : IsFinished journal
@@ -76,4 +65,5 @@ pub record RanOver (by : Plan) (pace : List ℕ) (told : Bool) (catalog : Catalo
   pub called : end ≡ ends.Flash → Rose before.device.calls after.device.calls
   pub damage_called : is_damaged end ≡ true → Rose before.device.calls after.device.calls
   pub undamaged : told ≡ true → is_damaged end ≡ false
-  pub damaged : (damage : Damage) → end ≡ ends.Damaged damage → IsSlot by told after.device.page catalog texts damage
+  pub damaged : (damage : Damage) → end ≡ ends.Damaged damage → IsFirstSlot by told after.device.page catalog texts lines.reasons damage
+  pub damage_read : (damage : Damage) → end ≡ ends.Damaged damage → WasRead by told before.device.calls after.device catalog texts lines.reasons damage

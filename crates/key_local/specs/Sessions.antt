@@ -15,18 +15,19 @@ use Rattle.ghost_model.specs.core.Split.{hidden_of}
 use Rattle.ghost_model.specs.core.Values.{Database}
 use Rattle.flash_build.specs.Building.{load_calls}
 use Rattle.session_laws.specs.Local.{IsLocal}
-use Rattle.edge_traits.specs.Devices.{Device}
 use Rattle.edge_traits.specs.Files.{Files, HasFile, SameBut}
 use Rattle.edge_traits.specs.Written.{grown}
+use Rattle.leakless_plan.specs.declared.plan.Plan.{Plan}
 use Rattle.key_exec.specs.Plans.{by_pre}
 use Rattle.key_session.specs.Calls.{session_calls}
 use Rattle.key_session.specs.Pacing.{KeepsPace}
-use Rattle.key_session.specs.Damages.{IsSlot}
+use Rattle.key_session.specs.Damages.{IsFirstDamaged, IsSlotOf, WasRead}
 use Rattle.key_exec.specs.declared.damage.Damage.{Damage}
 use Rattle.ghost_model.specs.core.Lines.{Reason}
 use Rattle.key_lines.specs.Handing.{Handed, handed}
 use Rattle.key_session.specs.Reasons.{HaveLines}
 use Rattle.key_session.specs.Telling.{SessionSide, session_side}
+use Rattle.key_inputs.specs.Outside.{Outside, Verdicts, Risen, Same, Untold, verdicts}
 use Rattle.key_words.specs.Words.{Local}
 use Rattle.key_local.specs.Lines.{Gives, is_cut}
 use Rattle.key_local.specs.declared.ends.LocalEnd.{LocalEnd}
@@ -50,26 +51,8 @@ catalog_for schema database = record { schema = schema; counts = row_counts data
 abbrev pub catalog_in : Subject → Catalog
 catalog_in one = catalog_for one.schema one.database
 
--- the side of the outside that `local` changes: the flash, the depot's files where they are told, the count of failed
--- appends, the sink's count of faults, and what a sink that tells it was written
-pub record LocalSide : Type 0 where
-  pub device : Device
-  pub files : Option Files
-  pub append_faults : ℕ
-  pub sink_faults : ℕ
-  pub written : Option (List ℕ)
-
-abbrev pub local_side : Device → Option Files → (append_faults sink_faults : ℕ) → Option (List ℕ) → LocalSide
-local_side device files append_faults sink_faults written = record {
-  device = device;
-  files = files;
-  append_faults = append_faults;
-  sink_faults = sink_faults;
-  written = written;
-}
-
 -- where the lines go, and the flash, after a write failed or before
-abbrev pub session_side_in : (failed : Bool) → LocalSide → SessionSide
+abbrev pub session_side_in : (failed : Bool) → Outside → SessionSide
 session_side_in failed now = session_side failed now.sink_faults now.written now.device
 
 abbrev pub is_sink : LocalEnd → Bool
@@ -79,6 +62,15 @@ is_sink _ = false
 abbrev pub is_damaged : LocalEnd → Bool
 is_damaged (ends.Damaged damage) = true
 is_damaged _ = false
+
+-- what an end tells of the counts of faults of the sink, the depot, its appends and the flash: behind `Sink`, which is told first,
+-- an append and a call on the flash may have failed too, and behind `Depot` one on the flash
+abbrev pub told_by_end : LocalEnd → Verdicts
+told_by_end ends.Ok = verdicts Same Same Same Same
+told_by_end ends.Sink = verdicts Risen Untold Untold Untold
+told_by_end ends.Depot = verdicts Same Risen Risen Untold
+told_by_end ends.Flash = verdicts Same Same Same Risen
+told_by_end (ends.Damaged damage) = verdicts Same Same Same Same
 
 -- the file that is named for it has the lines of a journal and no more, where the depot tells its files
 abbrev pub HasLines : Option Files → (name : Option (List ℕ)) → Journal → Type 0
@@ -96,8 +88,14 @@ pub record GivesLines (catalog : Catalog) (texts : List (List ℕ)) (journal : J
   pub as_many : length reasons ≡ length texts
   pub lines : HaveLines catalog texts journal reasons before after
 
+-- of texts with these reasons, the first that damage ended has this damaged slot, which is read for it
+pub record IsFirstSlot (by : Plan) (told : Bool) (page : ℕ → List ℕ) (catalog : Catalog) (texts : List (List ℕ)) (reasons : List Reason) (damage : Damage) : Type 0 where
+  pub place : ℕ
+  pub first : IsFirstDamaged reasons place
+  pub slot : IsSlotOf by told page catalog texts place damage
+
 -- a session was held to its end
-pub record Ran (told : Bool) (one : Subject) (end : LocalEnd) (before after : LocalSide) : Type 0 where
+pub record Ran (told : Bool) (one : Subject) (end : LocalEnd) (before after : Outside) : Type 0 where
   pub journal : Journal
   pub is_local : IsLocal (catalog_in one) one.database [] one.texts journal
   pub finished : IsFinished journal
@@ -122,9 +120,11 @@ pub record Ran (told : Bool) (one : Subject) (end : LocalEnd) (before after : Lo
   pub damage_called : is_damaged end ≡ true → Rose (before.device.calls + load_calls (catalog_in one) (hidden_of one.schema one.database)) after.device.calls
   -- where the pages are told none is
   pub undamaged : told ≡ true → is_damaged end ≡ false
-  -- where all rows are looked at it is one of a hidden column and has no value of it; by the indexes, where what the pages are of is
-  -- known, it is a damaged one of a file that is read for the text
-  pub damaged : (damage : Damage) → end ≡ ends.Damaged damage → IsSlot one.words.plan told after.device.page (catalog_in one) one.texts damage
+  -- it is that of the first text that damage ended: where all rows are looked at one of a hidden column, which has no value of it; by the
+  -- indexes, where what the pages are of is known, a damaged one of a file that is read for this text
+  pub damaged : (damage : Damage) → end ≡ ends.Damaged damage → IsFirstSlot one.words.plan told after.device.page (catalog_in one) one.texts lines.reasons damage
+  -- and the session read it there for this text
+  pub damage_read : (damage : Damage) → end ≡ ends.Damaged damage → WasRead one.words.plan told paced.0.flash.calls after.device (catalog_in one) one.texts lines.reasons damage
   -- and the flash has been made for it, under the name that the words say
   pub name : after.device.name ≡ Some one.words.flash
   pub holds : told ≡ true → Holds after.device.page (catalog_in one) (hidden_of one.schema one.database)

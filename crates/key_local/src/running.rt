@@ -1,7 +1,6 @@
 //! The session.
 
 ghost use Rattle.std.specs.Prelude.{◌≡◌, ◌≤◌, true, false, length};
-ghost use Rattle.ghost_model.specs.core.Causes.{Rose};
 ghost use Rattle.ghost_model.specs.core.Honest.{IsCatalogOf};
 ghost use Rattle.ghost_model.specs.core.Texts.{texts_of};
 ghost use Rattle.ghost_model.specs.core.Values.{Database};
@@ -11,14 +10,15 @@ ghost use Rattle.edge_traits.specs.Devices.{ChangesOnly};
 ghost use Rattle.key_exec.specs.Plans.{Suffices};
 ghost use Rattle.key_exec.specs.Reading.{KnowsBy};
 ghost use Rattle.page_pool.specs.Pools.{IsIdle};
+ghost use Rattle.key_inputs.specs.Outside.{HasCauses, Risen, Same, outside};
 ghost use Rattle.local_links.specs.Keeping.{named};
 ghost use Rattle.key_words.specs.Views.{local_view};
 ghost use Rattle.key_session.specs.Running as session;
 ghost use Rattle.key_local.specs.Preparing.{IsHosted};
-ghost use Rattle.key_local.specs.Running.{RanOver, IsSomeHosted, is_of_local, clears_journal, clears_flash};
+ghost use Rattle.key_local.specs.Running.{RanOver, IsSomeHosted, is_of_local};
 ghost use Rattle.key_exec.specs.declared.damage.Damage.{Damage};
 ghost use Rattle.key_local.specs.declared.ends.LocalEnd.TheVariants as ends;
-ghost use Rattle.key_local.specs.Sessions.{SameBesides, is_sink, local_side};
+ghost use Rattle.key_local.specs.Sessions.{SameBesides, is_sink, told_by_end};
 
 use crate::ends::LocalEnd;
 use crate::laws::told_texts_are_given;
@@ -43,10 +43,10 @@ use tree_schema::catalog_bytes::a_catalog_is_short;
 fn end_of(status: SessionStatus, append_failed: bool) -> LocalEnd
     requires of_local { is_of_local status ≡ true }
     ensures sink { is_sink result ≡ session.is_sink status }
-    ensures depot { result ≡ LocalEnd.Depot → append_failed ≡ true }
-    ensures no_depot { clears_journal result ≡ true → append_failed ≡ false }
-    ensures flash { result ≡ LocalEnd.Flash → session.blames_flash status ≡ true }
-    ensures no_flash { clears_flash result ≡ true → session.spares_flash status ≡ true }
+    ensures depot { (told_by_end result).depot ≡ Risen → append_failed ≡ true }
+    ensures no_depot { (told_by_end result).depot ≡ Same → append_failed ≡ false }
+    ensures flash { (told_by_end result).flash ≡ Risen → session.blames_flash status ≡ true }
+    ensures no_flash { (told_by_end result).flash ≡ Same → session.spares_flash status ≡ true }
     ensures whole { result ≡ LocalEnd.Ok → status ≡ SessionStatus.Ok }
     ensures damaged { (damage : Damage) → result ≡ ends.Damaged damage → status ≡ SessionStatus.Damaged damage }
 {
@@ -88,18 +88,13 @@ fn hold<D: Depot, F: Flash, O: Sink>(
         → IsHosted ⟦<MemDepot as Depot>⟧.contents ⟦<MemDepot as Depot>⟧.sure (holding_of cat.now database) link.old.link.now
         → (F.told ≡ true → KnowsBy words.now.plan F.told (F.state flash.old).page cat.now database)
         → RanOver words.now.plan words.now.pace.items F.told cat.now database (texts_of script.now) (named link.old) result
-        (local_side (F.state flash.old) (D.contents link.old.depot.now) (D.append_faults link.old.depot.now) (O.faults out.old) (O.written out.old))
-        (local_side (F.state flash.new) (D.contents link.new.depot.now) (D.append_faults link.new.depot.now) (O.faults out.new) (O.written out.new)) }
+        (outside (D.contents link.old.depot.now) (D.faults link.old.depot.now) (D.append_faults link.old.depot.now) (F.state flash.old) (O.written out.old) (O.faults out.old))
+        (outside (D.contents link.new.depot.now) (D.faults link.new.depot.now) (D.append_faults link.new.depot.now) (F.state flash.new) (O.written out.new) (O.faults out.new)) }
     ensures pages { ChangesOnly (layout.static_end cat.now) (layout.need cat.now) (F.state flash.old) (F.state flash.new) }
     ensures others { SameBesides (named link.old) (D.contents link.old.depot.now) (D.contents link.new.depot.now) }
-    ensures sink { is_sink result ≡ true → Rose (O.faults out.old) (O.faults out.new) }
-    ensures no_sink { is_sink result ≡ false → O.faults out.new ≡ O.faults out.old }
-    ensures depot { result ≡ LocalEnd.Depot → Rose (D.faults link.old.depot.now) (D.faults link.new.depot.now) }
-    ensures no_depot { clears_journal result ≡ true → D.faults link.new.depot.now ≡ D.faults link.old.depot.now }
-    ensures append { result ≡ LocalEnd.Depot → Rose (D.append_faults link.old.depot.now) (D.append_faults link.new.depot.now) }
-    ensures no_append { clears_journal result ≡ true → D.append_faults link.new.depot.now ≡ D.append_faults link.old.depot.now }
-    ensures flash { result ≡ LocalEnd.Flash → Rose (F.state flash.old).faults (F.state flash.new).faults }
-    ensures no_flash { clears_flash result ≡ true → (F.state flash.new).faults ≡ (F.state flash.old).faults }
+    ensures causes { HasCauses (told_by_end result)
+        (outside (D.contents link.old.depot.now) (D.faults link.old.depot.now) (D.append_faults link.old.depot.now) (F.state flash.old) (O.written out.old) (O.faults out.old))
+        (outside (D.contents link.new.depot.now) (D.faults link.new.depot.now) (D.append_faults link.new.depot.now) (F.state flash.new) (O.written out.new) (O.faults out.new)) }
 {
     a_catalog_is_short(cat);
     catalogs_are_limited();
@@ -138,18 +133,13 @@ pub(crate) fn run<D: Depot, F: Flash, O: Sink>(
         → IsHosted ⟦<MemDepot as Depot>⟧.contents ⟦<MemDepot as Depot>⟧.sure (holding_of cat.now database) link.old
         → (F.told ≡ true → KnowsBy words.now.plan F.told (F.state flash.old).page cat.now database)
         → RanOver words.now.plan words.now.pace.items F.told cat.now database (texts_of script.now) (local_view words.now).journal result
-        (local_side (F.state flash.old) (D.contents depot.old) (D.append_faults depot.old) (O.faults out.old) (O.written out.old))
-        (local_side (F.state flash.new) (D.contents depot.new) (D.append_faults depot.new) (O.faults out.new) (O.written out.new)) }
+        (outside (D.contents depot.old) (D.faults depot.old) (D.append_faults depot.old) (F.state flash.old) (O.written out.old) (O.faults out.old))
+        (outside (D.contents depot.new) (D.faults depot.new) (D.append_faults depot.new) (F.state flash.new) (O.written out.new) (O.faults out.new)) }
     ensures pages { ChangesOnly (layout.static_end cat.now) (layout.need cat.now) (F.state flash.old) (F.state flash.new) }
     ensures others { SameBesides (local_view words.now).journal (D.contents depot.old) (D.contents depot.new) }
-    ensures sink { is_sink result ≡ true → Rose (O.faults out.old) (O.faults out.new) }
-    ensures no_sink { is_sink result ≡ false → O.faults out.new ≡ O.faults out.old }
-    ensures depot { result ≡ LocalEnd.Depot → Rose (D.faults depot.old) (D.faults depot.new) }
-    ensures no_depot { clears_journal result ≡ true → D.faults depot.new ≡ D.faults depot.old }
-    ensures append { result ≡ LocalEnd.Depot → Rose (D.append_faults depot.old) (D.append_faults depot.new) }
-    ensures no_append { clears_journal result ≡ true → D.append_faults depot.new ≡ D.append_faults depot.old }
-    ensures flash { result ≡ LocalEnd.Flash → Rose (F.state flash.old).faults (F.state flash.new).faults }
-    ensures no_flash { clears_flash result ≡ true → (F.state flash.new).faults ≡ (F.state flash.old).faults }
+    ensures causes { HasCauses (told_by_end result)
+        (outside (D.contents depot.old) (D.faults depot.old) (D.append_faults depot.old) (F.state flash.old) (O.written out.old) (O.faults out.old))
+        (outside (D.contents depot.new) (D.faults depot.new) (D.append_faults depot.new) (F.state flash.new) (O.written out.new) (O.faults out.new)) }
 {
     let mut journaled = Journaled::new(link, depot, words.journal);
     hold(cat, script, words, pool, flash, &mut journaled, out)
