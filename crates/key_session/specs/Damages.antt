@@ -36,7 +36,8 @@ pub record IsFirstDamaged (reasons : List Reason) (place : ℕ) : Type 0 where
   pub stands : slice_get reasons place ≡ Some reason
   pub damaged : is_damage reason ≡ true
 
--- the session read it there for the first of them that damage ended, from so many calls on
+-- the session read it there for the first of them that damage ended, from so many calls on: in a slot of a file that the plan reads for
+-- this text, or, only where the pages are not told, of the half of the spool in which its replies lie, or of scratch
 abbrev pub WasRead : (by : Plan) (pages_told : Bool) (since : ℕ) → Device → Catalog → (texts : List (List ℕ)) → (reasons : List Reason) → Damage → Type 0
 WasRead by pages_told since device catalog texts reasons damage =
     (place : ℕ)
