@@ -1,6 +1,6 @@
 -- What may stand in slots that spell no value. Any pages hold the hidden columns of some database but for such slots: of one for
--- whatever values of their kind and range stand there. So what a scan answers in full is the answer over each of these databases, and
--- no such slot has a part in what it answers.
+-- whatever values of their kind and range stand there. So what a scan answers in full is the answer over each of these databases: no
+-- such slot has a part in it.
 use Rattle.std.specs.Prelude.{◌≡◌, ℕ, ◌≤◌, ◌&&◌, Bool, true, false, nat_eq, nat_lt, List, length, Some, None, Ok, unwrap_or}
 use Rattle.std.specs.List.{list_all}
 use Rattle.ghost_model.specs.core.Values.{Value, Database}
@@ -100,7 +100,7 @@ pub record SlotsCanBeFilled : Type 0 where
       → IsFilled page cat public fill database → KnowsBut true page cat database
   -- there is something that may stand for them
   pub fills : (cat : Catalog) → IsTree cat.schema → CanHaveRows cat → CanBeFilled cat
-  -- and so may, in each of them, any two values of its kind and range
+  -- and so may, in each of them, any two values of its kind and range, where it has two: a foreign key to a table of one row has one
   pub both :
       (page : ℕ → List ℕ) (cat : Catalog) (public : Public) → HaveBytes page → IsLimited cat → CanHaveRows cat → IsPublic cat public
       → (table column identifier : ℕ) → is_hidden cat.schema table column ≡ true → 1 ≤ identifier → identifier ≤ count_of cat table
@@ -115,8 +115,9 @@ pub record NoOthersHaveRows : Type 0 where
       (page : ℕ → List ℕ) (cat : Catalog) (table column child : ℕ) → child_at cat.schema table column ≡ Some child → count_of cat child ≡ 0
       → (identifier : ℕ) → value_on page cat table column identifier ≡ None
 
--- So no such slot has a part in what a scan answers, over pages that are told: a text's lines are those of its answer over each such
--- database, from replies that stand in the half; and these answers, of any two of them, have the same lines.
+-- So no such slot has a part in what a scan answers, over pages that are told: the lines of an answered text are those of its answer
+-- over each such database, whatever stands there, from replies that stand in the half; and these answers, of any two of them, have the
+-- same lines.
 pub record AnswersAreOfEach : Type 0 where
   pub each :
       (cat : Catalog) (side number : ℕ) (text : List ℕ) (state : ReplyState) (is_marked : Bool) (half : Half) (start device : Device) (before now : Handed)
