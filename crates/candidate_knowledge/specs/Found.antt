@@ -1,5 +1,6 @@
 -- Where a slot lies that is blamed, whatever the pages hold: what was found stood there as a read gave it, in a slot of a file that the
--- job of a query reads by the indexes, or, where pages are not told, of one of its replies or of scratch.
+-- job of a query reads by the indexes, or, where pages are not told, of the half of the spool in
+-- which its replies lie, or of scratch.
 use Rattle.std.specs.Prelude.{◌≡◌, ℕ, ◌<◌, ◌≤◌, Bool, true, false, List, Option}
 use Rattle.ghost_model.specs.core.Channel.{Catalog}
 use Rattle.ghost_model.specs.core.Query.{Query}

@@ -450,9 +450,9 @@ fn await_reply(cat: &Catalog, pump: &Pump, replies: &mut Replies) -> bool
 /// behind the spool. No other page is written. After a failed write of a line no further one is printed, but the session goes on to
 /// its end.
 ///
-/// The slot that the status names as damaged lies, whatever the pages hold, in a file that the plan reads for the first text which
-/// damage ended, in a slot of that file, and a read of the session gave what was found there. In the half of the spool in which the
-/// text's replies lie, or by the indexes in scratch, it lies only where the flash does not tell its pages.
+/// Where the flash tells its pages, the slot that the status names as damaged lies, whatever they hold, in a file that the plan reads
+/// for the first text which damage ended, in a slot of that file; where it does not, it may also lie in the half of the spool in which
+/// the text's replies lie, or by the indexes in scratch. A read of the session gave what was found there.
 pub fn run_session<F: Flash, L: Link, O: Sink>(
     cat: &Catalog,
     script: &[u8],
