@@ -106,6 +106,7 @@ ran_of told schema database texts words end catalog before middle after same ran
       is_local = mine.is_local;
       finished = mine.finished;
       paced = (session_side_in false middle, mine.paced);
+      begun = subst (λ (c : Catalog). Counts (load_calls c (hidden_of schema database)) before.device.calls middle.device.calls) same counts;
       kept = λ calm. lines_there words.journal mine.journal middle.files after.files mine.finished empty
           (mine.kept (λ rose. calm (subst (λ (count : ℕ). Rose count after.append_faults) appends rose)));
       all_kept = λ fine. lines_there words.journal mine.journal middle.files after.files mine.finished empty (mine.all_kept fine);

@@ -1,6 +1,6 @@
--- The lines that a session with a host in the key's own process gives for each text of a script, whatever the key's flash
--- does: those of the text's meaning, or, where the flash failed, some rows from the front of its answer and then the word
--- for that.
+-- The lines that a session with a host in the key's own process gives for each text of a script, where the key's flash tells its
+-- pages, whichever calls on it fail: those of the text's meaning, or, where the flash failed, some rows from the front of its
+-- answer and then the word for that.
 use Rattle.std.specs.Prelude.{◌≡◌, ℕ, suc, ◌+◌, ◌≤◌, min, Bool, true, false, List, [], ◌∷◌, ◌++◌, length, map, flat_map, count_by, codes, slice_get, Some, Ok}
 use Rattle.std.specs.List.{concat, list_any}
 use Rattle.ghost_model.specs.core.Causes.{last_count}

@@ -15,6 +15,7 @@ use Rattle.ghost_model.specs.core.Split.{hidden_of}
 use Rattle.ghost_model.specs.core.Values.{Database}
 use Rattle.flash_build.specs.Building.{load_calls}
 use Rattle.session_laws.specs.Local.{IsLocal}
+use Rattle.edge_traits.specs.Devices.{Counts}
 use Rattle.edge_traits.specs.Files.{Files, HasFile, SameBut}
 use Rattle.edge_traits.specs.Written.{grown}
 use Rattle.leakless_plan.specs.declared.plan.Plan.{Plan}
@@ -101,6 +102,8 @@ pub record Ran (told : Bool) (one : Subject) (end : LocalEnd) (before after : Ou
   pub finished : IsFinished journal
   -- step by step, at the pace that the words say
   pub paced : (since : SessionSide) × KeepsPace one.words.plan told (catalog_in one) one.texts journal one.words.pace since (session_side_in (is_sink end) after)
+  -- it began after the calls of the making
+  pub begun : Counts (load_calls (catalog_in one) (hidden_of one.schema one.database)) before.device.calls paced.0.flash.calls
   -- where no append failed, the journal is kept
   pub kept : (Rose before.append_faults after.append_faults → ⊥) → HasLines after.files one.words.journal journal
   -- and so it is where all went well
