@@ -16,6 +16,7 @@ pub mod passing;
 pub mod stage;
 pub mod uniting;
 
+pub use candidate_gathering::places::areas_lie_apart;
 pub use link::Link;
 pub use linking::Linking;
 pub use stage::LinkStage;

@@ -7,7 +7,7 @@ use Rattle.key_words.specs.Words.{Plain, Load, Local, Query}
 use Rattle.key_inputs.specs.Openings.{Spelled, TablesInput, tables_opening}
 use Rattle.key_inputs.specs.Outside.{Outside, HasCauses}
 use Rattle.key_inputs.specs.Scripts.{script_opening}
-use Rattle.key_session.specs.declared.tally.Tally.{Tally}
+use Rattle.key_query.specs.Statuses.{Tally}
 use Rattle.key_plain.specs.Openings.{PlainInput, plain_opening}
 use Rattle.key_plain.specs.Views as plains
 use Rattle.key_plain.specs.declared.faults.PlainFault.{PlainFault}

@@ -12,9 +12,7 @@ use Rattle.key_local.specs.declared.ends.LocalFailure.{LocalFailure}
 use Rattle.key_local.specs.declared.ends.LocalFailure.TheVariants as local_failure
 use Rattle.key_query.specs.declared.failures.QueryFailure.{QueryFailure}
 use Rattle.key_query.specs.declared.failures.QueryFailure.TheVariants as query_failure
-use Rattle.key_session.specs.declared.tally.SessionStatus.{SessionStatus}
-use Rattle.key_session.specs.declared.tally.SessionStatus.TheVariants as status
-use Rattle.key_session.specs.declared.tally.Tally.{Tally}
+pub use Rattle.key_query.specs.Statuses.{Tally, status_code}
 use Rattle.key_commands.specs.declared.ending.Ended.{Ended}
 use Rattle.key_commands.specs.declared.ending.Ended.TheVariants as ended
 
@@ -44,15 +42,6 @@ local_code (Err local_failure.NoMemory) = 3
 local_code (Err (local_failure.Input broken)) = 4
 local_code (Err local_failure.Depot) = 5
 local_code (Err local_failure.Flash) = 6
-
-abbrev pub status_code : SessionStatus → ℕ
-status_code status.Ok = 0
-status_code status.Sink = 9
-status_code status.Link = 7
-status_code (status.Protocol kind at) = 8
-status_code (status.Host code) = 12
-status_code status.Flash = 6
-status_code (status.Damaged damage) = 13
 
 abbrev pub query_code : Result Tally QueryFailure → ℕ
 query_code (Ok tally) = status_code tally.status

@@ -5,7 +5,7 @@ use Rattle.edge_traits.specs.Files.{Files}
 use Rattle.key_words.specs.Words.{Command, Plain, Load, Local, Query, PlainCommand, LoadCommand, LocalCommand, QueryCommand}
 use Rattle.key_inputs.specs.Openings.{InputFault, Opening, Broken, tables_opening}
 use Rattle.key_inputs.specs.Scripts.{script_opening}
-use Rattle.key_session.specs.declared.tally.Tally.{Tally}
+use Rattle.key_query.specs.Statuses.{Tally}
 use Rattle.key_plain.specs.Openings.{plain_opening}
 use Rattle.key_plain.specs.declared.faults.PlainFault.{PlainFault}
 use Rattle.key_plain.specs.declared.faults.PlainFault.TheVariants as plain_fault

@@ -8,7 +8,7 @@ use key_load::LoadFailure;
 use key_local::{LocalEnd, LocalFailure};
 use key_plain::PlainFault;
 use key_query::QueryFailure;
-use key_session::{SessionStatus, Tally};
+use key_query::{SessionStatus, Tally};
 use key_words::{UsageFault, WordsFault};
 
 /// How a command ended, or why none was begun.

@@ -6,8 +6,8 @@ use Rattle.ghost_model.specs.core.Channel.{Catalog}
 use Rattle.ghost_model.specs.core.Lines.{Reason}
 use Rattle.ghost_model.specs.laws.SchemaTrees.{IsTree}
 use Rattle.leakless_plan.specs.declared.plan.Plan.{Plan}
-use Rattle.key_exec.specs.Laws.{DamageStays, KeepsStatic}
-use Rattle.key_exec.specs.declared.damage.Damage.{Damage}
+use Rattle.key_session.specs.Jobs.{DamageStays, KeepsStatic}
+use Rattle.key_session.specs.Jobs.{Damage}
 use Rattle.key_session.specs.Counting.{first_of, is_damage}
 use Rattle.key_session.specs.Damages.{IsFirstDamaged, IsSlotOf, MeetsFirst}
 use Rattle.key_local.specs.Sessions.{IsFirstSlot}

@@ -24,10 +24,10 @@ use Rattle.key_session.specs.Refusing.{first_code}
 use Rattle.key_session.specs.Running.{blames_flash, is_sink as wrote_none, is_damaged as is_damage}
 use Rattle.key_session.specs.Damages.{WasRead}
 use Rattle.leakless_plan.specs.declared.plan.Plan.{Plan}
-use Rattle.key_exec.specs.Plans.{by_pre}
+use Rattle.key_session.specs.Jobs.{by_pre}
 use Rattle.key_session.specs.Calls.{session_calls}
-use Rattle.key_exec.specs.Laws.{DamageStays, KeepsStatic}
-use Rattle.key_exec.specs.declared.damage.Damage.{Damage}
+use Rattle.key_session.specs.Jobs.{DamageStays, KeepsStatic}
+use Rattle.key_session.specs.Jobs.{Damage}
 use Rattle.key_session.specs.declared.tally.SessionStatus.TheVariants as status
 use Rattle.key_session.specs.declared.tally.Tally.{Tally}
 use Rattle.key_lines.specs.Handing.{Hands, handed}

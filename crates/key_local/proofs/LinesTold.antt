@@ -19,7 +19,7 @@ use Rattle.key_session.specs.Counting.{is_flash, is_damage, is_broken}
 use Rattle.key_lines.specs.Handing.{Hands}
 use Rattle.key_session.specs.Reasons.{HasAnswerLines}
 use Rattle.key_session.specs.Telling.{SessionSide}
-use Rattle.key_exec.specs.declared.damage.Damage.{Damage}
+use Rattle.key_session.specs.Jobs.{Damage}
 use Rattle.key_session.specs.Running.{status_of, status_with}
 use Rattle.key_session.specs.declared.tally.Tally.{Tally}
 use Rattle.leakless_plan.specs.declared.plan.Plan.{Plan}

@@ -8,7 +8,7 @@ use Rattle.ghost_model.specs.core.Lines.{was_refused, is_refused_by}
 use Rattle.std.specs.Option.{option_or}
 use Rattle.key_session.specs.Refusing.{first_code, code_of}
 use Rattle.key_session.specs.Running.{status_of, status_with, blames_flash, is_damaged as is_damage}
-use Rattle.key_exec.specs.declared.damage.Damage.{Damage}
+use Rattle.key_session.specs.Jobs.{Damage}
 use Rattle.key_session.specs.declared.tally.SessionStatus.{SessionStatus}
 use Rattle.key_session.specs.declared.tally.SessionStatus.TheVariants as status
 use Rattle.key_local.specs.Running.{is_of_local}

@@ -10,7 +10,7 @@ use Rattle.ghost_model.specs.core.Honest.{IsCatalogOf}
 use Rattle.ghost_model.specs.core.Values.{Database}
 use Rattle.session_laws.specs.Local.{IsLocal, holding_of}
 use Rattle.leakless_plan.specs.declared.plan.Plan.{Plan}
-use Rattle.key_exec.specs.Plans.{by_pre}
+use Rattle.key_session.specs.Jobs.{by_pre}
 use Rattle.edge_traits.specs.Files.{Files}
 use Rattle.edge_traits.specs.Written.{grown}
 use Rattle.local_links.specs.Journaling.{told_file}
@@ -18,7 +18,7 @@ use Rattle.local_links.specs.declared.host_link.HostLink.{HostLink}
 use Rattle.key_session.specs.Calls.{session_calls}
 use Rattle.key_session.specs.Damages.{WasRead}
 use Rattle.key_session.specs.Pacing.{KeepsPace}
-use Rattle.key_exec.specs.declared.damage.Damage.{Damage}
+use Rattle.key_session.specs.Jobs.{Damage}
 use Rattle.key_session.specs.declared.tally.SessionStatus.{SessionStatus}
 use Rattle.key_session.specs.declared.tally.SessionStatus.TheVariants as status
 use Rattle.key_lines.specs.Handing.{handed}

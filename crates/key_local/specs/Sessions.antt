@@ -19,11 +19,11 @@ use Rattle.edge_traits.specs.Devices.{Counts}
 use Rattle.edge_traits.specs.Files.{Files, HasFile, SameBut}
 use Rattle.edge_traits.specs.Written.{grown}
 use Rattle.leakless_plan.specs.declared.plan.Plan.{Plan}
-use Rattle.key_exec.specs.Plans.{by_pre}
+use Rattle.key_session.specs.Jobs.{by_pre}
 use Rattle.key_session.specs.Calls.{session_calls}
 use Rattle.key_session.specs.Pacing.{KeepsPace}
 use Rattle.key_session.specs.Damages.{IsFirstDamaged, IsSlotOf, WasRead}
-use Rattle.key_exec.specs.declared.damage.Damage.{Damage}
+use Rattle.key_session.specs.Jobs.{Damage}
 use Rattle.ghost_model.specs.core.Lines.{Reason}
 use Rattle.key_lines.specs.Handing.{Handed, handed}
 use Rattle.key_session.specs.Reasons.{HaveLines}

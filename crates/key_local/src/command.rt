@@ -22,7 +22,7 @@ use edge_traits::flash::Flash;
 use edge_traits::sink::Sink;
 use ghost_model::flash::holdings_are_kept;
 use ghost_model::layout::{catalogs_are_limited, files_lie_in_order};
-use key_exec::laws::held_pages_are_known;
+use key_session::laws::held_pages_are_known;
 use key_words::LocalWords;
 use std::alloc::Global;
 

@@ -3,7 +3,7 @@
 ghost use Rattle.std.specs.Prelude.{◌≡◌};
 ghost use Rattle.key_local.specs.Renaming.{as_failure};
 
-use key_exec::Damage;
+use key_session::Damage;
 use key_inputs::{InputFault, OpenFault};
 use thiserror::Error;
 

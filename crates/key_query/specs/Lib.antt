@@ -1,4 +1,5 @@
 pub mod PublicPages
 pub mod Openings
 pub mod Results
+pub mod Statuses
 pub mod Renaming

@@ -7,7 +7,7 @@ use Rattle.key_words.specs.Words.{Query}
 use Rattle.key_inputs.specs.Openings.{Spelled}
 use Rattle.key_inputs.specs.Scripts.{script_opening}
 use Rattle.page_pool.specs.Pools.{IsIdle}
-use Rattle.key_exec.specs.Plans.{Suffices}
+use Rattle.key_session.specs.Jobs.{Suffices}
 use Rattle.key_query.specs.PublicPages.{HasCatalog}
 use Rattle.key_query.specs.declared.opening.Opened.{Opened}
 

@@ -14,7 +14,7 @@ use Rattle.key_inputs.specs.Scripts.{script_opening}
 use Rattle.key_inputs.specs.Views.{rule_of}
 use Rattle.key_session.specs.Answering.{AnswersWhereSound}
 use Rattle.key_session.specs.Pacing.{KeepsPace}
-use Rattle.key_exec.specs.Rows.{PrintsSome}
+use Rattle.key_session.specs.Jobs.{PrintsSome}
 use Rattle.key_session.specs.Running.{HasRun, is_sink, blames_flash, is_damaged}
 use Rattle.key_session.specs.Telling.{SessionSide, session_side}
 use Rattle.key_session.specs.declared.tally.SessionStatus.{SessionStatus}

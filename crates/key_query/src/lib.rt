@@ -11,3 +11,4 @@ mod public_pages;
 
 pub use command::query;
 pub use failures::QueryFailure;
+pub use key_session::{Damage, SessionStatus, Tally};

@@ -8,7 +8,7 @@ ghost use Rattle.key_words.specs.Views.{query_view};
 ghost use Rattle.key_inputs.specs.Openings.{Spelled, Missing};
 ghost use Rattle.key_inputs.specs.Outside.{IsTold};
 ghost use Rattle.key_inputs.specs.Scripts.{script_opening};
-ghost use Rattle.key_exec.specs.Plans.{Suffices};
+ghost use Rattle.key_session.specs.Jobs.{Suffices};
 ghost use Rattle.key_query.specs.Openings.{IsOpened};
 ghost use Rattle.key_query.specs.PublicPages.{HasCatalog};
 ghost use Rattle.key_query.specs.Results.{KeepsDeep, TellsScript, TellsFlash, IsOfFlash, is_faultless, is_of_opened_flash, is_of_script, told_by_opening};

@@ -13,8 +13,7 @@ use Rattle.ghost_model.specs.forms.Runs as runs
 use Rattle.leakless_plan.specs.declared.form.Form.{Form}
 use Rattle.leakless_plan.specs.declared.plan.Plan.{Plan}
 use Rattle.leakless_plan.specs.declared.plan.Plan.TheVariants.{Scan, Linked}
-use Rattle.candidate_knowledge.specs.Found.{InFile, InReplies, InScratch, WasFoundAt, WasFoundByForms}
-use Rattle.key_exec.specs.Blaming.{WasDamaged}
+use Rattle.key_exec.specs.Blaming.{InFile, InReplies, InScratch, WasDamaged, WasFoundAt, WasFoundByForms}
 use Rattle.key_exec.specs.Texts.{ToldReads, WasDamagedFor}
 use Rattle.key_exec.specs.declared.damage.Damage.{Damage}
 use Rattle.key_exec.specs.declared.text.Told.{Told}

@@ -1,4 +1,5 @@
 pub mod Fits
+pub mod Jobs
 pub mod TextOrder
 pub mod Rows
 pub mod Kept

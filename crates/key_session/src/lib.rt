@@ -27,6 +27,7 @@ mod telling;
 mod texts;
 
 pub use buffers::Buffers;
+pub use key_exec::Damage;
 pub use options::Options;
 pub use pace::Due;
 pub use replies::Replies;

@@ -24,3 +24,6 @@ mod printed_lines;
 mod texts_asked;
 #[cfg(test)]
 mod whole_sessions;
+
+/// Does nothing: there are tests alone here. A program, since no crate stands on it and a library would be built of it.
+fn main(_rt: HostRuntime) {}
