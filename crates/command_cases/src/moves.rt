@@ -109,7 +109,7 @@ fn add_taken(bytes: &mut Vec<u8>, answer: &[u8]) -> Result<(), AllocError> {
         let (Some(high), Some(low)) = (digit_of(*high), digit_of(*low)) else {
             return Ok(());
         };
-        bytes.push(high * 16 + low)?;
+        bytes.push((high << 4) | low)?;
     }
     Ok(())
 }
