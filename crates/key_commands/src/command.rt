@@ -18,8 +18,7 @@ use edge_traits::sink::Sink;
 use key_load::{LoadFailure, load};
 use key_local::{LocalEnd, LocalFailure, local};
 use key_plain::{PlainFault, plain};
-use key_query::{QueryFailure, query};
-use key_query::Tally;
+use key_query::{QueryFailure, Tally, query};
 use key_words::{KeyWords, LoadWords, LocalWords, PlainWords, QueryWords, read_words};
 use std::alloc::Global;
 

@@ -7,8 +7,7 @@ ghost use Rattle.key_commands.specs.Renaming.{ended_by};
 use key_load::LoadFailure;
 use key_local::{LocalEnd, LocalFailure};
 use key_plain::PlainFault;
-use key_query::QueryFailure;
-use key_query::{SessionStatus, Tally};
+use key_query::{QueryFailure, SessionStatus, Tally};
 use key_words::{UsageFault, WordsFault};
 
 /// How a command ended, or why none was begun.

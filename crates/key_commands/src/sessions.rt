@@ -2,10 +2,8 @@
 
 use crate::input_lines::{InputNames, input_line};
 use crate::telling::NO_MEMORY;
-use key_query::Damage;
 use key_local::{LocalEnd, LocalFailure};
-use key_query::QueryFailure;
-use key_query::SessionStatus;
+use key_query::{Damage, QueryFailure, SessionStatus};
 use key_words::{LocalWords, QueryWords};
 use std::alloc::{AllocError, Global};
 

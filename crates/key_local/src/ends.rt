@@ -3,8 +3,8 @@
 ghost use Rattle.std.specs.Prelude.{◌≡◌};
 ghost use Rattle.key_local.specs.Renaming.{as_failure};
 
-use key_session::Damage;
 use key_inputs::{InputFault, OpenFault};
+use key_session::Damage;
 use thiserror::Error;
 
 /// How a session ended: the first of these that is so, in the order `Sink`, `Depot`, `Flash`, `Damaged`, `Ok`.
