@@ -1,3 +1,5 @@
+pub mod known_lemmas
+pub mod searching_lemmas
 pub mod Scratches
 pub mod AreasMay
 pub mod Regions
@@ -29,3 +31,4 @@ pub mod Beginnings
 pub mod Endings
 pub mod StagesStay
 pub mod Paying
+pub mod cross_form_lemmas

@@ -1,3 +1,5 @@
+pub mod known
+pub mod searching
 pub mod Terms
 pub mod Places
 pub mod Given
@@ -6,3 +8,4 @@ pub mod Contents
 pub mod Turns
 pub mod Laws
 pub mod Costs
+pub mod cross_forms

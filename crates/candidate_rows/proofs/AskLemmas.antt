@@ -12,7 +12,7 @@ use Rattle.ghost_model.specs.laws.ShortWords.{is_field, is_from}
 use Rattle.ghost_model.specs.core.Replies.{Reply, reply_about}
 use Rattle.ghost_model.proofs.MeaningLemmas.OneRow.{Among, among-filter, from_filter, from_map, in_table, both_true, neither_true}
 use Rattle.ghost_model.proofs.MeaningLemmas.Leading.{place_within}
-use Rattle.candidate_rows.specs.Plans.{is_asked, is_shown_of, is_compared_of}
+use Rattle.ghost_laws.specs.Asking.{is_asked, is_shown_of, is_compared_of}
 use Rattle.candidate_rows.specs.Laws.{WholeRepliesAreOfAsked, WholeRepliesAreAll, WholeRepliesAreToAsks}
 
 none_of : {X : Type 0} (p : X → Bool) (xs : List X) → ((x : X) → p x ≡ false) → filter p xs ≡ []

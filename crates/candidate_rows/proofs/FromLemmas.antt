@@ -38,8 +38,10 @@ use Rattle.candidate_rows.specs.declared.next.Follow.{Follow}
 use Rattle.candidate_rows.specs.declared.work.RowWork.{RowWork}
 use Rattle.candidate_rows.specs.declared.plan.Known.{Known}
 use Rattle.candidate_rows.specs.Orders.{is_look_up, looks_up}
-use Rattle.candidate_rows.specs.Plans.{IsPlan, Suffices, IsHop, IsHopOrNone, AreHops, HasWays, test_meets, check_meets, conditions_tested, has_below, is_asked, is_below_top, is_tested, is_shown_of, is_compared_of, needs_below}
-use Rattle.candidate_rows.specs.Working.{Knows, StandsFor, IsWorking, IsRowOf, IsLedTo, IsSifted, HasKeysBut, passes, told, look_of, reached_at, way_to, way_by, along_hop, from_row, go_on, spread_from, is_replied}
+use Rattle.ghost_laws.specs.Asking.{is_asked, is_tested, is_shown_of, is_compared_of}
+use Rattle.flash_layout.specs.Ranges.{IsRowOf, Suffices}
+use Rattle.candidate_rows.specs.Plans.{IsPlan, IsHop, IsHopOrNone, AreHops, HasWays, test_meets, check_meets, conditions_tested, has_below, is_below_top, needs_below}
+use Rattle.candidate_rows.specs.Working.{Knows, StandsFor, IsWorking, IsLedTo, IsSifted, HasKeysBut, passes, told, look_of, reached_at, way_to, way_by, along_hop, from_row, go_on, spread_from, is_replied}
 use Rattle.candidate_rows.specs.Steps.{row_known}
 use Rattle.candidate_rows.specs.Laws.{TestsAreThoseOfAnswers, RowsSiftedOutAreNoAnswers, RowsThatStandNotAreNoAnswers}
 use Rattle.candidate_rows.proofs.StepLemmas.{IsNowhere, Wanted, tested, selected, known_at, sought_new, searching_new}

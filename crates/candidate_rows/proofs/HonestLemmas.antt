@@ -46,9 +46,11 @@ use Rattle.candidate_rows.specs.declared.plan.Test.{Test}
 use Rattle.candidate_rows.specs.declared.plan.RowPlan.{RowPlan}
 use Rattle.candidate_rows.specs.declared.plan.SubtreeFile.{SubtreeFile}
 use Rattle.candidate_rows.specs.Orders.{is_look_up, looks_up}
-use Rattle.candidate_rows.specs.Plans.{IsPlan, IsPlanOfCandidates, IsSource, AreKnowns, test_meets, check_meets, conditions_tested, needs_below, needs_ways, has_below, is_below_top, is_asked, is_tested, is_shown_of, is_compared_of}
+use Rattle.ghost_laws.specs.Asking.{is_asked, is_tested, is_shown_of, is_compared_of}
+use Rattle.candidate_rows.specs.Plans.{IsPlan, IsPlanOfCandidates, IsSource, AreKnowns, test_meets, check_meets, conditions_tested, needs_below, needs_ways, has_below, is_below_top}
 use Rattle.candidate_rows.specs.Rows.{HoldsReplies}
-use Rattle.candidate_rows.specs.Working.{Knows, IsRowOf, told, passes}
+use Rattle.flash_layout.specs.Ranges.{IsRowOf}
+use Rattle.candidate_rows.specs.Working.{Knows, told, passes}
 use Rattle.candidate_rows.specs.Steps.{row_known}
 use Rattle.candidate_rows.specs.Laws.{TestsAreThoseOfAnswers, RecordsAreWanted, is_of_other, compares_other, wants_below}
 use Rattle.candidate_rows.specs.Costs.{look_calls, value_calls, source_calls, check_calls, test_calls, most_ways, row_calls}

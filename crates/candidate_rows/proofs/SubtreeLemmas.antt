@@ -29,8 +29,9 @@ use Rattle.subtree_keys.specs.Tables.{IsTableOf, AreRowsOf, slot_page}
 use Rattle.subtree_keys.specs.Laws.{LeadsTo}
 use Rattle.candidate_rows.specs.declared.plan.SubtreeFile.{SubtreeFile}
 use Rattle.candidate_rows.specs.declared.plan.RowPlan.{RowPlan}
-use Rattle.candidate_rows.specs.Plans.{IsSubtreeFile, AreSubtreeKeys, HasWays, Suffices, has_below, needs_ways}
-use Rattle.candidate_rows.specs.Working.{IsRowOf, IsLedTo, spread_over}
+use Rattle.flash_layout.specs.Ranges.{IsRowOf, Suffices}
+use Rattle.candidate_rows.specs.Plans.{IsSubtreeFile, AreSubtreeKeys, HasWays, has_below, needs_ways}
+use Rattle.candidate_rows.specs.Working.{IsLedTo, spread_over}
 use Rattle.candidate_rows.proofs.TestLemmas.{count_cons}
 
 -- ---- the tables below

@@ -16,9 +16,11 @@ use Rattle.ghost_laws.specs.Scans.{known_along, holds_or_asked_along, stands_alo
 use Rattle.spj_parse.specs.Resolved.{IsMeant}
 use Rattle.visible_spool.specs.declared.half.Half.{Half}
 use Rattle.candidate_rows.specs.declared.plan.RowPlan.{RowPlan}
-use Rattle.candidate_rows.specs.Plans.{IsPlan, IsPlanOfCandidates, is_compared_of, is_tested}
+use Rattle.ghost_laws.specs.Asking.{is_compared_of, is_tested}
+use Rattle.candidate_rows.specs.Plans.{IsPlan, IsPlanOfCandidates}
 use Rattle.candidate_rows.specs.Rows.{HoldsReplies}
-use Rattle.candidate_rows.specs.Working.{Knows, IsRowOf}
+use Rattle.flash_layout.specs.Ranges.{IsRowOf}
+use Rattle.candidate_rows.specs.Working.{Knows}
 use Rattle.candidate_rows.specs.Steps.{row_known}
 use Rattle.candidate_rows.specs.Costs.{row_calls}
 

@@ -15,9 +15,11 @@ use Rattle.edge_traits.specs.Devices.{Device}
 use Rattle.visible_spool.specs.declared.half.Half.{Half}
 use Rattle.visible_spool.specs.Sparing.{AreInHalf, SparesHalf}
 use Rattle.candidate_rows.specs.declared.work.RowWork.{RowWork}
-use Rattle.candidate_rows.specs.Plans.{IsPlan, IsPlanOfCandidates, is_asked, is_tested}
+use Rattle.ghost_laws.specs.Asking.{is_asked, is_tested}
+use Rattle.candidate_rows.specs.Plans.{IsPlan, IsPlanOfCandidates}
 use Rattle.candidate_rows.specs.Rows.{AreAllAsked}
-use Rattle.candidate_rows.specs.Working.{Knows, StandsFor, IsRowOf, IsWorking, IsSifted, passes, told, steps_left, most_left}
+use Rattle.flash_layout.specs.Ranges.{IsRowOf}
+use Rattle.candidate_rows.specs.Working.{Knows, StandsFor, IsWorking, IsSifted, passes, told, steps_left, most_left}
 use Rattle.candidate_rows.specs.Steps.{row_known}
 
 -- The tests of a plan are exactly those of the answer: a row is in it where it meets them all, with the selected values. Where the

@@ -22,7 +22,7 @@ use Rattle.ghost_laws.specs.Followed.{IsFollowed, AcceptedQueriesAreFollowed, is
 use Rattle.ghost_laws.proofs.ScanLemmas.Accepted.{pass_each}
 use Rattle.spj_parse.specs.Resolved.{IsMeant, joins_of, join_to, join_with, join_by, keys_between, is_comparison}
 use Rattle.leakless_plan.specs.declared.form.Form.{Form}
-use Rattle.candidate_rows.specs.Plans.{is_tested, is_compared_of}
+use Rattle.ghost_laws.specs.Asking.{is_tested, is_compared_of}
 use Rattle.condition_lists.specs.Terms.{has_level, is_listed, is_replied, is_compared, is_united}
 use Rattle.condition_lists.proofs.KindLemmas.{fits_if, fits_column, literals_fit}
 use Rattle.condition_lists.proofs.RowLemmas.{in_schema}

@@ -44,7 +44,7 @@ use Rattle.climbing_index.specs.declared.index.IdIndex.{IdIndex}
 use Rattle.climbing_index.specs.declared.search.Group.{Group}
 use Rattle.climbing_index.specs.Holding.{values_at, ids_at}
 use Rattle.climbing_index.specs.Searches.{IsBetween, is_between}
-use Rattle.candidate_rows.specs.Working.{IsRowOf}
+use Rattle.flash_layout.specs.Ranges.{IsRowOf}
 use Rattle.condition_lists.specs.declared.bounds.Between.{Between}
 use Rattle.condition_lists.specs.declared.bounds.Bounds.{Bounds}
 use Rattle.condition_lists.specs.declared.term.Term.TheVariants.{Ranges, Entries, Identifiers, TopReply, Reply}

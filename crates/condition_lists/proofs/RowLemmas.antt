@@ -12,7 +12,7 @@ use Rattle.ghost_model.specs.laws.SchemaTrees.{IsTree, identifier}
 use Rattle.ghost_model.specs.laws.MeaningLaws.{IsAtOrBelow, LeadsFollowKeys, Lands}
 use Rattle.ghost_model.proofs.MeaningLemmas.Leading.{get_within, place_within}
 use Rattle.ghost_model.proofs.FlashLemmas.Values.{count_there}
-use Rattle.candidate_rows.specs.Working.{IsRowOf}
+use Rattle.flash_layout.specs.Ranges.{IsRowOf}
 use Rattle.condition_lists.specs.Laws.{IsOver}
 use Rattle.condition_lists.proofs.TermLemmas.{and_no}
 

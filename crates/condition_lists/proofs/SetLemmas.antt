@@ -24,7 +24,7 @@ use Rattle.ghost_laws.specs.Followed.{AcceptedQueriesAreFollowed}
 use Rattle.ghost_laws.specs.Scans.{known_along, holds_or_asked_along, is_kept_row, stands_along, known_row}
 use Rattle.spj_parse.specs.Resolved.{IsMeant}
 use Rattle.leakless_plan.specs.declared.form.Form.{Form}
-use Rattle.candidate_rows.specs.Working.{IsRowOf}
+use Rattle.flash_layout.specs.Ranges.{IsRowOf}
 use Rattle.condition_lists.specs.declared.term.Term.{Term}
 use Rattle.condition_lists.specs.Terms.{AreTableTerms, AreTermsBy, AreTermsOf, has_level, is_compared, is_listed, is_replied, is_united, level_in, meets, unites_whole}
 use Rattle.condition_lists.specs.Laws.{IsOver, LeadsInto, leads_into}

@@ -13,7 +13,7 @@ use Rattle.ghost_model.specs.forms.Layout.{count_of}
 use Rattle.leakless_plan.specs.declared.form.Form.{Form}
 use Rattle.leakless_plan.specs.declared.form.Form.TheVariants.{Pre}
 use Rattle.leakless_plan.specs.Choices.{compares_visible, form_of, form_with, forms_of, is_crossed, is_linked}
-use Rattle.candidate_rows.specs.Plans.{is_compared_of}
+use Rattle.ghost_laws.specs.Asking.{is_compared_of}
 use Rattle.condition_lists.specs.Terms.{is_compared, is_united, unites_whole}
 use Rattle.condition_lists.specs.Laws.{UnitesAll}
 use Rattle.condition_lists.proofs.FilterLemmas.{compared_there, filters_agree}

@@ -30,8 +30,8 @@ use Rattle.ghost_laws.specs.Scans.{is_kept_row}
 use Rattle.climbing_index.specs.declared.index.ClimbingIndex.{ClimbingIndex}
 use Rattle.climbing_index.specs.declared.index.IdIndex.{IdIndex}
 use Rattle.climbing_index.specs.declared.search.Group.{Group}
-use Rattle.candidate_rows.specs.Plans.{is_compared_of}
-use Rattle.candidate_rows.specs.Working.{IsRowOf}
+use Rattle.ghost_laws.specs.Asking.{is_compared_of}
+use Rattle.flash_layout.specs.Ranges.{IsRowOf}
 use Rattle.condition_lists.specs.declared.bounds.Bounds.{Bounds}
 use Rattle.condition_lists.specs.declared.term.Term.{Term}
 use Rattle.condition_lists.specs.declared.term.Term.TheVariants.{Ranges, Entries, Identifiers, TopReply, Reply}

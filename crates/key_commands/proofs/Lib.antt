@@ -1,0 +1,2 @@
+pub mod query_lemmas
+pub mod local_lemmas

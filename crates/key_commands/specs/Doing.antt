@@ -7,21 +7,22 @@ use Rattle.key_words.specs.Words.{Plain, Load, Local, Query}
 use Rattle.key_inputs.specs.Openings.{Spelled, TablesInput, tables_opening}
 use Rattle.key_inputs.specs.Outside.{Outside, HasCauses}
 use Rattle.key_inputs.specs.Scripts.{script_opening}
-use Rattle.key_query.specs.Statuses.{Tally}
-use Rattle.key_plain.specs.Openings.{PlainInput, plain_opening}
+use Rattle.key_session.specs.declared.tally.Tally.{Tally}
+use Rattle.key_inputs.specs.Whole.{WholeInput}
+use Rattle.key_plain.specs.Openings.{plain_opening}
 use Rattle.key_plain.specs.Views as plains
 use Rattle.key_plain.specs.declared.faults.PlainFault.{PlainFault}
 use Rattle.key_plain.specs.declared.faults.PlainFault.TheVariants as plain_fault
 use Rattle.key_load.specs.Results as loads
 use Rattle.key_load.specs.declared.failures.LoadFailure.{LoadFailure}
-use Rattle.key_local.specs.Openings.{local_opening}
-use Rattle.key_local.specs.Sessions as locals
-use Rattle.key_local.specs.Results as locally
-use Rattle.key_local.specs.declared.ends.LocalEnd.{LocalEnd}
-use Rattle.key_local.specs.declared.ends.LocalFailure.{LocalFailure}
-use Rattle.key_query.specs.PublicPages.{HasCatalog}
-use Rattle.key_query.specs.Results as queries
-use Rattle.key_query.specs.declared.failures.QueryFailure.{QueryFailure}
+use Rattle.key_commands.specs.local.Openings.{local_opening}
+use Rattle.key_commands.specs.local.Sessions as locals
+use Rattle.key_commands.specs.local.Results as locally
+use Rattle.key_commands.specs.declared.local.ends.LocalEnd.{LocalEnd}
+use Rattle.key_commands.specs.declared.local.ends.LocalFailure.{LocalFailure}
+use Rattle.key_commands.specs.query.PublicPages.{HasCatalog}
+use Rattle.key_commands.specs.query.Results as queries
+use Rattle.key_commands.specs.declared.query.failures.QueryFailure.{QueryFailure}
 
 -- nothing was done
 pub record IsUntouched (before after : Outside) : Type 0 where
@@ -35,7 +36,7 @@ pub record IsUntouched (before after : Outside) : Type 0 where
 pub record PlainDid (outcome : Result (Unit {0}) PlainFault) (before after : Outside) (words : Plain) : Type 0 where
   pub ends : (files : Files) → before.files ≡ Some files
       → plains.EndsPlainCall (plain_opening files words) outcome before.written after.written
-  pub complete : (files : Files) → (input : PlainInput) → before.files ≡ Some files
+  pub complete : (files : Files) → (input : WholeInput) → before.files ≡ Some files
       → (Rose before.depot_faults after.depot_faults → ⊥) → (Rose before.sink_faults after.sink_faults → ⊥)
       → plain_opening files words ≡ Spelled input → (outcome ≡ Ok tt) ⊎ (outcome ≡ Err plain_fault.NoMemory)
   pub prints : plains.PrintsSomeRead outcome before.written after.written
@@ -68,7 +69,7 @@ pub record LocalDid (told : Bool) (outcome : Result LocalEnd LocalFailure) (befo
   pub ends : (files : Files) → before.files ≡ Some files
       → locally.EndsLocalCall told (local_opening files words) words outcome before after
   pub ran : locally.EndsSomeLocal told words outcome before after
-  pub complete : (files : Files) → (input : PlainInput) → before.files ≡ Some files
+  pub complete : (files : Files) → (input : WholeInput) → before.files ≡ Some files
       → (Rose before.depot_faults after.depot_faults → ⊥) → (Rose before.device.faults after.device.faults → ⊥)
       → (Rose before.sink_faults after.sink_faults → ⊥)
       → local_opening files words ≡ Spelled input → locally.is_faultless told outcome ≡ true

@@ -6,13 +6,15 @@ use Rattle.key_plain.specs.declared.faults.PlainFault.{PlainFault}
 use Rattle.key_plain.specs.declared.faults.PlainFault.TheVariants as plain_fault
 use Rattle.key_load.specs.declared.failures.LoadFailure.{LoadFailure}
 use Rattle.key_load.specs.declared.failures.LoadFailure.TheVariants as load_failure
-use Rattle.key_local.specs.declared.ends.LocalEnd.{LocalEnd}
-use Rattle.key_local.specs.declared.ends.LocalEnd.TheVariants as local_end
-use Rattle.key_local.specs.declared.ends.LocalFailure.{LocalFailure}
-use Rattle.key_local.specs.declared.ends.LocalFailure.TheVariants as local_failure
-use Rattle.key_query.specs.declared.failures.QueryFailure.{QueryFailure}
-use Rattle.key_query.specs.declared.failures.QueryFailure.TheVariants as query_failure
-pub use Rattle.key_query.specs.Statuses.{Tally, status_code}
+use Rattle.key_commands.specs.declared.local.ends.LocalEnd.{LocalEnd}
+use Rattle.key_commands.specs.declared.local.ends.LocalEnd.TheVariants as local_end
+use Rattle.key_commands.specs.declared.local.ends.LocalFailure.{LocalFailure}
+use Rattle.key_commands.specs.declared.local.ends.LocalFailure.TheVariants as local_failure
+use Rattle.key_commands.specs.declared.query.failures.QueryFailure.{QueryFailure}
+use Rattle.key_commands.specs.declared.query.failures.QueryFailure.TheVariants as query_failure
+use Rattle.key_session.specs.declared.tally.Tally.{Tally}
+use Rattle.key_session.specs.declared.tally.SessionStatus.{SessionStatus}
+use Rattle.key_session.specs.declared.tally.SessionStatus.TheVariants as status
 use Rattle.key_commands.specs.declared.ending.Ended.{Ended}
 use Rattle.key_commands.specs.declared.ending.Ended.TheVariants as ended
 
@@ -42,6 +44,16 @@ local_code (Err local_failure.NoMemory) = 3
 local_code (Err (local_failure.Input broken)) = 4
 local_code (Err local_failure.Depot) = 5
 local_code (Err local_failure.Flash) = 6
+
+-- of a session that was begun
+abbrev pub status_code : SessionStatus → ℕ
+status_code status.Ok = 0
+status_code status.Sink = 9
+status_code status.Link = 7
+status_code (status.Protocol kind at) = 8
+status_code (status.Host code) = 12
+status_code status.Flash = 6
+status_code (status.Damaged damage) = 13
 
 abbrev pub query_code : Result Tally QueryFailure → ℕ
 query_code (Ok tally) = status_code tally.status

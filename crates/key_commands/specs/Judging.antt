@@ -5,18 +5,18 @@ use Rattle.edge_traits.specs.Files.{Files}
 use Rattle.key_words.specs.Words.{Command, Plain, Load, Local, Query, PlainCommand, LoadCommand, LocalCommand, QueryCommand}
 use Rattle.key_inputs.specs.Openings.{InputFault, Opening, Broken, tables_opening}
 use Rattle.key_inputs.specs.Scripts.{script_opening}
-use Rattle.key_query.specs.Statuses.{Tally}
+use Rattle.key_session.specs.declared.tally.Tally.{Tally}
 use Rattle.key_plain.specs.Openings.{plain_opening}
 use Rattle.key_plain.specs.declared.faults.PlainFault.{PlainFault}
 use Rattle.key_plain.specs.declared.faults.PlainFault.TheVariants as plain_fault
 use Rattle.key_load.specs.declared.failures.LoadFailure.{LoadFailure}
 use Rattle.key_load.specs.declared.failures.LoadFailure.TheVariants as load_failure
-use Rattle.key_local.specs.Openings.{local_opening}
-use Rattle.key_local.specs.declared.ends.LocalEnd.{LocalEnd}
-use Rattle.key_local.specs.declared.ends.LocalFailure.{LocalFailure}
-use Rattle.key_local.specs.declared.ends.LocalFailure.TheVariants as local_failure
-use Rattle.key_query.specs.declared.failures.QueryFailure.{QueryFailure}
-use Rattle.key_query.specs.declared.failures.QueryFailure.TheVariants as query_failure
+use Rattle.key_commands.specs.local.Openings.{local_opening}
+use Rattle.key_commands.specs.declared.local.ends.LocalEnd.{LocalEnd}
+use Rattle.key_commands.specs.declared.local.ends.LocalFailure.{LocalFailure}
+use Rattle.key_commands.specs.declared.local.ends.LocalFailure.TheVariants as local_failure
+use Rattle.key_commands.specs.declared.query.failures.QueryFailure.{QueryFailure}
+use Rattle.key_commands.specs.declared.query.failures.QueryFailure.TheVariants as query_failure
 use Rattle.key_commands.specs.Endings.{DoesAs, OfPlain, OfLoad, OfLocal, OfQuery}
 use Rattle.key_commands.specs.declared.ending.Ended.{Ended}
 

@@ -1,3 +1,5 @@
+pub mod query
+pub mod local
 pub mod Doing
 pub mod Endings
 pub mod Judging

@@ -11,14 +11,15 @@ ghost use Rattle.key_commands.specs.Endings.{DoesAs, OfUsage, OfPlain, OfLoad, O
 ghost use Rattle.key_commands.specs.Judging.{Judges, JudgesPlain, JudgesLoad, JudgesLocal, JudgesQuery};
 
 use crate::ending::{Ended, not_read};
+use crate::local::{LocalEnd, LocalFailure, local};
+use crate::query::{QueryFailure, query};
 use edge_traits::depot::Depot;
 use edge_traits::flash::Flash;
 use edge_traits::link::Link;
 use edge_traits::sink::Sink;
 use key_load::{LoadFailure, load};
-use key_local::{LocalEnd, LocalFailure, local};
 use key_plain::{PlainFault, plain};
-use key_query::{QueryFailure, Tally, query};
+use key_session::Tally;
 use key_words::{KeyWords, LoadWords, LocalWords, PlainWords, QueryWords, read_words};
 use std::alloc::Global;
 
@@ -53,81 +54,12 @@ pub fn key_main<D: Depot, F: Flash, L: Link, O: Sink>(
     ensures judged { (files : Files) → D.contents depot.old ≡ Some files → AreSure files (D.sure depot.old) → Judges files (reading (map string_bytes args.now)) result }
 {
     match read_words(alloc, args) {
-        Ok(KeyWords::Plain(words)) => Ended::Plain(do_plain(alloc, &words, depot, flash, out)),
-        Ok(KeyWords::Load(words)) => Ended::Load(do_load(alloc, &words, depot, flash, out)),
-        Ok(KeyWords::Local(words)) => Ended::Local(do_local(alloc, &words, depot, flash, out)),
+        Ok(KeyWords::Plain(words)) => Ended::Plain(plain(alloc, &words, depot, out)),
+        Ok(KeyWords::Load(words)) => Ended::Load(load(alloc, &words, depot, flash, out)),
+        Ok(KeyWords::Local(words)) => Ended::Local(local(alloc, &words, depot, flash, out)),
         Ok(KeyWords::Query(words)) => {
-            Ended::Query(do_query(alloc, &words, depot, flash, link, out))
+            Ended::Query(query(alloc, &words, depot, flash, link, out))
         }
         Err(fault) => not_read(fault),
     }
-}
-
-/// Does `plain`, which leaves the flash alone.
-fn do_plain<D: Depot, F: Flash, O: Sink>(
-    alloc: Global,
-    words: &PlainWords<'_>,
-    depot: &mut D,
-    _flash: &mut F,
-    out: &mut O,
-) -> Result<(), PlainFault>
-    ensures did { PlainDid result
-        (outside (D.contents depot.old) (D.faults depot.old) (D.append_faults depot.old) (F.state _flash.old) (O.written out.old) (O.faults out.old))
-        (outside (D.contents depot.new) (D.faults depot.new) (D.append_faults depot.new) (F.state _flash.new) (O.written out.new) (O.faults out.new))
-        (plain_view words.now) }
-    ensures judged { (files : Files) → D.contents depot.old ≡ Some files → AreSure files (D.sure depot.old) → JudgesPlain files result (plain_view words.now) }
-{
-    plain(alloc, words, depot, out)
-}
-
-/// Does `load`.
-fn do_load<D: Depot, F: Flash, O: Sink>(
-    alloc: Global,
-    words: &LoadWords<'_>,
-    depot: &mut D,
-    flash: &mut F,
-    out: &mut O,
-) -> Result<(), LoadFailure>
-    ensures did { LoadDid F.told result
-        (outside (D.contents depot.old) (D.faults depot.old) (D.append_faults depot.old) (F.state flash.old) (O.written out.old) (O.faults out.old))
-        (outside (D.contents depot.new) (D.faults depot.new) (D.append_faults depot.new) (F.state flash.new) (O.written out.new) (O.faults out.new))
-        (load_view words.now) }
-    ensures judged { (files : Files) → D.contents depot.old ≡ Some files → AreSure files (D.sure depot.old) → JudgesLoad files result (load_view words.now) }
-{
-    load(alloc, words, depot, flash, out)
-}
-
-/// Does `local`.
-fn do_local<D: Depot, F: Flash, O: Sink>(
-    alloc: Global,
-    words: &LocalWords<'_>,
-    depot: &mut D,
-    flash: &mut F,
-    out: &mut O,
-) -> Result<LocalEnd, LocalFailure>
-    ensures did { LocalDid F.told result
-        (outside (D.contents depot.old) (D.faults depot.old) (D.append_faults depot.old) (F.state flash.old) (O.written out.old) (O.faults out.old))
-        (outside (D.contents depot.new) (D.faults depot.new) (D.append_faults depot.new) (F.state flash.new) (O.written out.new) (O.faults out.new))
-        (local_view words.now) }
-    ensures judged { (files : Files) → D.contents depot.old ≡ Some files → AreSure files (D.sure depot.old) → JudgesLocal files result (local_view words.now) }
-{
-    local(alloc, words, depot, flash, out)
-}
-
-/// Does `query`.
-fn do_query<D: Depot, F: Flash, L: Link, O: Sink>(
-    alloc: Global,
-    words: &QueryWords<'_>,
-    depot: &mut D,
-    flash: &mut F,
-    link: &mut L,
-    out: &mut O,
-) -> Result<Tally, QueryFailure>
-    ensures did { QueryDid (λ journal. L.went link.old journal link.new) (L.faults link.old) (L.faults link.new) F.told result
-        (outside (D.contents depot.old) (D.faults depot.old) (D.append_faults depot.old) (F.state flash.old) (O.written out.old) (O.faults out.old))
-        (outside (D.contents depot.new) (D.faults depot.new) (D.append_faults depot.new) (F.state flash.new) (O.written out.new) (O.faults out.new))
-        (query_view words.now) }
-    ensures judged { (files : Files) → D.contents depot.old ≡ Some files → AreSure files (D.sure depot.old) → JudgesQuery files result (query_view words.now) }
-{
-    query(alloc, words, depot, flash, link, out)
 }

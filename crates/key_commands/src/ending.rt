@@ -4,10 +4,11 @@ ghost use Rattle.std.specs.Prelude.{◌≡◌};
 ghost use Rattle.key_commands.specs.Endings as endings;
 ghost use Rattle.key_commands.specs.Renaming.{ended_by};
 
+use crate::local::{LocalEnd, LocalFailure};
+use crate::query::QueryFailure;
 use key_load::LoadFailure;
-use key_local::{LocalEnd, LocalFailure};
 use key_plain::PlainFault;
-use key_query::{QueryFailure, SessionStatus, Tally};
+use key_session::{SessionStatus, Tally};
 use key_words::{UsageFault, WordsFault};
 
 /// How a command ended, or why none was begun.

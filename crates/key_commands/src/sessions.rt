@@ -1,9 +1,10 @@
 //! What is told of a session that did not end well, or was not begun.
 
 use crate::input_lines::{InputNames, input_line};
+use crate::local::{LocalEnd, LocalFailure};
+use crate::query::QueryFailure;
 use crate::telling::NO_MEMORY;
-use key_local::{LocalEnd, LocalFailure};
-use key_query::{Damage, QueryFailure, SessionStatus};
+use key_session::{Damage, SessionStatus};
 use key_words::{LocalWords, QueryWords};
 use std::alloc::{AllocError, Global};
 

@@ -8,7 +8,7 @@ use Rattle.ghost_model.specs.core.Query.{Query, Field, Condition, Compare, Join}
 use Rattle.ghost_model.specs.core.Replies.{Reply, reply_about}
 use Rattle.ghost_model.specs.laws.SchemaTrees.{IsTree}
 use Rattle.spj_parse.specs.Resolved.{is_comparison, joins_of, linked}
-use Rattle.candidate_rows.specs.Plans.{is_asked, is_shown_of, is_compared_of}
+use Rattle.ghost_laws.specs.Asking.{is_asked, is_shown_of, is_compared_of}
 use Rattle.key_exec.specs.Reading.{AreOfAsked}
 
 any_append : {X : Type 0} (p : X → Bool) (xs ys : List X) → list_any p ys ≡ true → list_any p (xs ++ ys) ≡ true

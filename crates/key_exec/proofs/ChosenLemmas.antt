@@ -21,9 +21,11 @@ use Rattle.candidate_rows.specs.declared.next.Next.{Next}
 use Rattle.candidate_rows.specs.declared.next.Next.TheVariants as next
 use Rattle.candidate_rows.specs.declared.work.RowWork.{RowWork}
 use Rattle.candidate_rows.specs.Laws.{RecordsAreWanted, wants_below}
-use Rattle.candidate_rows.specs.Plans.{conditions_tested, IsPlanOfCandidates, IsFile, IsSource, is_asked, test_meets, check_meets}
-use Rattle.candidate_rows.specs.Working.{IsWorking, IsRowOf, Need, NoNeed, OfSlot, OfRow, OfRecord, need_by, need_of, next_slot, next_look, next_record, record_of, spread_from, way_by, way_for, way_to, go_on, next_test, next_value, with_row, reached_at, source_slot, check_slot, check_look}
-use Rattle.candidate_knowledge.specs.Known.{selects}
+use Rattle.ghost_laws.specs.Asking.{is_asked}
+use Rattle.candidate_rows.specs.Plans.{conditions_tested, IsPlanOfCandidates, IsFile, IsSource, test_meets, check_meets}
+use Rattle.flash_layout.specs.Ranges.{IsRowOf}
+use Rattle.candidate_rows.specs.Working.{IsWorking, Need, NoNeed, OfSlot, OfRow, OfRecord, need_by, need_of, next_slot, next_look, next_record, record_of, spread_from, way_by, way_for, way_to, go_on, next_test, next_value, with_row, reached_at, source_slot, check_slot, check_look}
+use Rattle.candidate_gathering.specs.known.Known.{selects}
 use Rattle.key_exec.proofs.ReadForLemmas.{clash, unmet, all_true, known_at}
 
 -- the slot of a row in the file of a column that is selected

@@ -22,7 +22,7 @@ use Rattle.ghost_model.specs.core.Split.{hidden_of}
 use Rattle.ghost_model.specs.forms.Flash.{HoldsFiles}
 use Rattle.ghost_model.specs.laws.FlashLaws.{HoldingsAreKept}
 use Rattle.climbing_index.specs.Laws.{IsOf}
-use Rattle.candidate_knowledge.specs.Laws.{HeldFilesAreKnown, KnowledgeStays}
+use Rattle.candidate_gathering.specs.known.Laws.{HeldFilesAreKnown, KnowledgeStays}
 use Rattle.key_exec.specs.Plans.{by_indexes}
 use Rattle.key_exec.specs.Reading.{Knows, KnowsBut, KnowsBy, KnowsButBy}
 use Rattle.key_exec.specs.Blaming.{IsDamaged, IsDamagedInScan}

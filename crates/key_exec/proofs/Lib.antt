@@ -1,3 +1,4 @@
+pub mod form_lemmas
 pub mod AskedLemmas
 pub mod KnowledgeLemmas
 pub mod RowLemmas

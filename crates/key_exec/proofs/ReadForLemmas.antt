@@ -25,8 +25,10 @@ use Rattle.candidate_rows.specs.declared.next.Slot.{Slot}
 use Rattle.candidate_rows.specs.declared.next.Next.{Next}
 use Rattle.candidate_rows.specs.declared.next.Next.TheVariants as next
 use Rattle.candidate_rows.specs.declared.work.RowWork.{RowWork}
-use Rattle.candidate_rows.specs.Plans.{conditions_tested, IsPlanOf, IsFile, IsHop, IsHopOrNone, AreHops, IsSource, HaveSources, IsKnown, AreKnowns, is_asked, is_shown_of, is_compared_of, is_tested, test_meets, check_meets}
-use Rattle.candidate_rows.specs.Working.{IsWorking, IsRowOf, Need, NoNeed, OfSlot, OfRow, OfRecord, need_by, need_of, next_slot, next_look, next_record, way_by, way_for, next_test, next_value, with_row, go_on, way_to, along_hop, from_row, reached_at, source_slot, check_slot, check_look}
+use Rattle.ghost_laws.specs.Asking.{is_asked, is_shown_of, is_compared_of, is_tested}
+use Rattle.candidate_rows.specs.Plans.{conditions_tested, IsPlanOf, IsFile, IsHop, IsHopOrNone, AreHops, IsSource, HaveSources, IsKnown, AreKnowns, test_meets, check_meets}
+use Rattle.flash_layout.specs.Ranges.{IsRowOf}
+use Rattle.candidate_rows.specs.Working.{IsWorking, Need, NoNeed, OfSlot, OfRow, OfRecord, need_by, need_of, next_slot, next_look, next_record, way_by, way_for, next_test, next_value, with_row, go_on, way_to, along_hop, from_row, reached_at, source_slot, check_slot, check_look}
 use Rattle.key_exec.specs.ReadFor.{IsReadFor, AsColumn, AsKey, uses, compares, is_at, is_of}
 
 -- ---- lists

@@ -20,7 +20,7 @@ use Rattle.candidate_rows.specs.declared.plan.RowPlan.{RowPlan}
 use Rattle.candidate_rows.specs.Working.{IsNeed, Need, NoNeed, OfSlot, OfRow, OfRecord}
 use Rattle.candidate_rows.specs.Laws.{wants_below}
 use Rattle.candidate_rows.specs.Steps.{BlamesNeeded, FailsNeeded}
-use Rattle.candidate_knowledge.specs.Found.{InFile, InReplies, WasFoundAt}
+use Rattle.candidate_gathering.specs.known.Found.{InFile, InReplies, WasFoundAt}
 use Rattle.leakless_plan.specs.declared.form.Form.{Form}
 use Rattle.leakless_plan.specs.declared.plan.Plan.TheVariants as plans
 use Rattle.key_exec.specs.declared.job.Went.{Went}

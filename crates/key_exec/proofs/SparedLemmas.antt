@@ -19,11 +19,11 @@ use Rattle.visible_spool.specs.Sparing as sparing
 use Rattle.visible_spool.specs.Sparing.{AreInHalf, SparesHalf, Uses, SparedRepliesStay, SparedRowsStay, SparedHalvesStay, BuffersStayFilled}
 use Rattle.candidate_rows.specs.declared.plan.RowPlan.{RowPlan}
 use Rattle.candidate_rows.specs.declared.work.RowWork.{RowWork}
-use Rattle.candidate_rows.specs.Plans.{Suffices}
+use Rattle.flash_layout.specs.Ranges.{Suffices}
 use Rattle.candidate_rows.specs.Working.{IsWorking}
 use Rattle.candidate_rows.specs.Laws.{WorkStillStands}
 use Rattle.candidate_rows.specs.Steps.{WereGiven, AreBlankOrRead}
-use Rattle.candidate_linking.specs.Costs.{LinkingCosts}
+use Rattle.key_exec.specs.forms.Costs.{LinkingCosts}
 use Rattle.key_exec.specs.Costs.{PhaseCosts}
 use Rattle.leakless_plan.specs.declared.plan.Plan.{Plan}
 use Rattle.id_merge.specs.declared.merge.Merge.{Merge}
@@ -32,14 +32,14 @@ use Rattle.id_merge.specs.Spared as merged
 use Rattle.id_merge.specs.Since.{Since}
 use Rattle.id_merge.specs.Spared.{AllOutside, MergeStaysReady, CursorsStayGiven, CursorsStayRight, UnreadStays}
 use Rattle.candidate_lists.specs.Staying.{DamageStays}
-use Rattle.candidate_knowledge.specs.Known.{KeepsStatic}
-use Rattle.candidate_knowledge.specs.Laws.{KnowledgeStays}
-use Rattle.candidate_linking.specs.declared.linking.Linking.{Linking as LinkingModel}
-use Rattle.candidate_linking.specs.Stages as links
-use Rattle.candidate_linking.specs.Stages.{IsLinking, linking_left}
-use Rattle.candidate_linking.specs.Contents.{LinkingHas, Walks, WalksUnited}
-use Rattle.candidate_linking.specs.Given.{LinkingGiven}
-use Rattle.candidate_linking.specs.Turns.{SparesLinking}
+use Rattle.candidate_gathering.specs.known.Known.{KeepsStatic}
+use Rattle.candidate_gathering.specs.known.Laws.{KnowledgeStays}
+use Rattle.key_exec.specs.declared.forms.linking.Linking.{Linking as LinkingModel}
+use Rattle.key_exec.specs.forms.Stages as links
+use Rattle.key_exec.specs.forms.Stages.{IsLinking, linking_left}
+use Rattle.key_exec.specs.forms.Contents.{LinkingHas, Walks, WalksUnited}
+use Rattle.key_exec.specs.forms.Given.{LinkingGiven}
+use Rattle.key_exec.specs.forms.Turns.{SparesLinking}
 use Rattle.key_exec.specs.Plans.{crosses_by}
 use Rattle.key_exec.proofs.HalfLemmas.{others_spare}
 use Rattle.key_exec.specs.declared.job.Scan.{Scan}

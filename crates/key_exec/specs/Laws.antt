@@ -21,9 +21,9 @@ use Rattle.key_exec.specs.declared.job.Job.{Job}
 use Rattle.key_exec.specs.Jobs.{leases_of}
 use Rattle.key_exec.specs.Costs.{JobCosts}
 use Rattle.leakless_plan.specs.declared.plan.Plan.{Plan}
-pub use Rattle.candidate_knowledge.specs.Known.{KeepsStatic}
+pub use Rattle.candidate_gathering.specs.known.Known.{KeepsStatic}
 use Rattle.key_exec.specs.Reading.{KnowsBy, KnowsButBy, KnowsAll, KeepsBy, AreOfAsked, AreAllAsked}
-use Rattle.candidate_knowledge.specs.Found.{WasFoundInFile}
+use Rattle.candidate_gathering.specs.known.Found.{WasFoundInFile}
 use Rattle.key_exec.specs.Blaming.{IsDamaged, IsReadBy, WasDamaged}
 use Rattle.key_exec.specs.Ready.{IsReady, JobGiven, Stands, Spares}
 use Rattle.key_lines.specs.Handing.{Handed}

@@ -1,3 +1,4 @@
+pub mod forms
 pub mod Plans
 pub mod Reading
 pub mod ReadFor

@@ -17,7 +17,7 @@ pub fn knowledge_is_enough()
     ensures enough { KnowledgeIsEnough }
 {
     hidden_columns::laws::columns_give_values();
-    candidate_knowledge::laws::held_files_are_known();
+    candidate_gathering::known::laws::held_files_are_known();
 }
 
 /// Pages that hold all static files are enough for each plan.
@@ -30,7 +30,7 @@ pub fn damage_is_never_met()
     ensures never { DamageIsNeverMet }
 {
     hidden_columns::laws::columns_give_values();
-    candidate_knowledge::laws::held_files_are_known();
+    candidate_gathering::known::laws::held_files_are_known();
 }
 
 /// What is known of the static pages stays so where they are as they were.
@@ -44,7 +44,7 @@ pub fn knowledge_stays()
     ghost_model::layout::files_lie_as_summed();
     ghost_model::layout::records_stand_within();
     ghost_model::flash::holdings_are_kept();
-    candidate_knowledge::laws::knowledge_stays();
+    candidate_gathering::known::laws::knowledge_stays();
 }
 
 /// Where the flash tells its pages, a slot that is blamed lies in a file that the plan reads, and never in the spool or in scratch.

@@ -5,7 +5,7 @@
 //! where the row of each asked table stands in its reply and each condition on a hidden column or an identifier holds. By the plan
 //! that scans each row of the top table is looked at. By those that go by the indexes the rows that meet the key's conditions are
 //! gathered first, in scratch behind the spool, and linked there with the replies that conditions were sent for, by united lists or
-//! by filters; those that are left alone are looked at. No call here takes memory. `docs/SESSION.md` states the rules.
+//! by filters (`forms`); those that are left alone are looked at. No call here takes memory. `docs/SESSION.md` states the rules.
 //!
 //! A refused text has the line of its refusal, a text whose asks did not all come to their end the line of what ended them,
 //! a text whose replies could not be written that of the flash's fault, and every other text the rows of its answer and their
@@ -14,6 +14,7 @@
 #![tactic(auto)]
 
 pub mod damage;
+pub mod forms;
 pub mod job;
 pub mod laws;
 mod lending;

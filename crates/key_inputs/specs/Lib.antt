@@ -7,3 +7,4 @@ pub mod Renaming
 pub mod Rules
 pub mod Scripts
 pub mod Views
+pub mod Whole

@@ -18,6 +18,7 @@ mod record_search;
 mod schema_names;
 pub mod script;
 pub mod shown;
+pub mod whole;
 
 pub use broken_schema::{BrokenSchema, ColumnNamed, TableNamed};
 pub use broken_table::{BrokenTable, FieldNamed, RecordNamed};
@@ -26,3 +27,4 @@ pub use file_lines::line_of_record;
 pub use opening::{Input, open_tables};
 pub use script::open_script;
 pub use shown::{Front, Shown};
+pub use whole::{Opened, open_inputs};

@@ -5,7 +5,7 @@ use Rattle.ghost_model.specs.core.Database.{IsDatabase}
 use Rattle.ghost_model.specs.core.Printed.{printed}
 use Rattle.ghost_model.specs.core.Texts.{most_script_bytes, most_texts, texts_of}
 use Rattle.edge_traits.specs.Written.{grown, GrowsByFront}
-use Rattle.key_plain.specs.declared.opening.Opened.{Opened}
+use Rattle.key_inputs.specs.declared.whole.Opened.{Opened}
 use Rattle.key_plain.specs.Views.{PlainRead, PrintsRead, PrintsReadFront}
 
 module _ {T E : Type 0} where

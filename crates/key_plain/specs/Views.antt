@@ -2,38 +2,32 @@
 use Rattle.std.specs.Prelude.{◌≡◌, ℕ, ◌≤◌, Bool, true, false, List, length, Option, Result, Ok, Err, ⊤}
 use Rattle.ghost_model.specs.core.Schema.{Schema}
 use Rattle.ghost_model.specs.core.Values.{Database}
-use Rattle.ghost_model.specs.core.Database.{database_of, IsDatabase}
+use Rattle.ghost_model.specs.core.Database.{IsDatabase}
 use Rattle.ghost_model.specs.core.Printed.{printed}
 use Rattle.ghost_model.specs.core.Texts.{most_script_bytes, most_texts, texts_of}
 use Rattle.edge_traits.specs.Written.{grown, GrowsByFront}
 use Rattle.key_inputs.specs.Openings.{Opening, Spelled, Broken}
 use Rattle.key_inputs.specs.Outside.{Verdicts, Risen, Same, verdicts}
 use Rattle.key_inputs.specs.Views.{rule_of}
-use Rattle.key_plain.specs.Openings.{PlainInput, printed_by}
+use Rattle.key_inputs.specs.Whole.{WholeInput}
+use Rattle.key_plain.specs.Openings.{printed_by}
 use Rattle.key_plain.specs.declared.faults.PlainFault.{PlainFault}
 use Rattle.key_plain.specs.declared.faults.PlainFault.TheVariants as fault
-use Rattle.key_plain.specs.declared.opening.Opened.{Opened}
-
--- what was read is what the files spell
-pub record AreSpelled (opening : Opening PlainInput) (opened : Opened) : Type 0 where
-  pub files : List (List ℕ)
-  pub spelled : opening ≡ Spelled (record { schema = opened.tables.schema; files = files; script = opened.script.items })
-  pub tables : opened.tables.tables ≡ database_of opened.tables.schema files
 
 -- the sink took all lines of what the files spell
-pub record Prints (opening : Opening PlainInput) (before after : Option (List ℕ)) : Type 0 where
-  pub input : PlainInput
+pub record Prints (opening : Opening WholeInput) (before after : Option (List ℕ)) : Type 0 where
+  pub input : WholeInput
   pub spelled : opening ≡ Spelled input
   pub printed : after ≡ grown before (printed_by input)
 
 -- the sink took a front of the lines of what the files spell
-pub record PrintsFront (opening : Opening PlainInput) (before after : Option (List ℕ)) : Type 0 where
-  pub input : PlainInput
+pub record PrintsFront (opening : Opening WholeInput) (before after : Option (List ℕ)) : Type 0 where
+  pub input : WholeInput
   pub spelled : opening ≡ Spelled input
   pub front : GrowsByFront before (printed_by input) after
 
 -- how a call ended of which the depot tells its files
-abbrev pub EndsPlainCall : {T : Type 0} → Opening PlainInput → Result T PlainFault → (before after : Option (List ℕ)) → Type 0
+abbrev pub EndsPlainCall : {T : Type 0} → Opening WholeInput → Result T PlainFault → (before after : Option (List ℕ)) → Type 0
 EndsPlainCall opening (Ok _) before after = Prints opening before after
 EndsPlainCall opening (Err (fault.Input broken)) before after = opening ≡ Broken (rule_of broken)
 EndsPlainCall opening (Err fault.Sink) before after = PrintsFront opening before after

@@ -7,14 +7,15 @@ ghost use Rattle.edge_traits.specs.Files.{Files, AreSure};
 ghost use Rattle.key_words.specs.Views.{plain_view};
 ghost use Rattle.key_inputs.specs.Openings.{Spelled, Missing};
 ghost use Rattle.key_inputs.specs.Outside.{HasCauses, outside};
-ghost use Rattle.key_plain.specs.Openings.{PlainInput, plain_opening};
+ghost use Rattle.key_inputs.specs.Whole.{WholeInput};
+ghost use Rattle.key_plain.specs.Openings.{plain_opening};
 ghost use Rattle.key_plain.specs.Views.{EndsPlainCall, PrintsSomeRead, told_by, writes_nothing};
 
 use crate::faults::{PlainFault, fault_of};
-use crate::opening::open;
 use crate::printing::print_script;
 use edge_traits::depot::Depot;
 use edge_traits::sink::Sink;
+use key_inputs::open_inputs;
 use key_words::PlainWords;
 use std::alloc::Global;
 
@@ -31,7 +32,7 @@ pub fn plain<D: Depot, O: Sink>(
 ) -> Result<(), PlainFault>
     ensures ends { (files : Files) → D.contents depot.old ≡ Some files
         → EndsPlainCall (plain_opening files (plain_view words.now)) result (O.written out.old) (O.written out.new) }
-    ensures complete { (files : Files) → (input : PlainInput) → D.contents depot.old ≡ Some files
+    ensures complete { (files : Files) → (input : WholeInput) → D.contents depot.old ≡ Some files
         → (Rose (D.faults depot.old) (D.faults depot.new) → ⊥) → (Rose (O.faults out.old) (O.faults out.new) → ⊥)
         → plain_opening files (plain_view words.now) ≡ Spelled input → (result ≡ Ok tt) ⊎ (result ≡ Err PlainFault.NoMemory) }
     ensures prints { PrintsSomeRead result (O.written out.old) (O.written out.new) }
@@ -43,7 +44,7 @@ pub fn plain<D: Depot, O: Sink>(
     ensures missing { (files : Files) → D.contents depot.old ≡ Some files → AreSure files (D.sure depot.old) → result ≡ Err PlainFault.Depot
         → plain_opening files (plain_view words.now) ≡ Missing }
 {
-    match open(alloc, words, depot) {
+    match open_inputs(alloc, words.schema, words.tables, words.script, depot) {
         Ok(opened) => {
             let tables = &opened.tables;
             if print_script(out, &tables.schema, &tables.tables, &opened.script).is_err() {

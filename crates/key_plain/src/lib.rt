@@ -6,7 +6,6 @@
 
 pub mod command;
 pub mod faults;
-mod opening;
 mod printing;
 
 pub use command::plain;

@@ -8,7 +8,7 @@ use Rattle.page_pool.specs.Pools.{Pool}
 use Rattle.ghost_model.specs.forms.Layout.{need}
 use Rattle.ghost_model.specs.laws.SchemaTrees.{IsTree}
 use Rattle.key_exec.specs.Laws.{KnowledgeIsEnough, DamageIsNeverMet}
-use Rattle.key_exec.specs.Plans.{Suffices}
+use Rattle.flash_layout.specs.Ranges.{Suffices}
 use Rattle.leakless_plan.specs.declared.plan.Plan.{Plan}
 use Rattle.key_session.specs.Kept.{with_lease}
 use Rattle.key_session.specs.Laws.{LaterTextsAreUnmarked}

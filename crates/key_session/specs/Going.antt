@@ -27,7 +27,8 @@ use Rattle.key_session.specs.declared.buffers.Buffers.{Buffers}
 use Rattle.key_session.specs.declared.buffers.Buffers.TheVariants as buffers
 use Rattle.key_session.specs.declared.replies.Replies.{Replies}
 use Rattle.leakless_plan.specs.declared.plan.Plan.{Plan}
-use Rattle.key_exec.specs.Plans.{Suffices, by_pre}
+use Rattle.flash_layout.specs.Ranges.{Suffices}
+use Rattle.key_exec.specs.Plans.{by_pre}
 use Rattle.key_exec.specs.Reading.{KeepsBy}
 use Rattle.key_exec.specs.Laws.{TellingStaysAble, TellingIsSpared, most_left}
 use Rattle.key_exec.specs.Rows.{TakesTurn}

@@ -1,5 +1,4 @@
 pub mod Fits
-pub mod Jobs
 pub mod TextOrder
 pub mod Rows
 pub mod Kept

@@ -10,7 +10,7 @@ ghost use Rattle.key_session.specs.Laws.{RepliesStayKept, LowRises, KeptHalvesAr
 use crate::texts::texts_come_in_order;
 use edge_traits::link::Link;
 use ghost_model::channel::two_worlds;
-pub use key_exec::laws::{held_pages_are_known, knowledge_is_enough, knowledge_stays};
+use key_exec::laws::{knowledge_is_enough, knowledge_stays};
 use session_laws::honest_sessions::{
     honest_asks_are_done, honest_replies_are_whole, honest_sessions_are_smooth,
 };

@@ -1,6 +1,6 @@
 //! The key's answer of a query over the hidden columns of the clinic.
 
-ghost use Rattle.key_exec.specs.Plans.{Suffices};
+ghost use Rattle.flash_layout.specs.Ranges.{Suffices};
 ghost use Rattle.page_pool.specs.Pools.{IsIdle};
 
 use crate::clinic::{CATALOG, device, failing_device};

@@ -6,7 +6,7 @@ use arrayvec::ArrayVec;
 use edge_traits::mem_depot::{MemDepot, Room};
 use edge_traits::mem_flash::MemFlash;
 use edge_traits::mem_sink::MemSink;
-use key_local::{LocalEnd, local};
+use key_commands::local::{LocalEnd, local};
 use key_plain::plain;
 use key_words::{LocalWords, PlainWords};
 use leakless_plan::{Form, Plan};

@@ -1,10 +1,10 @@
 //! What is told where no case brings it about: of ends of the key's program, of words, and of files that are too long.
 
 use csv_split::Place;
+use key_commands::local::{LocalEnd, LocalFailure};
 use key_commands::{Ended, line_of};
 use key_exec::Damage;
 use key_inputs::{BrokenTable, RecordNamed, Shown};
-use key_local::{LocalEnd, LocalFailure};
 use key_words::UsageFault;
 use std::alloc::AllocError;
 

@@ -4,7 +4,7 @@ use Rattle.std.specs.List.{list_all}
 use Rattle.std.proofs.lemmas.Bool.{and_parts}
 use Rattle.ghost_model.specs.core.Meaning.{no_value}
 use Rattle.ghost_laws.specs.Scans.{known_along, holds_or_asked_along, stands_along}
-use Rattle.candidate_rows.specs.Plans.{is_tested}
+use Rattle.ghost_laws.specs.Asking.{is_tested}
 use Rattle.condition_lists.specs.Terms.{is_compared, is_united}
 use Rattle.condition_lists.proofs.TermLemmas.{and_no, no_and, no_rows}
 use Rattle.condition_lists.proofs.UnionLemmas.{one_fails, either_fails}

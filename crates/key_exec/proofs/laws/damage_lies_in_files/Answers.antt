@@ -7,7 +7,7 @@ use Rattle.visible_spool.specs.declared.half.Half.{Half}
 use Rattle.leakless_plan.specs.declared.form.Form.{Form}
 use Rattle.leakless_plan.specs.declared.plan.Plan.{Plan}
 use Rattle.leakless_plan.specs.declared.plan.Plan.TheVariants as plans
-use Rattle.candidate_knowledge.specs.Found.{InFile, InReplies, InScratch, WasFoundByForms, WasFoundInFile}
+use Rattle.candidate_gathering.specs.known.Found.{InFile, InReplies, InScratch, WasFoundByForms, WasFoundInFile}
 use Rattle.key_exec.specs.Blaming.{IsReadBy, WasDamaged}
 use Rattle.key_exec.proofs.laws.damage_lies_in_files.Goals as goal
 

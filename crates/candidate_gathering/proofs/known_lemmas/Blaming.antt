@@ -1,0 +1,123 @@
+-- What is blamed of runs that may be was found in a file that is read, or, where pages are not told, in a reply or in scratch; and the
+-- file is the one in which the slot is damaged.
+use Rattle.std.proofs.Common.{◌≡◌, refl, sym, subst, ℕ, ◌-◌, ◌/◌, ◌<◌, ◌≤◌, inl, inr, Bool, true, false, not, ◌&&◌, ◌||◌, nat_eq, nat_le, nat_lt, Option, arith}
+use Rattle.std.specs.List.{list_any}
+use Rattle.std.proofs.lemmas.Bool.{and_parts, or_cases, leb-true, ltb-true, eqb-true}
+use Rattle.ghost_model.specs.core.Channel.{Catalog}
+use Rattle.ghost_model.specs.core.Query.{Query}
+use Rattle.ghost_model.specs.forms.Layout.{need, spool_end, File, run_of_file}
+use Rattle.ghost_model.specs.forms.Runs.{Run, page_of, per_page, run_end}
+use Rattle.ghost_model.specs.forms.Slots.{has_file}
+use Rattle.ghost_model.specs.laws.LayoutLaws.{FilesLieAsSummed, FilesLieInOrder, LayoutIsSmall, RecordsStandWithin}
+use Rattle.edge_traits.specs.Devices.{Device}
+use Rattle.id_merge.specs.Since.{IsBlamed}
+use Rattle.leakless_plan.specs.declared.form.Form.{Form}
+use Rattle.visible_spool.specs.Areas.{half_begin, half_end}
+use Rattle.candidate_gathering.specs.known.Found.{InFile, InReplies, InScratch, WasFoundAt, WasFoundBetween, WasFoundByForms}
+use Rattle.candidate_gathering.specs.known.Laws.{BadSlotsAreRead, BlamedAreFound}
+use Rattle.candidate_gathering.specs.known.May.{files_in, is_run_read, is_same_run, lies_in, since_for}
+use Rattle.candidate_gathering.specs.known.Reading.{IsBadSlotBy, IsReadByForms, is_read_by}
+use Rattle.candidate_gathering.proofs.known_lemmas.FilePages.{is_static}
+use Rattle.candidate_gathering.proofs.known_lemmas.Listed.{run_is, some_of}
+use Rattle.candidate_gathering.proofs.known_lemmas.OneFile.{one_file}
+
+not_told : (b : Bool) → not b ≡ true → b ≡ false
+not_told true e = absurd (cc e)
+not_told false e = refl
+
+-- pages of a run rise
+pages_rise : (run : Run) (place later : ℕ) → place ≤ later → page_of run place ≤ page_of run later
+pages_rise run place later low = let rise = div_rises place later (per_page run.width) low in omega (arith, rise)
+  where
+    div_rises : (a b n : ℕ) → a ≤ b → a / n ≤ b / n
+    div_rises a b n low = grind (arith, low)
+
+-- a page of a run that lies between two others does
+lies_between : (low high : ℕ) (run : Run) → lies_in low high run ≡ true → (place : ℕ) → place < run.count → (low ≤ page_of run place) × (page_of run place < high)
+lies_between low high run lies place within =
+    elim (or_cases (nat_eq run.count 0) (nat_le low (page_of run 0) && nat_lt (page_of run (run.count - 1)) high) lies) [
+      | inl none ↦ (let e = eqb-true run.count 0 none in absurd (omega (arith, e, within)))
+      | inr inside ↦ (
+          let ends = and_parts (nat_le low (page_of run 0)) (nat_lt (page_of run (run.count - 1)) high) inside in
+          let from = leb-true low (page_of run 0) ends.0 in
+          let to = ltb-true (page_of run (run.count - 1)) high ends.1 in
+          let up = pages_rise run 0 place (omega arith) in
+          let down = pages_rise run place (run.count - 1) (omega (arith, within)) in
+          (omega (arith, from, up), omega (arith, to, down)))
+    ]
+
+module _ (told : Bool) (calls : ℕ) (device : Device) (cat : Catalog) (asked : Query) (forced : Option Form) (top side number slot found : ℕ)
+    (blamed : IsBlamed (since_for told calls cat asked forced top side) device number slot found) where
+  found_at : WasFoundAt calls device blamed.run number slot found
+  found_at = record {
+    place = blamed.place;
+    within = blamed.within;
+    page_is = blamed.page_is;
+    slot_is = blamed.slot_is;
+    bytes = blamed.bytes;
+    read = blamed.read;
+    found_is = blamed.found_is;
+  }
+
+  between : (low high : ℕ) → lies_in low high blamed.run ≡ true → WasFoundBetween calls device low high number slot found
+  between low high lies =
+      let at = lies_between low high blamed.run lies blamed.place blamed.within in
+      let page = blamed.page_is in
+      let from = at.0 in
+      let to = at.1 in
+      record { from = omega (arith, page, from); to = omega (arith, page, to); run = blamed.run; at = found_at }
+
+  is_found : WasFoundByForms told calls device cat asked forced top side number slot found
+  is_found =
+      let files = list_any (is_run_read cat asked forced top blamed.run) (files_in cat.schema) in
+      let replies = lies_in (half_begin cat side) (half_end cat side) blamed.run in
+      let scratch = lies_in (spool_end cat) (need cat) blamed.run in
+      elim (or_cases files (not told && (replies || scratch)) blamed.may) [
+        | inl static ↦ (
+            let one = some_of (is_run_read cat asked forced top blamed.run) (files_in cat.schema) static in
+            let file = one.item in
+            let first = and_parts (has_file cat.schema file) (is_read_by cat asked forced top file && is_same_run blamed.run (run_of_file cat file)) one.passes in
+            let rest = and_parts (is_read_by cat asked forced top file) (is_same_run blamed.run (run_of_file cat file)) first.1 in
+            let W : Run → Type 0 = λ run. WasFoundAt calls device run number slot found in
+            InFile (record { file = file; has = first.0; read_for = rest.0; at = subst W (run_is blamed.run (run_of_file cat file) rest.1) found_at }))
+        | inr other ↦ (
+            let parts = and_parts (not told) (replies || scratch) other in
+            let untold = not_told told parts.0 in
+            elim (or_cases replies scratch parts.1) [
+              | inl one ↦ InReplies untold (between (half_begin cat side) (half_end cat side) one)
+              | inr one ↦ InScratch untold (between (spool_end cat) (need cat) one)
+            ])
+      ]
+
+pub are_found : BlamedAreFound
+are_found told calls device cat asked forced top side number slot found blamed = is_found told calls device cat asked forced top side number slot found blamed
+
+-- ---- where pages are told
+
+pub bad_are_read : FilesLieAsSummed → FilesLieInOrder → LayoutIsSmall → RecordsStandWithin → BadSlotsAreRead
+bad_are_read summed orders small stand page cat asked crosses forced top side database tree since device number slot found bad was = by was
+  where
+    in_run : (file : File) → has_file cat.schema file ≡ true → (place : ℕ) → place < (run_of_file cat file).count → number ≡ page_of (run_of_file cat file) place
+        → ((run_of_file cat file).first ≤ number) × (number < run_end (run_of_file cat file))
+    in_run file has place low at =
+        let static = is_static cat tree (small.narrow cat tree) (summed cat) (orders cat) file has in
+        let before = (stand (run_of_file cat file) static.some static.fits).page place low in
+        (omega (arith, at), omega (arith, at, before))
+
+    by : WasFoundByForms true since device cat asked forced top side number slot found → IsBadSlotBy page cat asked forced top database number slot found
+    by (InReplies untold between) = absurd (cc untold)
+    by (InScratch untold between) = absurd (cc untold)
+    by (InFile one) =
+        let damaged = bad.damaged in
+        let static = is_static cat tree (small.narrow cat tree) (summed cat) (orders cat) bad.file damaged.has in
+        let inside : bad.place < (run_of_file cat bad.file).count = let room = static.room page in let low = damaged.within in omega (arith, low, room) in
+        let here = in_run bad.file damaged.has bad.place inside damaged.page_is in
+        let there = in_run one.file one.has one.at.place one.at.within one.at.page_is in
+        let same = one_file cat tree (summed cat) (orders cat) number bad.file one.file damaged.has one.has here.0 here.1 there.0 there.1 in
+        record {
+          file = bad.file;
+          place = bad.place;
+          read_for = subst (IsReadByForms cat asked forced top) (sym same) one.read_for;
+          damaged = bad.damaged;
+          never = bad.never;
+        }

@@ -1,5 +1,0 @@
-use Rattle.candidate_knowledge.proofs.Blaming.{bad_are_read}
-use Rattle.candidate_knowledge.proofs.laws.bad_slots_are_read.Goals as goal
-
-pub returns : goal.returns
-returns c = record { read = bad_are_read c.files_lie_as_summed.ensures c.files_lie_in_order.ensures c.layout_is_small.ensures c.records_stand_within.ensures }

@@ -1,5 +1,0 @@
-use Rattle.candidate_knowledge.proofs.BadSlots.{are_bad}
-use Rattle.candidate_knowledge.proofs.laws.damage_is_bad.Goals as goal
-
-pub returns : goal.returns
-returns c = are_bad c.held_files_have_no_damage.ensures.none c.files_lie_as_summed.ensures c.files_are_of_columns.ensures.same c.tables_are_of_slots.ensures.same

@@ -1,5 +1,0 @@
-use Rattle.candidate_knowledge.proofs.Candidates.{left_out}
-use Rattle.candidate_knowledge.proofs.laws.rows_without_lines_are_left_out.Goals as goal
-
-pub returns : goal.returns
-returns c = record { left_out = left_out }

@@ -1,5 +1,0 @@
-use Rattle.candidate_knowledge.proofs.ReadRuns.{runs_may}
-use Rattle.candidate_knowledge.proofs.laws.runs_may_be_blamed.Goals as goal
-
-pub returns : goal.returns
-returns c = runs_may c.files_lie_in_order.ensures c.levels_are_ancestors.ensures

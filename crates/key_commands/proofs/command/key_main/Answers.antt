@@ -1,0 +1,44 @@
+use Rattle.std.proofs.Common.{refl, rules}
+use Rattle.key_words.specs.Views.{plain_view, load_view, local_view}
+use Rattle.key_commands.proofs.command.key_main.Goals as goal
+
+pub returns-in-Ok-Plain-clause-plain : goal.returns-in-Ok-Plain-clause-plain
+returns-in-Ok-Plain-clause-plain g c =
+    let did = c.plain.ensures in
+    record {
+      words = plain_view c.in-Ok-Plain.words;
+      said = search rules;
+      did = record {
+        ends = did.ends;
+        complete = did.complete;
+        prints = did.prints;
+        nothing_written = did.nothing_written;
+        causes = did.causes (g.F.Flash.state c.args.flash.now);
+        files = did.same;
+        flash = refl;
+      };
+    }
+
+pub returns-in-Ok-Load-clause-judged : goal.returns-in-Ok-Load-clause-judged
+returns-in-Ok-Load-clause-judged g c files told sure = record {
+  plain = tt;
+  load = record {
+    words = load_view c.in-Ok-Load.words;
+    said = search rules;
+    did = record { unbroken = c.load.ensures.judged files told sure };
+  };
+  local = tt;
+  query = tt;
+}
+
+pub returns-in-Ok-Local-clause-judged : goal.returns-in-Ok-Local-clause-judged
+returns-in-Ok-Local-clause-judged g c files told sure = record {
+  plain = tt;
+  load = tt;
+  local = record {
+    words = local_view c.in-Ok-Local.words;
+    said = search rules;
+    did = record { unbroken = c.local.ensures.judged files told sure };
+  };
+  query = tt;
+}

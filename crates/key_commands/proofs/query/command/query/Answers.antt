@@ -1,0 +1,58 @@
+use Rattle.std.proofs.Common.{List, subst, sym, ◌∙◌, ℕ, refl}
+use Rattle.ghost_model.specs.core.Causes.{Rose}
+use Rattle.ghost_model.specs.core.Texts.{texts_of}
+use Rattle.key_inputs.specs.Outside.{outside}
+use Rattle.key_session.specs.Pacing.{KeepsPace}
+use Rattle.key_commands.specs.query.Openings.{IsScript}
+use Rattle.key_commands.specs.query.Results.{side_since, side_now}
+use Rattle.key_commands.proofs.query_lemmas.Endings.{session_causes, unopened_causes}
+use Rattle.key_commands.proofs.query.command.query.Goals as goal
+
+pub returns-in-Ok-clause-ran : goal.returns-in-Ok-clause-ran
+returns-in-Ok-clause-ran g c =
+    let device = g.F.Flash.state c.open.new.flash in
+    let before = outside (g.D.Depot.contents c.args.depot.now) (g.D.Depot.faults c.args.depot.now) (g.D.Depot.append_faults c.args.depot.now) (g.F.Flash.state c.args.flash.now) (g.O.Sink.written c.args.out.now) (g.O.Sink.faults c.args.out.now) in
+    let after = outside (g.D.Depot.contents c.open.new.depot) (g.D.Depot.faults c.open.new.depot) (g.D.Depot.append_faults c.open.new.depot) (g.F.Flash.state c.run_session.new.flash) (g.O.Sink.written c.run_session.new.out) (g.O.Sink.faults c.run_session.new.out) in
+    let since = side_since before device in
+    let now = side_now c.run_session.result after in
+    let opened = c.in-Ok.ensures.opened in
+    let is_script : IsScript (g.D.Depot.contents c.args.depot.now) c.args.words.now.script.now c.deref.result.now =
+    subst (λ (script : List ℕ). IsScript (g.D.Depot.contents c.args.depot.now) c.args.words.now.script.now script) (sym c.deref.ensures.value) opened.script in
+    record {
+      opened = device;
+      opens = record {
+        name = opened.name;
+        page = c.in-Ok.ensures.kept.page;
+        faults = c.in-Ok.ensures.flash.same refl;
+        deep_reads = c.in-Ok.ensures.kept.deep_reads;
+      };
+      cat = c.in-Ok.opened.cat;
+      proper = c.a_catalog_is_short.ensures.catalog;
+      catalog = opened.catalog;
+      enough = opened.suffices.pages;
+      script = c.deref.result.now;
+      is_script = is_script;
+      ran = c.run_session.ensures.ran.ran;
+      paced = subst (λ (numbers : List ℕ). KeepsPace c.args.words.now.plan g.F.Flash.told c.in-Ok.opened.cat (texts_of c.deref.result.now) c.run_session.ensures.ran.ran.journal numbers since now) c.as_slice.ensures.value c.run_session.ensures.ran.paced;
+      answered = c.run_session.ensures.ran.ran.answered;
+      texts = c.run_session.ensures.texts;
+      prints = c.run_session.ensures.prints;
+      kept = c.run_session.ensures.pages;
+      called = c.run_session.ensures.flash_called;
+      damage_called = c.run_session.ensures.damage_called;
+    }
+
+pub returns-in-Ok-clause-causes : goal.returns-in-Ok-clause-causes
+returns-in-Ok-clause-causes g c =
+    let before = outside (g.D.Depot.contents c.args.depot.now) (g.D.Depot.faults c.args.depot.now) (g.D.Depot.append_faults c.args.depot.now) (g.F.Flash.state c.args.flash.now) (g.O.Sink.written c.args.out.now) (g.O.Sink.faults c.args.out.now) in
+    let after = outside (g.D.Depot.contents c.open.new.depot) (g.D.Depot.faults c.open.new.depot) (g.D.Depot.append_faults c.open.new.depot) (g.F.Flash.state c.run_session.new.flash) (g.O.Sink.written c.run_session.new.out) (g.O.Sink.faults c.run_session.new.out) in
+    let opened = c.in-Ok.ensures.flash.same refl in
+    session_causes c.run_session.result.status before after c.run_session.ensures.sink_rose c.run_session.ensures.sink_same (c.in-Ok.ensures.depot.same refl) c.in-Ok.ensures.appends
+    (λ blamed. subst (λ (count : ℕ). Rose count after.device.faults) opened (c.run_session.ensures.flash_rose blamed))
+    (λ spared. c.run_session.ensures.flash_same spared ∙ opened)
+
+pub returns-in-Err-clause-causes : goal.returns-in-Err-clause-causes
+returns-in-Err-clause-causes g c =
+    let before = outside (g.D.Depot.contents c.args.depot.now) (g.D.Depot.faults c.args.depot.now) (g.D.Depot.append_faults c.args.depot.now) (g.F.Flash.state c.args.flash.now) (g.O.Sink.written c.args.out.now) (g.O.Sink.faults c.args.out.now) in
+    let after = outside (g.D.Depot.contents c.open.new.depot) (g.D.Depot.faults c.open.new.depot) (g.D.Depot.append_faults c.open.new.depot) (g.F.Flash.state c.open.new.flash) (g.O.Sink.written c.args.out.now) (g.O.Sink.faults c.args.out.now) in
+    unopened_causes c.in-Err.failure before after refl c.in-Err.ensures.depot c.in-Err.ensures.appends c.in-Err.ensures.flash

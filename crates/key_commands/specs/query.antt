@@ -1,0 +1,4 @@
+pub mod PublicPages
+pub mod Openings
+pub mod Results
+pub mod Renaming

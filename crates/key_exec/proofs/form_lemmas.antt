@@ -1,0 +1,14 @@
+pub mod LinkTables
+pub mod NextLinks
+pub mod HeldBeside
+pub mod PassingRows
+pub mod ReplyRows
+pub mod FillingOn
+pub mod SiftingOn
+pub mod SetLists
+pub mod UnitingOn
+pub mod CrossedLists
+pub mod Walking
+pub mod Turning
+pub mod Staying
+pub mod LinkRuns

@@ -1,9 +1,0 @@
-pub mod Lines
-pub mod Openings
-pub mod Sessions
-pub mod Results
-pub mod Reading
-pub mod Preparing
-pub mod Making
-pub mod Running
-pub mod Renaming

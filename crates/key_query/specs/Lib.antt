@@ -1,5 +1,0 @@
-pub mod PublicPages
-pub mod Openings
-pub mod Results
-pub mod Statuses
-pub mod Renaming
