@@ -1,12 +1,12 @@
 -- The value of a column in a row, and whether a row meets a test, by its identifier.
-use Rattle.std.specs.Prelude.{ℕ, ◌<◌, ◌≤◌, ◌^◌, ⊤, Bool, true, List, Some}
+use Rattle.std.specs.Prelude.{ℕ, ◌≤◌, ⊤, Bool, true, List, Some}
 use Rattle.ghost_model.specs.core.Schema.{Schema}
 use Rattle.ghost_model.specs.core.Query.{Condition, Compare, Join}
 use Rattle.ghost_model.specs.core.Meaning.{compares}
 use Rattle.ghost_model.specs.core.Split.{Hidden}
 use Rattle.ghost_model.specs.core.Replies.{Reply, known_value, reply_about, stands_in}
 use Rattle.edge_traits.specs.Devices.{Device}
-use Rattle.hidden_columns.specs.Files.{IsReadable, slot_page}
+use Rattle.hidden_columns.specs.Files.{IsReadable}
 use Rattle.candidate_rows.specs.declared.next.Slot.{Slot}
 use Rattle.candidate_rows.specs.declared.plan.Test.{Test}
 use Rattle.candidate_rows.specs.Plans.{test_meets}
@@ -21,13 +21,6 @@ pub record CanReadSlot (device : Device) (slot : Slot) : Type 0 where
 abbrev pub CanReadNeeded : Device → Option Slot → Type 0
 CanReadNeeded device None = ⊤
 CanReadNeeded device (Some slot) = CanReadSlot device slot
-
--- its page has a number of 32 bits
-pub record IsSmallSlot (slot : Slot) : Type 0 where
-  pub some : 1 ≤ slot.identifier
-  pub wide : 0 < slot.file.run.width
-  pub narrow : slot.file.run.width ≤ 2048
-  pub small : slot_page slot.file slot.identifier < 2 ^ 32
 
 -- whether a comparison holds of the row of its column's table that has an identifier
 abbrev pub holds_at : Schema → Hidden → List Reply → (identifier : ℕ) → Condition → Bool

@@ -57,6 +57,14 @@ impl Half {
         self.replies[table]
     }
 
+    /// `reply` where it stands.
+    pub fn reply_at(&self, table: usize) -> &Reply
+        requires there { table < MAX_TABLES }
+        ensures reply { result.now ≡ reply_of self.now table }
+    {
+        &self.replies[table]
+    }
+
     /// The row of an identifier in the reply of a table: `Reply::find`.
     pub fn find<F: Flash>(
         &self,
@@ -74,7 +82,7 @@ impl Half {
         ensures readable { IsReadable (F.state flash.new) (reply_of self.now table) }
         ensures read { (k : ℕ) → (reply_of self.now table).run.count < 2 ^ k → ReadsPages F.told (F.state flash.old) (F.state flash.new) pool.old pool.new lease.now (k + 3) result }
     {
-        self.reply(table).find(flash, pool, lease, id)
+        self.reply_at(table).find(flash, pool, lease, id)
     }
 
     /// The identifiers of the rows in the reply of a table: `Reply::ids`.
@@ -84,6 +92,6 @@ impl Half {
         ensures ids { (page : ℕ → List ℕ) (rows : List (List ℕ)) → HoldsRows page (reply_of self.now table) rows → ids_left page result ≡ map id_of_bytes rows }
         ensures ready { (told : Bool) (device : Device) (pool : Pool) → IsReadable device (reply_of self.now table) → CanRead told device pool lease → IfSome (page_at pool lease) (IsPageOf (run_of (reply_of self.now table).run)) → IsReady told device pool result }
     {
-        self.reply(table).ids(lease)
+        self.reply_at(table).ids(lease)
     }
 }
