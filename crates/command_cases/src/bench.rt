@@ -1,5 +1,6 @@
 //! The objects of a call.
 
+use crate::order::{CountedSink, NotedLink};
 use crate::texts::{bytes_of, numbers_of};
 use edge_traits::flash::Flash;
 use edge_traits::mem_depot::{MemDepot, Room};
@@ -11,6 +12,8 @@ use edge_traits::script::Script;
 use host_commands::host_main;
 use key_commands::key_main;
 use std::alloc::{AllocError, Global};
+use std::cell::Cell;
+use std::mem;
 
 const ROOM: Room = Room {
     files: 16,
@@ -22,6 +25,8 @@ const LINK_ROOM: LinkRoom = LinkRoom {
     moves: 220_000,
     bytes: 500_000,
 };
+
+const NO_ROOM: LinkRoom = LinkRoom { moves: 0, bytes: 0 };
 
 /// How many bytes are printed at most.
 const OUT_ROOM: usize = 400_000;
@@ -46,17 +51,19 @@ pub struct Bench {
     pub flash: MemFlash,
     pub link: MemLink,
     pub out: MemSink,
+    /// How many writes there were before each move of the last call of the key, and at its end.
+    pub order: (Vec<u64>, u64),
     deep: u64,
 }
 
 /// A link to another end that says nothing.
-fn silent_link(alloc: Global) -> Result<MemLink, AllocError> {
+fn silent_link(alloc: Global, room: LinkRoom) -> Result<MemLink, AllocError> {
     let peer = PeerScript {
         bytes: &[],
         pieces: &[],
         ports: &[],
     };
-    MemLink::new(alloc, LINK_ROOM, &peer, &[])
+    MemLink::new(alloc, room, &peer, &[])
 }
 
 /// An output to which nothing was printed.
@@ -71,8 +78,9 @@ impl Bench {
             alloc,
             depot: MemDepot::new(alloc, ROOM, &[])?,
             flash: MemFlash::new(alloc, BLOCKS, &[])?,
-            link: silent_link(alloc)?,
+            link: silent_link(alloc, LINK_ROOM)?,
             out: empty_out(alloc)?,
+            order: (Vec::new(alloc), 0),
             deep: 0,
         })
     }
@@ -81,7 +89,7 @@ impl Bench {
     pub fn again(&mut self) -> Result<(), AllocError> {
         self.depot.script = Script::new(self.alloc, &[])?;
         self.flash.script = Script::new(self.alloc, &[])?;
-        self.link = silent_link(self.alloc)?;
+        self.link = silent_link(self.alloc, LINK_ROOM)?;
         self.out = empty_out(self.alloc)?;
         self.deep = self.flash.deep_reads();
         Ok(())
@@ -139,6 +147,22 @@ impl Bench {
             Ok(page) => self.flash.put_page(page, &bytes),
             Err(_) => false,
         }
+    }
+
+    /// Puts bytes into a slot of a page whose slots are as wide; answers whether the flash has it.
+    pub fn slot(&mut self, page: u64, slot: u64, front: &[u8]) -> bool {
+        let Ok(page) = u32::try_from(page) else {
+            return false;
+        };
+        let mut bytes = match self.flash.page(page) {
+            Some(before) => *before,
+            None => return false,
+        };
+        let place = (slot as usize).saturating_mul(front.len());
+        for (byte, damaged) in bytes.iter_mut().skip(place).zip(front.iter()) {
+            *byte = *damaged;
+        }
+        self.flash.put_page(page, &bytes)
     }
 
     /// Counts the calls of an object anew, and lets these fail; answers whether there is such an object.
@@ -201,14 +225,27 @@ impl Bench {
 
     /// Makes the call of the key.
     fn key(&mut self, words: &[String]) -> Result<Came, AllocError> {
+        let writes = Cell::new(0);
+        let mut link = NotedLink {
+            link: mem::replace(&mut self.link, silent_link(self.alloc, NO_ROOM)?),
+            writes: &writes,
+            before: Vec::new(self.alloc),
+        };
+        let mut out = CountedSink {
+            sink: mem::replace(&mut self.out, MemSink::new(self.alloc, 0, 0, &[])?),
+            writes: &writes,
+        };
         let ended = key_main(
             self.alloc,
             words,
             &mut self.depot,
             &mut self.flash,
-            &mut self.link,
-            &mut self.out,
+            &mut link,
+            &mut out,
         );
+        self.link = link.link;
+        self.out = out.sink;
+        self.order = (link.before, writes.get());
         Ok(Came {
             code: ended.exit_code(),
             line: key_commands::line_of(self.alloc, words, &ended)?,

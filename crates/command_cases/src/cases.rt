@@ -2,9 +2,10 @@
 
 use crate::bench::Bench;
 use crate::moves::{put_count, put_moves, taken_in};
+use crate::order::put_order;
 use crate::pages::put_pages;
 use crate::rows::{put_brief, rows_of};
-use crate::texts::{bytes_of, number_of, put, put_lines, put_raw};
+use crate::texts::{behind_common, bytes_of, number_of, put, put_lines, put_raw};
 use crate::words::{Directive, directive_of, first_of};
 use std::alloc::{AllocError, Global};
 
@@ -38,6 +39,12 @@ impl Cases {
     /// Forgets what was printed.
     pub fn forget(&mut self) {
         self.page.clear();
+    }
+
+    /// Tells what came of a turn, behind a line of its own.
+    pub fn tell_turn(&mut self, line: &str, came: &[u8]) -> Result<(), AllocError> {
+        put(&mut self.page, line)?;
+        self.page.extend_from_slice(came)
     }
 
     /// Does what a line says.
@@ -85,7 +92,7 @@ impl Cases {
             Directive::Do | Directive::DoQuiet | Directive::DoBrief => self.call(directive, rest),
             Directive::File | Directive::Bytes => self.put_file(directive, rest),
             Directive::Repeat | Directive::Rows => self.add_rows(directive, rest),
-            Directive::Blocks | Directive::Page | Directive::Fail => {
+            Directive::Blocks | Directive::Page | Directive::Slot | Directive::Fail => {
                 self.arrange(directive, rest)
             }
             Directive::Say
@@ -94,6 +101,7 @@ impl Cases {
             | Directive::Drip
             | Directive::Port => self.speak(directive, rest),
             Directive::MovesTo => self.put_told(rest),
+            Directive::LinesTo => Ok(self.bench.depot.put(rest, self.bench.out.bytes())),
             Directive::TakenTo => self.put_taken(rest),
             _ => self.tell(directive, rest),
         }
@@ -156,6 +164,11 @@ impl Cases {
                 let bytes = bytes_of(self.alloc, text)?;
                 Ok(self.bench.page(number_of(word), &bytes))
             }
+            Directive::Slot => {
+                let (slot, text) = first_of(text);
+                let bytes = bytes_of(self.alloc, text)?;
+                Ok(self.bench.slot(number_of(word), number_of(slot), &bytes))
+            }
             _ => self.bench.fail(word, text),
         }
     }
@@ -210,6 +223,11 @@ impl Cases {
             Directive::Show => self.show(rest)?,
             Directive::Size => self.put_size(rest)?,
             Directive::Same => self.compare(rest)?,
+            Directive::Beside => self.set_beside(rest)?,
+            Directive::Order => {
+                let (before, writes) = &self.bench.order;
+                put_order(self.alloc, &mut self.page, before, *writes)?;
+            }
             Directive::Pages => put_pages(self.alloc, &mut self.page, &self.bench.flash)?,
             _ => match self.bench.link.journal() {
                 None => put(&mut self.page, "? moves\n")?,
@@ -277,6 +295,20 @@ impl Cases {
             }
         };
         put(&mut self.page, &line)
+    }
+
+    /// Tells how many of the first lines of a file are those of another, and its lines behind these.
+    fn set_beside(&mut self, names: &str) -> Result<(), AllocError> {
+        let (one, other) = first_of(names);
+        match (self.bench.depot.file(one), self.bench.depot.file(other)) {
+            (Some(first), Some(second)) => {
+                let (count, rest) = behind_common(first, second);
+                let line = format!(in self.alloc; "{other}: {count} lines as in {one}\n")?;
+                put(&mut self.page, &line)?;
+                put_lines(&mut self.page, rest)
+            }
+            _ => put(&mut self.page, "? beside\n"),
+        }
     }
 
     /// Tells whether two files are there and have the same bytes.

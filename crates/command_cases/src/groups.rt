@@ -1,6 +1,8 @@
 //! Named groups of lines.
 
 use crate::cases::Cases;
+use crate::texts::number_of;
+use crate::turns::do_each;
 use crate::words::first_of;
 use std::alloc::{AllocError, Global};
 
@@ -97,8 +99,31 @@ impl Groups {
         Ok(())
     }
 
+    /// Does the lines of a group once for each number from one to another; answers whether there is such a group.
+    fn turns(&self, words: &str, cases: &mut Cases) -> Result<bool, AllocError> {
+        let (first, rest) = first_of(words);
+        let (last, name) = first_of(rest);
+        match lines_of(&self.groups, name) {
+            None => Ok(false),
+            Some(lines) => {
+                do_each(
+                    self.alloc,
+                    lines,
+                    (number_of(first), number_of(last)),
+                    cases,
+                )?;
+                Ok(true)
+            }
+        }
+    }
+
     /// Does each line that a line stands for.
     pub fn each(&self, line: &str, cases: &mut Cases) -> Result<(), AllocError> {
+        if let ("each", words) = first_of(line) {
+            if self.turns(words, cases)? {
+                return Ok(());
+            }
+        }
         let lines = meant(self.alloc, &self.groups, line)?;
         for line in &lines {
             cases.read(line.as_str())?;

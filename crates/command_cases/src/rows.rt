@@ -21,8 +21,13 @@ fn value_of(form: &str, number: u64) -> u64 {
     left.saturating_add(number_of(more))
 }
 
-/// Adds the row of a number: a text in which each form stands in braces.
-fn put_row(alloc: Global, page: &mut Vec<u8>, text: &str, number: u64) -> Result<(), AllocError> {
+/// Adds the text of a number: one in which each form stands in braces.
+pub fn put_filled(
+    alloc: Global,
+    page: &mut Vec<u8>,
+    text: &str,
+    number: u64,
+) -> Result<(), AllocError> {
     for (i, part) in text.split('{').enumerate() {
         match part.split_once('}') {
             Some((form, rest)) if i > 0 => {
@@ -32,7 +37,6 @@ fn put_row(alloc: Global, page: &mut Vec<u8>, text: &str, number: u64) -> Result
             _ => put(page, part)?,
         }
     }
-    page.push(b'\n')?;
     Ok(())
 }
 
@@ -40,7 +44,8 @@ fn put_row(alloc: Global, page: &mut Vec<u8>, text: &str, number: u64) -> Result
 pub fn rows_of(alloc: Global, numbers: (u64, u64), text: &str) -> Result<Vec<u8>, AllocError> {
     let mut page = Vec::new(alloc);
     for number in numbers.0..numbers.1.saturating_add(1) {
-        put_row(alloc, &mut page, text, number)?;
+        put_filled(alloc, &mut page, text, number)?;
+        page.push(b'\n')?;
     }
     Ok(page)
 }

@@ -143,6 +143,22 @@ pub fn put_lines(page: &mut Vec<u8>, bytes: &[u8]) -> Result<(), AllocError> {
     Ok(())
 }
 
+/// How many of the first lines of a file are those of another, and what stands behind them.
+pub fn behind_common<'a>(one: &[u8], other: &'a [u8]) -> (u64, &'a [u8]) {
+    let mut count: u64 = 0;
+    let mut from = 0;
+    for (place, (byte, expected)) in other.iter().zip(one.iter()).enumerate() {
+        if byte != expected {
+            break;
+        }
+        if *byte == b'\n' {
+            count = count.saturating_add(1);
+            from = place + 1;
+        }
+    }
+    (count, other.get(from..).unwrap_or(&[]))
+}
+
 /// Adds what was printed as it is. A last line with no end is marked by a backslash.
 pub fn put_raw(page: &mut Vec<u8>, bytes: &[u8]) -> Result<(), AllocError> {
     page.extend_from_slice(bytes)?;

@@ -11,6 +11,7 @@ pub enum Directive {
     Rows,
     Blocks,
     Page,
+    Slot,
     Pages,
     Fail,
     Say,
@@ -27,13 +28,16 @@ pub enum Directive {
     Show,
     Size,
     Same,
+    Beside,
     Moves,
     MovesCount,
     MovesTo,
+    LinesTo,
     TakenTo,
+    Order,
 }
 
-const DIRECTIVES: [(&str, Directive); 28] = [
+const DIRECTIVES: [(&str, Directive); 32] = [
     ("#", Directive::Heading),
     ("case", Directive::Case),
     ("file", Directive::File),
@@ -42,6 +46,7 @@ const DIRECTIVES: [(&str, Directive); 28] = [
     ("rows", Directive::Rows),
     ("blocks", Directive::Blocks),
     ("page", Directive::Page),
+    ("slot", Directive::Slot),
     ("pages", Directive::Pages),
     ("fail", Directive::Fail),
     ("say", Directive::Say),
@@ -58,10 +63,13 @@ const DIRECTIVES: [(&str, Directive); 28] = [
     ("show", Directive::Show),
     ("size", Directive::Size),
     ("same", Directive::Same),
+    ("beside", Directive::Beside),
     ("moves", Directive::Moves),
     ("moves-count", Directive::MovesCount),
     ("moves-to", Directive::MovesTo),
+    ("lines-to", Directive::LinesTo),
     ("taken-to", Directive::TakenTo),
+    ("order", Directive::Order),
 ];
 
 /// The directive of a first word.
