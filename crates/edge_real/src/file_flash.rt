@@ -1,15 +1,19 @@
 //! A file as a flash device.
 
-ghost use Rattle.std.specs.Prelude.{◌≡◌, ◌≤◌, ◌+◌, ◌*◌, IsTrue, IsOk, ◌↔◌, IfSome, None, option_map, true, false, [], vec_len};
+ghost use Rattle.std.specs.Prelude.{◌≡◌, ◌≤◌, ◌+◌, ◌*◌, IsTrue, IsOk, ◌↔◌, IfOk, None, option_map, true, false, [], vec_len};
 ghost use Rattle.ghost_model.specs.core.Causes.{HasCause};
 ghost use Rattle.edge_traits.specs.Devices.{next, since_call, is_made, made_before};
 ghost use Rattle.edge_traits.specs.Marks.{is_marked};
 
+use crate::file_fault::{Deed, FileFault, Reason, fault_of};
+use crate::file_name::FileName;
+use crate::lock::Lock;
+use crate::places::{file_behind, folder_of, keep_folder, stands_at};
 use edge_traits::flash::{AttachFault, Flash};
 use edge_traits::{Failed, counting, marks};
 use std::alloc::Global;
-use std::fs::{OpenFile, OpenOptions};
-use std::os::unix::fs::FileExt;
+use std::fs::{OpenFile, OpenOptions, Permissions};
+use std::os::unix::fs::{FileExt, MetadataExt, OpenOptionsExt, PermissionsExt};
 use std::rt::Files;
 
 /// The bytes of a block.
@@ -18,24 +22,44 @@ const BLOCK_BYTES: u64 = 131_072;
 /// A block of blank pages.
 const BLANK_BLOCK: [u8; 131_072] = [0xFF; 131_072];
 
+/// A blank page.
+const BLANK_PAGE: [u8; 2048] = [0xFF; 2048];
+
+/// How a device begins that was loaded.
+const MAGIC: [u8; 7] = *b"GHOSTDB";
+
 /// The most blocks of a device.
 const MOST_BLOCKS: u64 = 60_000_000;
 
 /// A file of whole blocks, named by its path as given.
 ///
 /// A page is read or written by one call of the system at its place in the file, and none is kept in memory; a block is
-/// blanked by one write. Before a page of the first block is written, all that was written before is brought to the disk.
+/// blanked by one write. Before a page of the first block is written, all that was written before is brought to the disk,
+/// and before the write of page 0 answers, that page, and the folder in which the file was made.
+///
+/// The device has its file alone while it is open: until it makes or attaches another, or ends. A file that another has is
+/// neither read nor written, and one that is no device is not made one.
 #[derive(Drop)]
 pub struct FileFlash<R, F> {
     files: R,
     file: Option<F>,
+    folder: Option<F>,
     name: Option<Vec<u8>>,
+    called: FileName,
+    first: Option<FileFault>,
     marks: Vec<u64>,
     calls: u64,
     deep_reads: u64,
     faults: u64,
     since_fault: u64,
     ghost small: { vec_len marks ≤ 60000000 },
+}
+
+/// A file that was made a device, and its folder.
+#[derive(Drop)]
+struct Made<F> {
+    file: F,
+    folder: F,
 }
 
 /// A file that was opened, and its number of blocks.
@@ -58,7 +82,10 @@ impl<R: Files + Drop> FileFlash<R, R::File> {
         FileFlash {
             files,
             file: None,
+            folder: None,
             name: None,
+            called: FileName::of(""),
+            first: None,
             marks: Vec::new(alloc),
             calls: 0,
             deep_reads: 0,
@@ -77,8 +104,61 @@ impl<R: Files + Drop> FileFlash<R, R::File> {
         ensures since_fault { self.new.since_fault ≡ self.old.since_fault }
     {
         self.file = None;
+        self.folder = None;
         self.name = None;
         self.marks.clear();
+    }
+
+    /// The first call that failed, if one did.
+    pub fn first_fault(&self) -> Option<FileFault> {
+        self.first
+    }
+
+    /// Keeps what failed, where it is the first.
+    fn note(&mut self, fault: &FileFault)
+        ensures name { self.new.name ≡ self.old.name }
+        ensures marks { self.new.marks ≡ self.old.marks }
+        ensures calls { self.new.calls ≡ self.old.calls }
+        ensures deep_reads { self.new.deep_reads ≡ self.old.deep_reads }
+        ensures faults { self.new.faults ≡ self.old.faults }
+        ensures since_fault { self.new.since_fault ≡ self.old.since_fault }
+    {
+        if self.first.is_none() {
+            self.first = Some(*fault);
+        }
+    }
+
+    /// Keeps why the file of a name is no device, or was not made one.
+    fn note_opening(&mut self, deed: Deed, name: &str, reason: Reason)
+        ensures name { self.new.name ≡ self.old.name }
+        ensures marks { self.new.marks ≡ self.old.marks }
+        ensures calls { self.new.calls ≡ self.old.calls }
+        ensures deep_reads { self.new.deep_reads ≡ self.old.deep_reads }
+        ensures faults { self.new.faults ≡ self.old.faults }
+        ensures since_fault { self.new.since_fault ≡ self.old.since_fault }
+    {
+        let fault = fault_of(&self.files, deed, name, reason);
+        self.note(&fault);
+    }
+
+    /// Counts a call on a page or a block by how it went, and keeps why it failed.
+    fn end(&mut self, deed: Deed, went: Result<(), Reason>) -> Result<(), Failed>
+        ensures answer { IsOk result ↔ IsOk went }
+        ensures calls { self.new.calls ≡ next self.old.calls }
+        ensures calls_rise { self.old.calls ≤ self.new.calls }
+        ensures cause { HasCause self.old.faults self.new.faults result }
+        ensures one_fault { self.new.faults ≤ self.old.faults + 1 }
+        ensures since_fault { self.new.since_fault ≡ since_call self.old.since_fault result }
+        ensures deep_reads { self.new.deep_reads ≡ self.old.deep_reads }
+        ensures name { self.new.name ≡ self.old.name }
+        ensures marks { self.new.marks ≡ self.old.marks }
+    {
+        if let Err(reason) = went {
+            let name = self.called;
+            self.note(&FileFault { deed, name, reason });
+            return self.count(false);
+        }
+        self.count(true)
     }
 
     /// Counts a call by how it went.
@@ -104,73 +184,120 @@ impl<R: Files + Drop> FileFlash<R, R::File> {
     }
 }
 
-/// Blanks so many blocks from the beginning of a file, and answers whether that went well.
-fn blank_blocks<F: FileExt>(file: &F, blocks: u32) -> bool {
+/// Blanks so many blocks from the beginning of a file.
+fn blank_blocks<F: FileExt>(file: &F, blocks: u32) -> Result<(), Reason> {
     for block in 0..blocks {
-        if !blank_block(file, block) {
-            return false;
+        blank_block(file, block)?;
+    }
+    Ok(())
+}
+
+/// Blanks a block.
+fn blank_block<F: FileExt>(file: &F, block: u32) -> Result<(), Reason> {
+    file.write_all_at(&BLANK_BLOCK, u64::from(block) * BLOCK_BYTES)?;
+    Ok(())
+}
+
+/// Reads a page.
+fn read<F: FileExt>(file: &F, page: u32, buf: &mut [u8; 2048]) -> Result<(), Reason> {
+    file.read_exact_at(buf, u64::from(page) * 2048)?;
+    Ok(())
+}
+
+/// Writes a page, and brings to the disk what is to be there before and behind it.
+fn write<F: FileExt + OpenFile>(
+    file: &F,
+    folder: &Option<F>,
+    page: u32,
+    bytes: &[u8; 2048],
+) -> Result<(), Reason> {
+    if page < 64 {
+        file.sync_data()?;
+    }
+    file.write_all_at(bytes, u64::from(page) * 2048)?;
+    if page == 0 {
+        file.sync_all()?;
+        if let Some(folder) = folder {
+            keep_folder(folder)?;
         }
     }
-    true
+    Ok(())
 }
 
-/// Blanks a block, and answers whether that went well.
-fn blank_block<F: FileExt>(file: &F, block: u32) -> bool {
-    file.write_all_at(&BLANK_BLOCK, u64::from(block) * BLOCK_BYTES)
-        .is_ok()
-}
-
-/// Reads a page, and answers whether that went well.
-fn read<F: FileExt>(file: &F, page: u32, buf: &mut [u8; 2048]) -> bool {
-    file.read_exact_at(buf, u64::from(page) * 2048).is_ok()
-}
-
-/// Writes a page, and answers whether that went well.
-fn write<F: FileExt + OpenFile>(file: &F, page: u32, bytes: &[u8; 2048]) -> bool {
-    if page < 64 && file.sync_data().is_err() {
-        return false;
-    }
-    file.write_all_at(bytes, u64::from(page) * 2048).is_ok()
-}
-
-/// A new file of so many blank blocks in place of an older one.
-fn create<R: Files>(files: &R, name: &str, blocks: u32) -> Option<R::File>
+/// A file of so many blank blocks, new or in place of an older device.
+fn create<R: Files>(
+    alloc: Global,
+    files: &R,
+    name: &str,
+    blocks: u32,
+) -> Result<Made<R::File>, Reason>
 where
-    R::File: FileExt,
+    R::File: FileExt + Lock,
 {
+    let Some(found) = file_behind(alloc, files, name)? else {
+        return Err(Reason::NoFile);
+    };
     let file = OpenOptions::new()
         .read(true)
         .write(true)
         .create(true)
-        .truncate(true)
-        .open(files, name)
-        .ok()?;
-    if !blank_blocks(&file, blocks) {
-        return None;
+        .mode(0o600)
+        .open(files, found.as_str())?;
+    file.take_alone()?;
+    if !stands_at(files, found.as_str(), &file) {
+        return Err(Reason::InUse);
     }
-    Some(file)
+    look(&file)?;
+    let folder = folder_of(files, found.as_str())?;
+    hide(&file)?;
+    file.set_len(0)?;
+    blank_blocks(&file, blocks)?;
+    Ok(Made { file, folder })
+}
+
+/// Looks whether a file may be made a device: one that is empty, is blank as far as a page goes, or is a device.
+fn look<F: FileExt + OpenFile>(file: &F) -> Result<(), Reason> {
+    let bytes = file.metadata()?.len();
+    let mut page = [0; 2048];
+    let head = &mut page[..bytes.min(2048) as usize];
+    file.read_exact_at(head, 0)?;
+    let is_blank = BLANK_PAGE.starts_with(head);
+    let is_device = bytes % BLOCK_BYTES == 0 && head.starts_with(&MAGIC);
+    if is_blank || is_device {
+        Ok(())
+    } else {
+        Err(Reason::NoDevice(bytes))
+    }
+}
+
+/// Makes a file readable by its owner alone.
+fn hide<F: OpenFile>(file: &F) -> Result<(), Reason> {
+    let others_may = file.metadata()?.mode() & 0o077 != 0;
+    match file.set_permissions(Permissions::from_mode(0o600)) {
+        Err(_) if others_may => Err(Reason::NotOurs),
+        _ => Ok(()),
+    }
 }
 
 /// A file that is there, if it is of whole blocks.
-fn open<R: Files>(files: &R, name: &str) -> Option<Opened<R::File>>
-    ensures { IfSome result (λ opened. opened.blocks ≤ 60000000) }
+fn open<R: Files>(files: &R, name: &str) -> Result<Opened<R::File>, Reason>
+where
+    R::File: Lock,
+    ensures { IfOk result (λ opened. opened.blocks ≤ 60000000) }
 {
-    let file = OpenOptions::new()
-        .read(true)
-        .write(true)
-        .open(files, name)
-        .ok()?;
-    let bytes = file.metadata().ok()?.len();
+    let file = OpenOptions::new().read(true).write(true).open(files, name)?;
+    file.take_alone()?;
+    let bytes = file.metadata()?.len();
     if bytes % BLOCK_BYTES != 0 || bytes / BLOCK_BYTES > MOST_BLOCKS {
-        return None;
+        return Err(Reason::NoDevice(bytes));
     }
     let blocks = (bytes / BLOCK_BYTES) as u32;
-    Some(Opened { file, blocks })
+    Ok(Opened { file, blocks })
 }
 
 impl<R: Files + Drop> Flash for FileFlash<R, R::File>
 where
-    R::File: FileExt,
+    R::File: FileExt + Lock,
 {
     ghost told = { false };
 
@@ -190,27 +317,43 @@ where
 
     fn make(&mut self, alloc: Global, name: &str, blocks: u32) -> Result<(), AttachFault> {
         self.close();
+        self.called = FileName::of(name);
         let (Ok(path), Ok(marks)) = (name.as_bytes().to_vec(alloc), marks::all_set(alloc, blocks))
         else {
             self.count(true)?;
             return Err(AttachFault::NoMemory);
         };
-        let file = create(&self.files, name, blocks);
-        self.count(file.is_some())?;
-        self.file = file;
-        self.name = Some(path);
-        self.marks = marks;
-        Ok(())
+        match create(alloc, &self.files, name, blocks) {
+            Err(Reason::NoMemory) => {
+                self.count(true)?;
+                Err(AttachFault::NoMemory)
+            }
+            Err(reason) => {
+                self.note_opening(Deed::Make, name, reason);
+                self.count(false)?;
+                Err(AttachFault::Failed)
+            }
+            Ok(made) => {
+                self.count(true)?;
+                self.file = Some(made.file);
+                self.folder = Some(made.folder);
+                self.name = Some(path);
+                self.marks = marks;
+                Ok(())
+            }
+        }
     }
 
     fn attach(&mut self, alloc: Global, name: &str) -> Result<u32, AttachFault> {
         self.close();
+        self.called = FileName::of(name);
         match open(&self.files, name) {
-            None => {
+            Err(reason) => {
+                self.note_opening(Deed::Open, name, reason);
                 self.count(false)?;
                 Err(AttachFault::Failed)
             }
-            Some(opened) => {
+            Ok(opened) => {
                 self.count(true)?;
                 let path = name.as_bytes().to_vec(alloc)?;
                 self.marks = marks::all_clear(alloc, opened.blocks)?;
@@ -223,33 +366,33 @@ where
 
     fn read_page(&mut self, page: u32, buf: &mut [u8; 2048]) -> Result<(), Failed> {
         self.deep_reads = counting::one_more_if(page >= 64, self.deep_reads);
-        let went_well = match &self.file {
+        let went = match &self.file {
             Some(file) => read(file, page, buf),
-            None => false,
+            None => Err(Reason::NotThere),
         };
-        self.count(went_well)
+        self.end(Deed::Read, went)
     }
 
     fn write_page(&mut self, page: u32, bytes: &[u8; 2048]) -> Result<(), Failed> {
         marks::clear(&mut self.marks, page);
-        let went_well = match &self.file {
-            Some(file) => write(file, page, bytes),
-            None => false,
+        let went = match &self.file {
+            Some(file) => write(file, &self.folder, page, bytes),
+            None => Err(Reason::NotThere),
         };
-        self.count(went_well)
+        self.end(Deed::Write, went)
     }
 
     fn erase_block(&mut self, block: u32) -> Result<(), Failed> {
-        let went_well = match &self.file {
+        let went = match &self.file {
             Some(file) => blank_block(file, block),
-            None => false,
+            None => Err(Reason::NotThere),
         };
-        if went_well {
+        if went.is_ok() {
             marks::set_block(&mut self.marks, block);
         } else {
             marks::clear_block(&mut self.marks, block);
         }
-        self.count(went_well)
+        self.end(Deed::Write, went)
     }
 
     fn pages(&self) -> u32 {

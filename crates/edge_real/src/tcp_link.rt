@@ -74,7 +74,7 @@ impl Display for Cause {
     fn fmt<W: FormatWrite>(&self, f: &mut Formatter<W>) -> Result<(), FormatError> {
         f.write_str(match self {
             Cause::Refused =>
-                "the connection was refused: is host_program running at that address and port?",
+                "the connection was refused: host_program is not running there, or serves another key; start it again",
             Cause::BrokenOff => "the other end broke off: see what it said",
             Cause::InUse => "the address is in use: give another port, or 0 for a free one",
             Cause::NotHere => "the address is none of this machine: give one of it, as 127.0.0.1:0",

@@ -42,7 +42,7 @@ fn run(rt: &HostRuntime, words: &mut Vec<String>) -> io::Result<HostStatus> {
     for word in env::args(rt)? {
         words.push(word)?;
     }
-    let mut depot = ToldDepot::new(DirDepot::new(rt), terminal(rt));
+    let mut depot = ToldDepot::new(DirDepot::new(rt.alloc(), rt), terminal(rt));
     let mut link = TcpLink::new(rt);
     let mut out = StdSink::new(rt.alloc(), rt)?;
     let status = host_main(rt.alloc(), words, &mut depot, &mut link, &mut out);

@@ -14,7 +14,7 @@ mod telling;
 use crate::heard_sink::HeardSink;
 use crate::kept_depot::{KeptDepot, KeptText};
 use crate::refusals::tell_refusals;
-use crate::telling::{Inputs, inputs_of, tell, tell_device, tell_file, tell_input, tell_move};
+use crate::telling::{Inputs, inputs_of, replaced_of, tell, tell_file, tell_input, tell_move};
 use edge_real::dir_depot::DirDepot;
 use edge_real::file_flash::FileFlash;
 use edge_real::progress::terminal;
@@ -61,10 +61,10 @@ fn run(rt: &HostRuntime, words: &mut Vec<String>) -> io::Result<Ended> {
         schema,
         tables,
         script,
-        flash: device,
     } = inputs_of(rt.alloc(), words);
+    let files = DirDepot::replacing(rt.alloc(), rt, replaced_of(rt.alloc(), words));
     let mut depot = KeptDepot {
-        depot: ToldDepot::new(DirDepot::new(rt), terminal(rt)),
+        depot: ToldDepot::new(files, terminal(rt)),
         schema: KeptText::of(rt.alloc(), schema),
         script: KeptText::of(rt.alloc(), script),
     };
@@ -83,7 +83,7 @@ fn run(rt: &HostRuntime, words: &mut Vec<String>) -> io::Result<Ended> {
     if ended.exit_code() != 0 {
         tell(rt, words, &ended);
         tell_file(rt, depot.depot.depot.first_fault());
-        tell_device(rt, device, &ended);
+        tell_file(rt, flash.flash.first_fault());
         tell_move(rt, link.first_cause());
         tell_input(rt, &mut depot, tables, &ended);
     }

@@ -3,9 +3,9 @@
 use crate::kept_depot::KeptDepot;
 use crate::schema_place::tell_place;
 use crate::table_line::tell_record;
-use edge_real::file_fault::{Deed, FileFault, Reason};
-use edge_real::file_name::FileName;
+use edge_real::file_fault::FileFault;
 use edge_real::plain_words::plain_words;
+use edge_real::replaced::{NONE_REPLACED, Replaced};
 use edge_real::tcp_link::Cause;
 use edge_traits::depot::Depot;
 use key_commands::local::LocalFailure;
@@ -16,11 +16,8 @@ use key_load::LoadFailure;
 use key_plain::PlainFault;
 use key_words::{KeyWords, read_words};
 use std::alloc::{AllocError, Global};
-use std::fs;
-use std::io::ErrorKind;
 
-/// The files that a command reads or makes: the schema's, the folder of the tables', the script's and the device's, empty
-/// where there is none.
+/// The files that a command reads: the schema's, the folder of the tables' and the script's, empty where there is none.
 #[derive(Clone, Copy)]
 pub(crate) struct Inputs<'a> {
     /// The schema's file.
@@ -31,25 +28,38 @@ pub(crate) struct Inputs<'a> {
 
     /// The script's file.
     pub(crate) script: &'a str,
-
-    /// The device's file.
-    pub(crate) flash: &'a str,
 }
 
 /// The files that the command of these words reads.
 pub(crate) fn inputs_of(alloc: Global, words: &[String]) -> Inputs<'_> {
-    let (schema, tables, script, flash) = match read_words(alloc, words) {
-        Ok(KeyWords::Plain(said)) => (said.schema, said.tables, said.script, ""),
-        Ok(KeyWords::Load(said)) => (said.schema, said.tables, "", said.flash),
-        Ok(KeyWords::Local(said)) => (said.schema, said.tables, said.script, said.flash),
-        Ok(KeyWords::Query(said)) => ("", "", said.script, said.flash),
-        Err(_) => ("", "", "", ""),
+    let (schema, tables, script) = match read_words(alloc, words) {
+        Ok(KeyWords::Plain(said)) => (said.schema, said.tables, said.script),
+        Ok(KeyWords::Load(said)) => (said.schema, said.tables, ""),
+        Ok(KeyWords::Local(said)) => (said.schema, said.tables, said.script),
+        Ok(KeyWords::Query(said)) => ("", "", said.script),
+        Err(_) => ("", "", ""),
     };
     Inputs {
         schema,
         tables,
         script,
-        flash,
+    }
+}
+
+/// The files that the command of these words is to replace.
+pub(crate) fn replaced_of(alloc: Global, words: &[String]) -> Replaced<'_> {
+    match read_words(alloc, words) {
+        Ok(KeyWords::Load(said)) => Replaced {
+            flash: said.flash,
+            visible: said.visible,
+            journal: "",
+        },
+        Ok(KeyWords::Local(said)) => Replaced {
+            flash: said.flash,
+            visible: "",
+            journal: said.journal.unwrap_or(""),
+        },
+        _ => NONE_REPLACED,
     }
 }
 
@@ -77,34 +87,6 @@ pub(crate) fn tell_file(rt: &HostRuntime, fault: Option<FileFault>) {
 pub(crate) fn tell_move(rt: &HostRuntime, cause: Option<Cause>) {
     if let Some(cause) = cause {
         let _printed = eprintln!(rt; "{cause}");
-    }
-}
-
-/// Prints on standard error why a device could not be made or opened, if it could not, as far as its file's name tells it.
-pub(crate) fn tell_device(rt: &HostRuntime, flash: &str, ended: &Ended) {
-    let deed = match ended {
-        Ended::Query(Err(QueryFailure::Flash)) => Deed::Read,
-        Ended::Load(Err(LoadFailure::Flash)) | Ended::Local(Err(LocalFailure::Flash)) =>
-            Deed::Write,
-        _ => return,
-    };
-    if let Some(reason) = device_reason(rt, flash, deed) {
-        let name = FileName::of(flash);
-        tell_file(rt, Some(FileFault { deed, name, reason }));
-    }
-}
-
-/// Why the file of this name is no device, or cannot become one, if its name tells it.
-fn device_reason(rt: &HostRuntime, flash: &str, deed: Deed) -> Option<Reason> {
-    match fs::metadata(rt, flash) {
-        Ok(known) if known.is_dir() => Some(Reason::Folder),
-        Ok(_) => None,
-        Err(error) => match (error.kind(), deed) {
-            (ErrorKind::NotFound | ErrorKind::NotADirectory, Deed::Read) => Some(Reason::NotThere),
-            (ErrorKind::NotFound | ErrorKind::NotADirectory, Deed::Write) => Some(Reason::NoFolder),
-            (ErrorKind::PermissionDenied, _) => Some(Reason::NotAllowed),
-            _ => None,
-        },
     }
 }
 

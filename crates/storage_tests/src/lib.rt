@@ -17,6 +17,8 @@ mod lines_and_files;
 #[cfg(test)]
 mod links;
 #[cfg(test)]
+mod no_writes;
+#[cfg(test)]
 mod places;
 #[cfg(test)]
 mod ranks;

@@ -1,6 +1,7 @@
 //! Sinks and depots, in memory and as they are.
 
 use edge_real::dir_depot::DirDepot;
+use edge_real::replaced::Replaced;
 use edge_real::std_sink::StdSink;
 use edge_traits::depot::Depot;
 use edge_traits::mem_depot::{MemDepot, Room};
@@ -11,8 +12,10 @@ use edge_traits::writing::write_all;
 use std::alloc::AllocError;
 use std::cell::{Cell, RefCell};
 use std::fmt::Display;
-use std::io;
+use std::fs::Permissions;
 use std::io::{Error, ErrorKind};
+use std::os::unix::fs::{PermissionsExt, symlink};
+use std::{fs, io};
 
 #[test]
 fn a_sink_in_memory_takes_a_piece_within_its_room(rt: HostRuntime) -> Result<(), AllocError> {
@@ -88,9 +91,96 @@ fn keeps_files<D: Depot>(depot: &mut D) -> bool {
 fn files_keep_what_they_are_given(rt: HostRuntime) -> Result<(), AllocError> {
     let mut depot = MemDepot::new(rt.alloc(), ROOM, &[])?;
     assert!(rt; keeps_files(&mut depot));
-    let mut depot = DirDepot::new(&rt);
+    let mut depot = DirDepot::new(rt.alloc(), &rt);
     assert!(rt; keeps_files(&mut depot));
     assert!(rt; depot.append("none/note", b"8").is_err());
+    Ok(())
+}
+
+/// Whether a file has these bytes, and nothing stands beside it.
+fn holds(rt: &HostRuntime, name: &str, bytes: &[u8]) -> bool {
+    match fs::read(rt, name) {
+        Ok(read) => read.as_slice() == bytes && !fs::exists(rt, "note.part").unwrap_or(true),
+        Err(_) => false,
+    }
+}
+
+#[test]
+fn a_file_is_replaced_as_a_whole(rt: HostRuntime) {
+    let mut depot = DirDepot::new(rt.alloc(), &rt);
+    assert!(rt; depot.replace("note", b"12345").is_ok());
+    assert!(rt; fs::set_permissions(&rt, "note", Permissions::from_mode(0o640)).is_ok());
+    let mut reader = DirDepot::new(rt.alloc(), &rt);
+    assert!(rt; reads(&mut reader, "note", 0, "12"));
+    for link in ["link", "far"] {
+        let to = if link == "link" { "note" } else { "new" };
+        assert!(rt; symlink(&rt, to, link).is_ok());
+        assert!(rt; depot.replace(link, b"6789").is_ok());
+        assert!(rt; holds(&rt, to, b"6789"));
+        match fs::symlink_metadata(&rt, link) {
+            Ok(known) => assert!(rt; known.is_symlink()),
+            Err(_) => assert!(rt; false),
+        }
+    }
+    match fs::metadata(&rt, "note") {
+        Ok(known) => assert!(rt; known.permissions().mode() & 0o777 == 0o640),
+        Err(_) => assert!(rt; false),
+    }
+    assert!(rt; reads(&mut reader, "note", 2, "34"));
+    assert!(rt; depot.replace("/dev/null", b"1").is_ok());
+}
+
+#[test]
+fn no_file_is_read_that_is_to_be_replaced(rt: HostRuntime) -> Result<(), AllocError> {
+    let mut depot = DirDepot::new(rt.alloc(), &rt);
+    assert!(rt; depot.replace("note", b"1").is_ok());
+    for (flash, visible, line) in [
+        ("key", "new", ""),
+        (
+            "note",
+            "new",
+            "note would be written over by --flash: it stays; give --flash another name",
+        ),
+        (
+            "key",
+            "./note",
+            "note would be written over by --visible: it stays; give --visible another name",
+        ),
+        (
+            "new",
+            "./new",
+            "new would be written over by --visible: it stays; give --visible another name",
+        ),
+        (
+            "new.part",
+            "new",
+            "new.part would be written over by --visible: it stays; give --visible another name",
+        ),
+        (
+            "key",
+            "none/new",
+            "could not write none/new: its folder is not there",
+        ),
+        ("key", ".", "could not write .: it is a folder"),
+    ] {
+        let replaced = Replaced {
+            flash,
+            visible,
+            journal: "",
+        };
+        let mut depot = DirDepot::replacing(rt.alloc(), &rt, replaced);
+        assert!(rt;
+            reads(&mut depot, "note", 0, "1") == line.is_empty(),
+            "{line}"
+        );
+        if let Some(fault) = depot.first_fault() {
+            assert!(rt;
+                format!(in rt.alloc(); "{fault}")?.as_str() == line,
+                "{line}"
+            );
+        }
+        assert!(rt; !fs::exists(&rt, "new").unwrap_or(true) && holds(&rt, "note", b"1"));
+    }
     Ok(())
 }
 

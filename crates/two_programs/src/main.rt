@@ -93,7 +93,7 @@ fn be_key(rt: &HostRuntime, line: &str) -> io::Result<u8> {
     for word in line.split(' ') {
         words.push(String::from_str(rt.alloc(), word)?)?;
     }
-    let mut depot = DirDepot::new(rt);
+    let mut depot = DirDepot::new(rt.alloc(), rt);
     let mut flash = FileFlash::new(rt.alloc(), rt);
     let mut link = TcpLink::new(rt);
     let mut out = StdSink::new(rt.alloc(), rt)?;
@@ -115,7 +115,7 @@ fn be_key(rt: &HostRuntime, line: &str) -> io::Result<u8> {
 
 /// Does what the host's words say, and answers its exit code.
 fn be_host(rt: &HostRuntime, words: &[String]) -> io::Result<u8> {
-    let mut depot = DirDepot::new(rt);
+    let mut depot = DirDepot::new(rt.alloc(), rt);
     let mut link = TcpLink::new(rt);
     let mut out = StdSink::new(rt.alloc(), rt)?;
     Ok(host_main(rt.alloc(), words, &mut depot, &mut link, &mut out).exit_code())
