@@ -68,6 +68,14 @@ impl Cause {
             _ => Cause::Other,
         }
     }
+
+    /// Whether it lies in the address alone, so that there was no connection.
+    pub fn is_of_the_address(&self) -> bool {
+        matches!(
+            self,
+            Cause::InUse | Cause::NotHere | Cause::NoAddress | Cause::NotAllowed
+        )
+    }
 }
 
 impl Display for Cause {

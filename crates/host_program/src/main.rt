@@ -8,7 +8,7 @@ use edge_real::progress::terminal;
 use edge_real::std_sink::StdSink;
 use edge_real::tcp_link::{Cause, TcpLink};
 use edge_real::told_depot::ToldDepot;
-use host_commands::{HostStatus, host_main, line_of};
+use host_commands::{HostStatus, host_main, line_of, read_words};
 use std::alloc::{AllocError, Global};
 use std::io::ErrorKind;
 use std::process::ExitCode;
@@ -46,10 +46,13 @@ fn run(rt: &HostRuntime, words: &mut Vec<String>) -> io::Result<HostStatus> {
     let mut link = TcpLink::new(rt);
     let mut out = StdSink::new(rt.alloc(), rt)?;
     let status = host_main(rt.alloc(), words, &mut depot, &mut link, &mut out);
-    if status != HostStatus::Ok {
-        tell(rt, words, &status);
-        tell_file(rt, depot.depot.first_fault());
-        tell_move(rt, link.first_cause());
+    match status {
+        HostStatus::Ok => {}
+        HostStatus::Link => tell_link(rt, words, link.first_cause()),
+        _ => {
+            tell(rt, words, &status);
+            tell_file(rt, depot.depot.first_fault());
+        }
     }
     Ok(status)
 }
@@ -74,9 +77,27 @@ fn tell_file(rt: &HostRuntime, fault: Option<FileFault>) {
     }
 }
 
-/// Prints on standard error why a move on the link failed, if one did.
-fn tell_move(rt: &HostRuntime, cause: Option<Cause>) {
-    if let Some(cause) = cause {
-        let _printed = eprintln!(rt; "{cause}");
+/// Prints on standard error that the host could not listen, and why, or that its key ended too early.
+fn tell_link(rt: &HostRuntime, words: &[String], cause: Option<Cause>) {
+    let _printed = match link_line(rt.alloc(), words, cause) {
+        Ok(line) => eprintln!(rt; "{line}"),
+        Err(_) => eprintln!(rt; "the link failed"),
+    };
+}
+
+/// The line that tells so.
+fn link_line(alloc: Global, words: &[String], cause: Option<Cause>) -> Result<String, AllocError> {
+    let plain = plain_words(alloc, words)?;
+    let at = match read_words(alloc, &plain) {
+        Ok(said) => said.at,
+        Err(_) => "",
+    };
+    match cause {
+        Some(cause) if cause.is_of_the_address() => {
+            format!(in alloc; "could not listen at {at}: {cause}")
+        }
+        _ => format!(in alloc;
+            "the key that was served at {at} ended before it said goodbye: start host_program again, and then the key"
+        ),
     }
 }
