@@ -55,4 +55,4 @@ few_left by told cat side device pool one can = at one.stage can.needs
     at (Broken state) needs = omega arith
     at Marked needs = omega arith
     at (Answering job) needs =
-        job_few job.by cat needs.asked side told device pool job.half job.plan job.rows job.left job.given job.spent job.work job.phase needs.ready.is_for.small needs.going needs.ready.at
+        job_few job.by cat needs.asked side told device pool job.at.half job.at.plan job.at.rows job.left job.at.given job.at.spent job.at.work job.phase needs.ready.is_for.small needs.going needs.ready.at

@@ -46,7 +46,7 @@ spares_after by {cat = cat} {side = side} {b = b} {c = c} low first kept = spare
 pub out_ready : (cat : Catalog) (asked : Query) (side : ℕ) (told : Bool) (device : Device) (pool : Pool) (job : Job) → IsReady cat asked side told device pool job → AreOut pool (jobs.leases_of job)
 out_ready cat asked side told device pool job ready = at job.phase ready.at
   where
-    at : (phase : Phase) → IsAtPhase job.by cat asked side told device pool job.half job.plan job.rows job.left job.given job.spent job.work phase → AreOut pool (jobs.leases_in phase)
+    at : (phase : Phase) → IsAtPhase job.by cat asked side told device pool job.at.half job.at.plan job.at.rows job.left job.at.given job.at.spent job.at.work phase → AreOut pool (jobs.leases_in phase)
     at Begun is = tt
     at (Scanning leases scan) is = is.1.1.usable.out
     at (Linking linking) is = is.1.is.buffers.out

@@ -65,7 +65,7 @@ abbrev pub spent_in : Stage → ℕ
 spent_in (Refused refusal) = 0
 spent_in (Broken state) = 0
 spent_in Marked = 0
-spent_in (Answering job) = job.spent
+spent_in (Answering job) = job.at.spent
 
 abbrev pub spent_of : Telling → ℕ
 spent_of telling = spent_in telling.stage
@@ -133,7 +133,7 @@ pub record AreLeft (cat : Catalog) (asked meant : Query) (replies : List Reply) 
 pub record IsPaid (cat : Catalog) (asked meant : Query) (replies : List Reply) (pages_told : Bool) (page : ℕ → List ℕ) (pool : Pool) (job : Job) (database : Database) : Type 0 where
   pub still : ℕ
   pub costs : JobCosts cat asked database replies pages_told page pool job still
-  pub enough : job.spent + still ≤ work cat.schema database meant
+  pub enough : job.at.spent + still ≤ work cat.schema database meant
 
 -- some rows were given, whatever the pages hold; where they hold a database, from the front of the text's answer
 pub record HasGiven (by : Plan) (pages_told : Bool) (cat : Catalog) (side : ℕ) (text : List ℕ) (half : Half) (start device : Device) (before now : Handed) (pool : Pool) (job : Job) : Type 0 where
@@ -141,13 +141,13 @@ pub record HasGiven (by : Plan) (pages_told : Bool) (cat : Catalog) (side : ℕ)
   pub read : IsMeant cat.schema text asked
   pub tree : IsTree cat.schema
   pub by_is : job.by ≡ by
-  pub half_is : job.half ≡ half
+  pub half_is : job.at.half ≡ half
   pub ready : IsReady cat asked side pages_told device pool job
   -- what its buffers hold was read since, of files that the plan reads
   pub reads : JobGiven cat asked side pages_told start.calls device pool job
   pub given : List Row
   pub handed_on : Hands (concat (map row_line given)) before now
-  pub counted : job.given ≡ length given
+  pub counted : job.at.given ≡ length given
   pub left : (database : Database) (replies : List Reply) → KnowsText by pages_told start.page cat text half replies database
       → AreLeft cat asked read.meant replies pages_told device.page pool given job database
   -- by the indexes, where the host is honest
