@@ -36,7 +36,6 @@ use Rattle.key_session.specs.Refusing.{code_of, first_code}
 use Rattle.key_session.specs.Telling.{SessionSide, AreLeft, KeepsFiles, IsTelling, marks_behind}
 use Rattle.key_session.specs.Going.{IsGoing}
 use Rattle.channel_pump.specs.declared.state.Pump.{Pump}
-use Rattle.key_session.specs.Pacing.{KeepsPace}
 use Rattle.key_session.specs.Running.{HasRun, IsTallied, status_with, protocol_or, host_or, blames_flash, is_damaged, spares_flash}
 use Rattle.key_session.specs.declared.counts.Counts.{Counts}
 use Rattle.key_exec.specs.declared.damage.Damage.{Damage}
@@ -249,9 +248,8 @@ none_broken catalog texts journal place query undone well (ByHost d refused word
 none_broken catalog texts journal place query undone well (ByLink d r stop word) = true_is_not_false (sym stop ∙ (any_stop journal ∙ well.0))
 none_broken catalog texts journal place query undone well (ByFrame d r stop broken word) = true_is_not_false (sym broken ∙ well.1)
 
-pub record IsLast (went : Journal → Type 0) (link_before link_now : ℕ) (plan : Plan) (pages_told : Bool) (catalog : Catalog) (at : List ℕ) (texts : List (List ℕ)) (numbers : List ℕ) (since now : SessionSide) (tally : Tally) : Type 0 where
+pub record IsLast (went : Journal → Type 0) (link_before link_now : ℕ) (plan : Plan) (pages_told : Bool) (catalog : Catalog) (at : List ℕ) (texts : List (List ℕ)) (since now : SessionSide) (tally : Tally) : Type 0 where
   pub ran : HasRun went link_before link_now plan pages_told catalog at texts since now tally
-  pub paced : KeepsPace plan pages_told catalog texts ran.journal numbers since now
   pub many : tally.texts ≡ length texts
   pub prints : PrintsSome since.sink now.sink
   pub pages : KeepsFiles catalog since.flash now.flash
@@ -305,18 +303,17 @@ none_met Is none (reason ∷ reasons) (None ∷ damages) e each =
     rw (first, none_met Is none reasons damages later (λ place damage f. each (suc place) damage f)) refl
 none_met Is none (reason ∷ reasons) (Some damage ∷ damages) e each = absurd (none damage (each 0 damage refl))
 
-pub has_run : LaterTextsAreUnmarked → DamageIsNeverMet → (went : Journal → Type 0) (link_before link_now : ℕ) (plan : Plan) (pages_told : Bool) (catalog : Catalog) (at : List ℕ) (texts : List (List ℕ)) (numbers : List ℕ) (since now : SessionSide) (pump : Pump) (page : List ℕ) (journal : Journal) (top : ℕ) (pool : Pool) (left : List (List ℕ)) (count : ℕ) (counts : Counts) (replies : Replies)
+pub has_run : LaterTextsAreUnmarked → DamageIsNeverMet → (went : Journal → Type 0) (link_before link_now : ℕ) (plan : Plan) (pages_told : Bool) (catalog : Catalog) (at : List ℕ) (texts : List (List ℕ)) (since now : SessionSide) (pump : Pump) (page : List ℕ) (journal : Journal) (top : ℕ) (pool : Pool) (left : List (List ℕ)) (count : ℕ) (counts : Counts) (replies : Replies)
     (tally : Tally)
     → IsTree catalog.schema → WentBy went link_before link_now journal → IsLive catalog at (asked_of catalog.schema texts) journal pump page → IsFinished journal
     → IsTelling plan pages_told catalog texts journal top since now.sink now.flash pool left count counts replies
     → left ≡ []
     → tally.texts ≡ count → tally.refused ≡ counts.refused → tally.faulted ≡ counts.faulted
     → tally.status ≡ status_with now.sink.failed (standing_after catalog (asked_of catalog.schema texts) journal) counts.by_flash counts.damage
-    → KeepsPace plan pages_told catalog texts journal numbers since now
     → (IsProper catalog at texts journal → IsFinished journal → AreAnswered plan pages_told catalog texts journal since now tally → AnswersWhereSound plan pages_told catalog texts journal since now tally)
     → (IsProper catalog at texts journal → IsFinished journal → count ≡ length texts → CallsAreFew plan pages_told catalog texts journal since now)
-    → IsLast went link_before link_now plan pages_told catalog at texts numbers since now tally
-has_run later never went link_before link_now plan pages_told catalog at texts numbers since now pump page journal top pool left many_told counts replies tally tree went_by live is_finished last none many refused faulted status_is paced answers few =
+    → IsLast went link_before link_now plan pages_told catalog at texts since now tally
+has_run later never went link_before link_now plan pages_told catalog at texts since now pump page journal top pool left many_told counts replies tally tree went_by live is_finished last none many refused faulted status_is answers few =
     let have : HaveReasons catalog texts journal (length texts)
     (λ reasons. IsTallied plan pages_told since.flash.page catalog texts now.sink.failed (standing_after catalog (asked_of catalog.schema texts) journal) reasons tally) since.flash.faults now.flash.faults =
     record {
@@ -358,7 +355,6 @@ has_run later never went link_before link_now plan pages_told catalog at texts n
         answered = answers live.proper is_finished (record { reasons = have; answers = last.answers; undamaged = undamaged });
         few_calls = few live.proper is_finished count;
       };
-      paced = paced;
       many = many ∙ count;
       prints = last.prints;
       pages = last.pages;

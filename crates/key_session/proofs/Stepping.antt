@@ -1,6 +1,7 @@
 -- A session from step to step.
 use Rattle.std.proofs.Common.{◌≡◌, ◌≤◌, ◌<◌, ℕ, arith, Bool, true, false, List, [], ◌∷◌, ◌++◌, length, refl, sym, ap, ◌∙◌, subst, append-nil, Option, Some, None}
-use Rattle.std.specs.Prelude.{◌^◌, is_some}
+use Rattle.std.specs.Prelude.{⊤, ◌^◌, min, is_some}
+use Rattle.ghost_model.specs.core.Causes.{last_count}
 use Rattle.ghost_model.specs.core.Channel.{Catalog, Journal}
 use Rattle.ghost_model.specs.core.Asks.{asked_of, NumberedAsk}
 use Rattle.edge_traits.specs.Devices.{Device}
@@ -23,7 +24,7 @@ use Rattle.key_session.specs.Refusing.{first_code}
 use Rattle.key_session.specs.TextOrder.{TextsComeInOrder}
 use Rattle.key_session.specs.Telling.{SessionSide, texts_left}
 use Rattle.key_session.specs.Going.{IsAmid, IsGoing, IsLive, WasAmid, WentOn, due_in, due_by_rule}
-use Rattle.key_session.specs.Pacing.{HasCome, RunsTakeFewCalls}
+use Rattle.key_session.specs.FewCalls.{CallsSoFar, HasCome, StepsTakeFewCalls}
 use Rattle.key_session.specs.declared.pace.Due.{Due}
 use Rattle.key_session.specs.declared.pace.Due.TheVariants as due
 use Rattle.key_session.specs.declared.session.Session.{Session}
@@ -65,44 +66,55 @@ pub by_rule_live : OverTextsAreSettled → TextsComeInOrder → TextsAreDecided 
 by_rule_live over order decided plan told texts journal since now pool session live =
     by_rule over order decided session.cat.now texts journal session live.owed (λ opened. (was_amid plan told texts journal since now pool session live).amid.going.settled opened)
 
-pub come_on : (before_it made later : Journal → Type 0) (plan : Plan) (told : Bool) (texts : List (List ℕ)) (numbers : List ℕ) (since before now : SessionSide) (pool more : Pool) (old new : Session)
+pub come_on : StepsTakeFewCalls → (before_it made later : Journal → Type 0) (plan : Plan) (told : Bool) (texts : List (List ℕ)) (since before now : SessionSide) (pool more : Pool) (old new : Session)
     → ((first then : Journal) → before_it first → made then → later (first ++ then))
     → ((journal : Journal) → IsLive plan told texts journal since before pool old → WentOn (due_by_rule old.cat.now texts journal old) made plan told texts journal since before now more old new)
-    → HasCome before_it plan told texts numbers since before pool old → HasCome later plan told texts numbers since now more new
-come_on before_it made later plan told texts numbers since before now pool more old new joins steps come = by (due_by_rule old.cat.now texts come.journal old) refl (steps come.journal come.live)
+    → HasCome before_it plan told texts since before pool old → HasCome later plan told texts since now more new
+come_on few before_it made later plan told texts since before now pool more old new joins steps come = by (due_by_rule old.cat.now texts come.journal old) (steps come.journal come.live)
   where
-    by : (d : Due) → due_by_rule old.cat.now texts come.journal old ≡ d → WentOn d made plan told texts come.journal since before now more old new → HasCome later plan told texts numbers since now more new
-    by due.Move e moved = record {
+    low : (now : ℕ) → min before.flash.faults last_count ≤ now → min since.flash.faults last_count ≤ now
+    low now stays = let faults = come.faults in omega (arith, faults, stays)
+
+    by : (d : Due) → WentOn d made plan told texts come.journal since before now more old new → HasCome later plan told texts since now more new
+    by due.Move moved = record {
       journal = come.journal ++ moved.made ∷ [];
       went = joins come.journal (moved.made ∷ []) come.went moved.went;
       live = moved.live;
-      earlier = record { journal = come.journal; side = before; pool = pool; session = old } ∷ come.earlier;
-      stages = (
-        record {
-          more = moved.made ∷ [];
-          journal_is = refl;
-          went = subst (λ (d : Due). WentOn d (λ (went : Journal). went ≡ moved.made ∷ []) plan told texts come.journal since before now more old new) (sym e)
-              (record { made = moved.made; went = refl; event = moved.event; page = moved.page; tells = moved.tells; paced = moved.paced; few = moved.few; fills = moved.fills; counts = moved.counts; cat = moved.cat; teller = moved.teller; live = moved.live });
-        },
-        come.stages,
-      );
+      faults = low now.flash.faults moved.counts.faults;
+      few_calls = λ is_pre.
+          subst (λ (catalog : Catalog). CallsSoFar told catalog texts (come.journal ++ moved.made ∷ []) since now new.teller) (sym moved.cat)
+          (few.moved told texts come.journal since before now more old new (record {
+            made = moved.made;
+            went = tt;
+            event = moved.event;
+            page = moved.page;
+            tells = moved.tells;
+            paced = moved.paced;
+            few = moved.few;
+            fills = moved.fills;
+            counts = moved.counts;
+            cat = moved.cat;
+            teller = moved.teller;
+            live = subst (λ (by : Plan). IsLive by told texts (come.journal ++ moved.made ∷ []) since now more new) is_pre moved.live;
+          }) (come.few_calls is_pre));
     }
-    by due.Slice e sliced = record {
+    by due.Slice sliced = record {
       journal = come.journal;
       went = subst later (append-nil come.journal) (joins come.journal [] come.went sliced.went);
       live = sliced.live;
-      earlier = record { journal = come.journal; side = before; pool = pool; session = old } ∷ come.earlier;
-      stages = (
-        record {
-          more = [];
-          journal_is = sym (append-nil come.journal);
-          went = subst (λ (d : Due). WentOn d (λ (went : Journal). went ≡ []) plan told texts come.journal since before now more old new) (sym e)
-              (record { went = refl; sliced = sliced.sliced; spends = sliced.spends; counts = sliced.counts; cat = sliced.cat; live = sliced.live });
-        },
-        come.stages,
-      );
+      faults = low now.flash.faults sliced.counts.faults;
+      few_calls = λ is_pre.
+          subst (λ (catalog : Catalog). CallsSoFar told catalog texts come.journal since now new.teller) (sym sliced.cat)
+          (few.sliced told texts come.journal since before now more old new come.faults (record {
+            went = tt;
+            sliced = sliced.sliced;
+            spends = λ same. sliced.spends is_pre;
+            counts = sliced.counts;
+            cat = sliced.cat;
+            live = subst (λ (by : Plan). IsLive by told texts come.journal since now more new) is_pre sliced.live;
+          }) (come.few_calls is_pre));
     }
-    by due.Ended e none = absurd none
+    by due.Ended none = absurd none
 
 -- the live session over the catalog and the address that it was begun with
 pub record IsLiveAt (plan : Plan) (told : Bool) (cat : Catalog) (at : List ℕ) (texts : List (List ℕ)) (journal : Journal) (since now : SessionSide) (pool : Pool) (session : Session) : Type 0 where
@@ -134,25 +146,24 @@ running_none None e = refl
 running_none (Some telling) e = cc
 
 -- the whole session, once nothing is due
-pub last_of : RunsTakeFewCalls → LaterTextsAreUnmarked → KnowledgeIsEnough → DamageIsNeverMet → HonestSessionsAreSmooth → HonestLinesArePrinted → moves.ClosedIsFinished → (cat : Catalog) → IsCatalog cat → IsTree cat.schema → (texts : List (List ℕ)) → length texts ≤ 64
-    → (went : Journal → Type 0) (link_before link_now : ℕ) (plan : Plan) (told : Bool) (at numbers : List ℕ) (since : SessionSide) (faults : ℕ) (written : Option (List ℕ)) (device : Device) (pool : Pool) (session : Session) (tally : Tally)
+pub last_of : StepsTakeFewCalls → LaterTextsAreUnmarked → KnowledgeIsEnough → DamageIsNeverMet → HonestSessionsAreSmooth → HonestLinesArePrinted → moves.ClosedIsFinished → (cat : Catalog) → IsCatalog cat → IsTree cat.schema → (texts : List (List ℕ)) → length texts ≤ 64
+    → (went : Journal → Type 0) (link_before link_now : ℕ) (plan : Plan) (told : Bool) (at : List ℕ) (since : SessionSide) (faults : ℕ) (written : Option (List ℕ)) (device : Device) (pool : Pool) (session : Session) (tally : Tally)
     → session.cat.now ≡ cat → session.at.now ≡ at
-    → HasCome (WentBy went link_before link_now) plan told texts numbers since (session_side session.teller.printer.failed faults written device) pool session
+    → HasCome (WentBy went link_before link_now) plan told texts since (session_side session.teller.printer.failed faults written device) pool session
     → want_of session.pump ≡ want_is.Closed → is_some session.teller.ahead ≡ false
     → tally.texts ≡ session.teller.count → tally.refused ≡ session.teller.counts.refused → tally.faulted ≡ session.teller.counts.faulted
     → ((catalog : Catalog) (asks : List NumberedAsk) (journal : Journal) → IsAfter catalog asks journal session.pump → session.refusal ≡ first_code (standing_after catalog asks journal).heard.ended
     → tally.status ≡ status_with session.teller.printer.failed (standing_after catalog asks journal) session.teller.counts.by_flash session.teller.counts.damage)
-    → IsLast went link_before link_now plan told cat at texts numbers since (session_side session.teller.printer.failed faults written device) tally
-last_of runs later enough never smooth prints closed cat proper tree texts few went link_before link_now plan told at numbers since faults written device pool session tally cat_is at_is come shut none many refused faulted status =
+    → IsLast went link_before link_now plan told cat at texts since (session_side session.teller.printer.failed faults written device) tally
+last_of ends later enough never smooth prints closed cat proper tree texts few went link_before link_now plan told at since faults written device pool session tally cat_is at_is come shut none many refused faulted status =
     let now = session_side session.teller.printer.failed faults written device in
     let live = live_at plan told cat at texts come.journal since now pool session cat_is at_is come.live in
     let finished = closed cat at (asked_of cat.schema texts) come.journal session.pump live.page live.channel shut in
     let kept = with_lease live.was.lease session.replies in
     let going = all_over plan told cat texts come.journal since now live.was.had session.pump session.teller kept none live.was.amid in
-    has_run later never went link_before link_now plan told cat at texts numbers since now session.pump live.page come.journal going.top live.was.had (texts_left session.teller) session.teller.count session.teller.counts kept tally
+    has_run later never went link_before link_now plan told cat at texts since now session.pump live.page come.journal going.top live.was.had (texts_left session.teller) session.teller.count session.teller.counts kept tally
     tree come.went live.channel finished going.telling (empty _ session.teller.ahead session.teller.texts none (session.teller.last none)) many refused faulted
     (status cat (asked_of cat.schema texts) come.journal live.channel.after live.refusal_is)
-    (record { pool = pool; session = session; catalog_is = cat_is; earlier = come.earlier; stages = come.stages; ended = rw (ap is_closed shut, none) refl })
     (λ is_proper is_finished tells. answers_all smooth prints enough plan told cat at texts come.journal since now tally proper tree few is_proper is_finished tells)
-    (λ is_proper is_finished count. runs plan told cat at texts numbers since (record { journal = come.journal; side = now; pool = pool; session = session }) (setting cat texts proper few) is_proper is_finished
-    (record { catalog_is = cat_is; earlier = come.earlier; stages = come.stages; all_told = count; none_told_now = running_none session.teller.running (none_running session.teller none) }))
+    (λ is_proper is_finished count. ends.ended plan told cat at texts come.journal since now session.teller (setting cat texts proper few) is_proper is_finished count (running_none session.teller.running (none_running session.teller none))
+    (λ is_pre. subst (λ (catalog : Catalog). CallsSoFar told catalog texts come.journal since now session.teller) cat_is (come.few_calls is_pre)))

@@ -21,6 +21,6 @@ pub mod Calls
 pub mod CallExamples
 pub mod Filling
 pub mod Spending
-pub mod Pacing
+pub mod FewCalls
 pub mod Worlds
 pub mod Agreeing

@@ -3,7 +3,7 @@
 ghost use Rattle.key_session.specs.Worlds.{SessionsAreAlike};
 ghost use Rattle.key_session.specs.Agreeing.{PlansAgree, HeldPlansAgree};
 ghost use Rattle.key_session.specs.CallExamples.{CallsOfTheClinic, PagesOfNotes};
-ghost use Rattle.key_session.specs.Pacing.{RunsTakeFewCalls};
+ghost use Rattle.key_session.specs.FewCalls.{StepsTakeFewCalls};
 ghost use Rattle.key_session.specs.Given.{KeptAreGiven, KeptAreOfRows};
 ghost use Rattle.key_session.specs.Laws.{RepliesStayKept, LowRises, KeptHalvesAreHalves, LaterTextsAreUnmarked};
 
@@ -68,9 +68,9 @@ pub(crate) fn later_texts_are_unmarked()
     ensures unmarked { LaterTextsAreUnmarked }
 {}
 
-/// A session that was run to its end took few calls of the flash, by the plan `pre`.
-pub(crate) fn runs_take_few_calls()
-    ensures { RunsTakeFewCalls }
+/// A session takes few calls of the flash, step by step and to its end, by the plan `pre`.
+pub(crate) fn steps_take_few_calls()
+    ensures { StepsTakeFewCalls }
 {
     later_texts_are_unmarked();
     texts_come_in_order();

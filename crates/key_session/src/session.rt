@@ -34,8 +34,7 @@ ghost use Rattle.key_exec.specs.Rows.{PrintsSome, TakesTurn};
 ghost use Rattle.key_session.specs.Going.{CanRun, CanStep, CanWork, IsAmid, IsApart, IsLeased, IsLeft, IsLive, IsNear, IsNext, IsMove, IsSomeLive, IsSomeMove, IsSomeStep, IsSomeWork, MovedOn, RunIsSpared, WasMoved, WentOn, MadeStep, due_by_rule, due_in, left_of, steps_left};
 ghost use Rattle.key_session.specs.declared.buffers.Buffers.TheVariants as buffers;
 ghost use Rattle.key_session.specs.Order.{IsSliced, IsUnpaced, is_closed, is_first};
-ghost use Rattle.key_session.specs.Pacing.{RunsAtPace};
-ghost use Rattle.key_session.specs.Running.{is_sink, status_with, blames_flash, is_damaged, spares_flash};
+ghost use Rattle.key_session.specs.Running.{HasRun, is_sink, status_with, blames_flash, is_damaged, spares_flash};
 ghost use Rattle.key_session.specs.Spending.{AreCountedBy, CountsStay, SpendsCalls, spent_by};
 ghost use Rattle.key_session.specs.Telling.{SessionSide, session_side};
 
@@ -43,7 +42,7 @@ use crate::Replies;
 use crate::buffers::Buffers;
 use crate::fits::replies_fit;
 use crate::laws::{
-    kept_halves_are_halves, later_texts_are_unmarked, replies_stay_kept, runs_take_few_calls,
+    kept_halves_are_halves, later_texts_are_unmarked, replies_stay_kept, steps_take_few_calls,
 };
 use crate::options::Options;
 use crate::pace::{Due, Pace, comes_first};
@@ -466,7 +465,7 @@ pub fn run_session<F: Flash, L: Link, O: Sink>(
     requires few { length (texts_of script.now) ≤ 64 }
     requires suffices { Suffices cat.now (F.state flash.old) }
     requires idle { IsIdle pool.old }
-    ensures ran { RunsAtPace options.now.pace.now (λ journal. L.went link.old journal link.new) (L.faults link.old) (L.faults link.new) options.now.plan F.told cat.now options.now.at.now (texts_of script.now)
+    ensures ran { HasRun (λ journal. L.went link.old journal link.new) (L.faults link.old) (L.faults link.new) options.now.plan F.told cat.now options.now.at.now (texts_of script.now)
         (session_side false (O.faults out.old) (O.written out.old) (F.state flash.old)) (session_side (is_sink result.status) (O.faults out.new) (O.written out.new) (F.state flash.new)) result }
     ensures texts { result.texts ≡ length (texts_of script.now) }
     ensures prints { PrintsSome (handed false (O.faults out.old) (O.written out.old)) (handed (is_sink result.status) (O.faults out.new) (O.written out.new)) }
@@ -492,7 +491,7 @@ pub fn run_session<F: Flash, L: Link, O: Sink>(
     later_texts_are_unmarked();
     knowledge_is_enough();
     damage_is_never_met();
-    runs_take_few_calls();
+    steps_take_few_calls();
     let mut session = Session::begin(cat, script, options);
     'steps: loop {
         match session.due() {

@@ -91,7 +91,7 @@ lines_since catalog texts journal failed before middle after sink written lines 
 
 -- the session ran over what was made for it
 pub ran_of : (told : Bool) (schema : Schema) (database : Database) (texts : List (List ℕ)) (words : Local) (end : LocalEnd) (catalog : Catalog) (before middle after : Outside)
-    → catalog ≡ catalog_for schema database → RanOver words.plan words.pace told catalog database texts words.journal end middle after
+    → catalog ≡ catalog_for schema database → RanOver words.plan told catalog database texts words.journal end middle after
     → middle.device.faults ≡ before.device.faults → middle.append_faults ≡ before.append_faults → middle.sink_faults ≡ before.sink_faults → middle.written ≡ before.written
     → HasLines middle.files words.journal []
     → middle.device.name ≡ Some words.flash → Counts (load_calls catalog (hidden_of schema database)) before.device.calls middle.device.calls
@@ -100,12 +100,13 @@ pub ran_of : (told : Bool) (schema : Schema) (database : Database) (texts : List
     → HoldingsAreKept → IsTree catalog.schema → LieInOrder catalog
     → Ran told (subject schema database texts words) end before after
 ran_of told schema database texts words end catalog before middle after same ran faults appends sink written empty named counts there pages kept laws tree order =
-    let mine : RanOver words.plan words.pace told (catalog_for schema database) database texts words.journal end middle after = subst (λ (c : Catalog). RanOver words.plan words.pace told c database texts words.journal end middle after) same ran in
+    let mine : RanOver words.plan told (catalog_for schema database) database texts words.journal end middle after = subst (λ (c : Catalog). RanOver words.plan told c database texts words.journal end middle after) same ran in
     record {
       journal = mine.journal;
       is_local = mine.is_local;
       finished = mine.finished;
-      paced = (session_side_in false middle, mine.paced);
+      since = session_side_in false middle;
+      same_output = rw (sink, written) refl;
       begun = subst (λ (c : Catalog). Counts (load_calls c (hidden_of schema database)) before.device.calls middle.device.calls) same counts;
       kept = λ calm. lines_there words.journal mine.journal middle.files after.files mine.finished empty
           (mine.kept (λ rose. calm (subst (λ (count : ℕ). Rose count after.append_faults) appends rose)));

@@ -18,7 +18,6 @@ use Rattle.ghost_model.specs.core.Local.{IsServedBy}
 use Rattle.ghost_model.specs.core.Split.{public_of}
 use Rattle.ghost_model.specs.laws.SessionLaws.{ThisHostIsHonest}
 use Rattle.session_laws.specs.Local.{IsLocal, IsUnbroken, LocalSessionsAreServed, holding_of}
-use Rattle.key_session.specs.Pacing.{KeepsPace}
 use Rattle.key_session.specs.Reasons.{HaveLines}
 use Rattle.key_session.specs.Refusing.{first_code}
 use Rattle.key_session.specs.Running.{blames_flash, is_sink as wrote_none, is_damaged as is_damage}
@@ -72,10 +71,9 @@ gives_as schema database texts wrote failed before after same gives = record {
 }
 
 -- a session was held to its end
-pub ran_over : (by : Plan) (pace : List ℕ) (told : Bool) (catalog : Catalog) (database : Database) (texts : List (List ℕ)) (name : Option (List ℕ)) (end : LocalEnd) (tally : Tally) (before after : Outside) (journal : Journal)
+pub ran_over : (by : Plan) (told : Bool) (catalog : Catalog) (database : Database) (texts : List (List ℕ)) (name : Option (List ℕ)) (end : LocalEnd) (tally : Tally) (before after : Outside) (journal : Journal)
     → LocalSessionsAreServed → ToldTextsAreGiven → DamageStays → IsTree catalog.schema
     → IsLocal catalog database [] texts journal → IsFinished journal
-    → KeepsPace by told catalog texts journal pace (session_side_in false before) (session_side_in (wrote_none tally.status) after)
     → ((Rose before.append_faults after.append_faults → ⊥) → KeepsLines before.files after.files name journal)
     → (end ≡ ends.Ok → KeepsLines before.files after.files name journal)
     → (told ≡ true → AreAnswered by told before.device.page catalog database texts journal (wrote_none tally.status) (standing_after catalog (asked_of catalog.schema texts) journal) tally (session_side_in false before) (session_side_in (wrote_none tally.status) after))
@@ -87,8 +85,8 @@ pub ran_over : (by : Plan) (pace : List ℕ) (told : Bool) (catalog : Catalog) (
     → ((damage : Damage) → end ≡ ends.Damaged damage → tally.status ≡ status.Damaged damage)
     → (told ≡ true → by ≡ by_pre → (Rose before.device.faults after.device.faults → ⊥)
     → after.device.calls ≤ before.device.calls + session_calls catalog.schema database texts)
-    → RanOver by pace told catalog database texts name end before after
-ran_over by pace told catalog database texts name end tally before after journal served given stays_damaged tree is_local finished paced kept all_kept are_told lines blamed was_read pages sink whole flash called read damaged few =
+    → RanOver by told catalog database texts name end before after
+ran_over by told catalog database texts name end tally before after journal served given stays_damaged tree is_local finished kept all_kept are_told lines blamed was_read pages sink whole flash called read damaged few =
     let unbroken = served catalog database [] texts journal is_local in
     let stays = going catalog database texts journal unbroken in
     let right = valid catalog database texts journal unbroken in
@@ -99,7 +97,6 @@ ran_over by pace told catalog database texts name end tally before after journal
       journal = journal;
       is_local = is_local;
       finished = finished;
-      paced = subst (λ (failed : Bool). KeepsPace by told catalog texts journal pace (session_side_in false before) (session_side_in failed after)) (sym sink) paced;
       kept = kept;
       all_kept = all_kept;
       lines = record {
@@ -132,15 +129,15 @@ ran_over by pace told catalog database texts name end tally before after journal
     }
 
 -- and so over what the files and their counts are known to be
-pub ran_as : {D : Type 0} (contents : D → Option Files) (failed appends : D → ℕ) (by : Plan) (pace : List ℕ) (told : Bool) (catalog : Catalog) (database : Database) (texts : List (List ℕ)) (name called : Option (List ℕ)) (end : LocalEnd)
+pub ran_as : {D : Type 0} (contents : D → Option Files) (failed appends : D → ℕ) (by : Plan) (told : Bool) (catalog : Catalog) (database : Database) (texts : List (List ℕ)) (name called : Option (List ℕ)) (end : LocalEnd)
     (device device_now : Device) (before earlier after later : D) (written written_now : Option (List ℕ)) (faults faults_now : ℕ)
     → name ≡ called → before ≡ earlier → after ≡ later
-    → RanOver by pace told catalog database texts name end (outside (contents before) (failed before) (appends before) device written faults) (outside (contents after) (failed after) (appends after) device_now written_now faults_now)
-    → RanOver by pace told catalog database texts called end (outside (contents earlier) (failed earlier) (appends earlier) device written faults) (outside (contents later) (failed later) (appends later) device_now written_now faults_now)
-ran_as {D} contents failed appends by pace told catalog database texts name called end device device_now before earlier after later written written_now faults faults_now names starts comes ran =
-    subst (λ (one : Option (List ℕ)). RanOver by pace told catalog database texts one end (outside (contents earlier) (failed earlier) (appends earlier) device written faults) (outside (contents later) (failed later) (appends later) device_now written_now faults_now)) names
-    (subst (λ (d : D). RanOver by pace told catalog database texts name end (outside (contents d) (failed d) (appends d) device written faults) (outside (contents later) (failed later) (appends later) device_now written_now faults_now)) starts
-    (subst (λ (d : D). RanOver by pace told catalog database texts name end (outside (contents before) (failed before) (appends before) device written faults) (outside (contents d) (failed d) (appends d) device_now written_now faults_now)) comes ran))
+    → RanOver by told catalog database texts name end (outside (contents before) (failed before) (appends before) device written faults) (outside (contents after) (failed after) (appends after) device_now written_now faults_now)
+    → RanOver by told catalog database texts called end (outside (contents earlier) (failed earlier) (appends earlier) device written faults) (outside (contents later) (failed later) (appends later) device_now written_now faults_now)
+ran_as {D} contents failed appends by told catalog database texts name called end device device_now before earlier after later written written_now faults faults_now names starts comes ran =
+    subst (λ (one : Option (List ℕ)). RanOver by told catalog database texts one end (outside (contents earlier) (failed earlier) (appends earlier) device written faults) (outside (contents later) (failed later) (appends later) device_now written_now faults_now)) names
+    (subst (λ (d : D). RanOver by told catalog database texts name end (outside (contents d) (failed d) (appends d) device written faults) (outside (contents later) (failed later) (appends later) device_now written_now faults_now)) starts
+    (subst (λ (d : D). RanOver by told catalog database texts name end (outside (contents before) (failed before) (appends before) device written faults) (outside (contents d) (failed d) (appends d) device_now written_now faults_now)) comes ran))
 
 take_all : {X : Type 0} (some : List X) → take (length some) some ≡ some
 take_all [] = refl

@@ -17,7 +17,6 @@ use Rattle.local_links.specs.Journaling.{told_file}
 use Rattle.local_links.specs.declared.host_link.HostLink.{HostLink}
 use Rattle.key_session.specs.Calls.{session_calls}
 use Rattle.key_session.specs.Damages.{WasRead}
-use Rattle.key_session.specs.Pacing.{KeepsPace}
 use Rattle.key_exec.specs.declared.damage.Damage.{Damage}
 use Rattle.key_session.specs.declared.tally.SessionStatus.{SessionStatus}
 use Rattle.key_session.specs.declared.tally.SessionStatus.TheVariants as status
@@ -47,12 +46,11 @@ abbrev pub KeepsLines : (before after : Option Files) → (name : Option (List �
 KeepsLines before after None journal = ⊤
 KeepsLines before after (Some name) journal = told_file after name ≡ grown (told_file before name) (lines journal)
 
--- a session by a plan and at a pace with a host that holds the public part of a database was held to its end
-pub record RanOver (by : Plan) (pace : List ℕ) (told : Bool) (catalog : Catalog) (database : Database) (texts : List (List ℕ)) (name : Option (List ℕ)) (end : LocalEnd) (before after : Outside) : Type 0 where
+-- a session by a plan with a host that holds the public part of a database was held to its end
+pub record RanOver (by : Plan) (told : Bool) (catalog : Catalog) (database : Database) (texts : List (List ℕ)) (name : Option (List ℕ)) (end : LocalEnd) (before after : Outside) : Type 0 where
   pub journal : Journal
   pub is_local : IsLocal catalog database [] texts journal
   pub finished : IsFinished journal
-  pub paced : KeepsPace by told catalog texts journal pace (session_side_in false before) (session_side_in (is_sink end) after)
   pub kept : (Rose before.append_faults after.append_faults → ⊥) → KeepsLines before.files after.files name journal
   pub all_kept : end ≡ ends.Ok → KeepsLines before.files after.files name journal
   pub lines : GivesLines catalog texts journal (handed false before.sink_faults before.written) (handed (is_sink end) after.sink_faults after.written)

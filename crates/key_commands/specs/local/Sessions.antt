@@ -21,7 +21,6 @@ use Rattle.edge_traits.specs.Written.{grown}
 use Rattle.leakless_plan.specs.declared.plan.Plan.{Plan}
 use Rattle.key_exec.specs.Plans.{by_pre}
 use Rattle.key_session.specs.Calls.{session_calls}
-use Rattle.key_session.specs.Pacing.{KeepsPace}
 use Rattle.key_session.specs.Damages.{IsFirstDamaged, IsSlotOf, WasRead}
 use Rattle.key_exec.specs.declared.damage.Damage.{Damage}
 use Rattle.ghost_model.specs.core.Lines.{Reason}
@@ -100,10 +99,11 @@ pub record Ran (told : Bool) (one : Subject) (end : LocalEnd) (before after : Ou
   pub journal : Journal
   pub is_local : IsLocal (catalog_in one) one.database [] one.texts journal
   pub finished : IsFinished journal
-  -- step by step, at the pace that the words say
-  pub paced : (since : SessionSide) × KeepsPace one.words.plan told (catalog_in one) one.texts journal one.words.pace since (session_side_in (is_sink end) after)
+  -- before it, where its output was that of before the command
+  pub since : SessionSide
+  pub same_output : since.sink ≡ handed false before.sink_faults before.written
   -- it began after the calls of the making
-  pub begun : Counts (load_calls (catalog_in one) (hidden_of one.schema one.database)) before.device.calls paced.0.flash.calls
+  pub begun : Counts (load_calls (catalog_in one) (hidden_of one.schema one.database)) before.device.calls since.flash.calls
   -- where no append failed, the journal is kept
   pub kept : (Rose before.append_faults after.append_faults → ⊥) → HasLines after.files one.words.journal journal
   -- and so it is where all went well
@@ -127,7 +127,7 @@ pub record Ran (told : Bool) (one : Subject) (end : LocalEnd) (before after : Ou
   -- indexes, where what the pages are of is known, a damaged one of a file that is read for this text
   pub damaged : (damage : Damage) → end ≡ ends.Damaged damage → IsFirstSlot one.words.plan told after.device.page (catalog_in one) one.texts lines.reasons damage
   -- and the session read it there for this text
-  pub damage_read : (damage : Damage) → end ≡ ends.Damaged damage → WasRead one.words.plan told paced.0.flash.calls after.device (catalog_in one) one.texts lines.reasons damage
+  pub damage_read : (damage : Damage) → end ≡ ends.Damaged damage → WasRead one.words.plan told since.flash.calls after.device (catalog_in one) one.texts lines.reasons damage
   -- and the flash has been made for it, under the name that the words say
   pub name : after.device.name ≡ Some one.words.flash
   pub holds : told ≡ true → Holds after.device.page (catalog_in one) (hidden_of one.schema one.database)

@@ -13,7 +13,6 @@ use Rattle.key_inputs.specs.Outside.{Outside, Verdicts, Risen, Same, Untold, ver
 use Rattle.key_inputs.specs.Scripts.{script_opening}
 use Rattle.key_inputs.specs.Views.{rule_of}
 use Rattle.key_session.specs.Answering.{AnswersWhereSound}
-use Rattle.key_session.specs.Pacing.{KeepsPace}
 use Rattle.key_exec.specs.Rows.{PrintsSome}
 use Rattle.key_session.specs.Running.{HasRun, is_sink, blames_flash, is_damaged}
 use Rattle.key_session.specs.Telling.{SessionSide, session_side}
@@ -53,8 +52,6 @@ pub record Runs (goes : Journal → Type 0) (link_before link_now : ℕ) (told :
   pub is_script : IsScript before.files words.script script
   -- a slot that the status names as damaged is that of the first text that damage ended, one that is read for it (`reasons`, `damage_read`)
   pub ran : HasRun goes link_before link_now words.plan told cat words.to (texts_of script) (side_since before opened) (side_now tally after) tally
-  -- step by step, at the pace that the words say
-  pub paced : KeepsPace words.plan told cat (texts_of script) ran.journal words.pace (side_since before opened) (side_now tally after)
   pub answered : AnswersWhereSound words.plan told cat (texts_of script) ran.journal (side_since before opened) (side_now tally after) tally
   pub texts : tally.texts ≡ length (texts_of script)
   pub prints : PrintsSome (side_since before opened).sink (side_now tally after).sink

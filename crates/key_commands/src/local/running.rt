@@ -87,7 +87,7 @@ fn hold<D: Depot, F: Flash, O: Sink>(
     ensures ran { (database : Database) → IsCatalogOf cat.now database
         → IsHosted ⟦<MemDepot as Depot>⟧.contents ⟦<MemDepot as Depot>⟧.sure (holding_of cat.now database) link.old.link.now
         → (F.told ≡ true → KnowsBy words.now.plan F.told (F.state flash.old).page cat.now database)
-        → RanOver words.now.plan words.now.pace.items F.told cat.now database (texts_of script.now) (named link.old) result
+        → RanOver words.now.plan F.told cat.now database (texts_of script.now) (named link.old) result
         (outside (D.contents link.old.depot.now) (D.faults link.old.depot.now) (D.append_faults link.old.depot.now) (F.state flash.old) (O.written out.old) (O.faults out.old))
         (outside (D.contents link.new.depot.now) (D.faults link.new.depot.now) (D.append_faults link.new.depot.now) (F.state flash.new) (O.written out.new) (O.faults out.new)) }
     ensures pages { ChangesOnly (layout.static_end cat.now) (layout.need cat.now) (F.state flash.old) (F.state flash.new) }
@@ -132,7 +132,7 @@ pub(crate) fn run<D: Depot, F: Flash, O: Sink>(
     ensures ran { (database : Database) → IsCatalogOf cat.now database
         → IsHosted ⟦<MemDepot as Depot>⟧.contents ⟦<MemDepot as Depot>⟧.sure (holding_of cat.now database) link.old
         → (F.told ≡ true → KnowsBy words.now.plan F.told (F.state flash.old).page cat.now database)
-        → RanOver words.now.plan words.now.pace.items F.told cat.now database (texts_of script.now) (local_view words.now).journal result
+        → RanOver words.now.plan F.told cat.now database (texts_of script.now) (local_view words.now).journal result
         (outside (D.contents depot.old) (D.faults depot.old) (D.append_faults depot.old) (F.state flash.old) (O.written out.old) (O.faults out.old))
         (outside (D.contents depot.new) (D.faults depot.new) (D.append_faults depot.new) (F.state flash.new) (O.written out.new) (O.faults out.new)) }
     ensures pages { ChangesOnly (layout.static_end cat.now) (layout.need cat.now) (F.state flash.old) (F.state flash.new) }

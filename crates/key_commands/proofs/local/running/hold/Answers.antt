@@ -4,7 +4,6 @@ use Rattle.ghost_model.specs.core.Asks.{asked_of}
 use Rattle.ghost_model.specs.core.NextMove.{standing_after}
 use Rattle.ghost_model.specs.core.Texts.{texts_of}
 use Rattle.key_session.specs.Counting.{is_flash}
-use Rattle.key_session.specs.Pacing.{KeepsPace}
 use Rattle.key_session.specs.Running.{is_sink, blames_flash, spares_flash}
 use Rattle.key_session.specs.Telling.{session_side}
 use Rattle.key_commands.specs.local.Sessions.{told_by_end}
@@ -22,7 +21,7 @@ end_of-requires g c =
     let cat = c.args.cat.now in
     let texts = texts_of c.args.script.now in
     let is = c.a_catalog_is_short.ensures.catalog in
-    let ran = c.run_session-tally.ensures.ran.ran in
+    let ran = c.run_session-tally.ensures.ran in
     let some = c.requires.hosted in
     let setting = setting_of cat texts is c.requires.few in
     let goes = c.sessions_are_local.ensures.is_local cat some.database [] texts ran.journal _ _ setting some.stored ran.proper ran.went.moved some.hosted.is_sure some.hosted.at_first in
@@ -38,16 +37,13 @@ returns-clause-ran g c = λ database stored hosted known.
     let cat = c.args.cat.now in
     let texts = texts_of c.args.script.now in
     let is = c.a_catalog_is_short.ensures.catalog in
-    let ran = c.run_session-tally.ensures.ran.ran in
+    let ran = c.run_session-tally.ensures.ran in
     let setting = setting_of cat texts is c.requires.few in
     let goes = c.sessions_are_local.ensures.is_local cat database [] texts ran.journal _ _ setting stored ran.proper ran.went.moved hosted.is_sure hosted.at_first in
     let wrote = c.proper_journals_are_written.ensures.written cat [] texts ran.journal _ _ setting ran.proper ran.went in
     let unbroken = c.local_sessions_are_served.ensures cat database [] texts ran.journal goes.is_local in
-    ran_over c.args.words.now.plan c.args.words.now.pace.items g.F.Flash.told cat database texts _ c.end_of.result c.run_session-tally.result _ _ ran.journal c.local_sessions_are_served.ensures c.told_texts_are_given.ensures.given c.knowledge_stays.ensures.damage (c.catalogs_are_limited.ensures cat is).tree
+    ran_over c.args.words.now.plan g.F.Flash.told cat database texts _ c.end_of.result c.run_session-tally.result _ _ ran.journal c.local_sessions_are_served.ensures c.told_texts_are_given.ensures.given c.knowledge_stays.ensures.damage (c.catalogs_are_limited.ensures cat is).tree
     goes.is_local ran.finished
-    (subst (λ (numbers : List ℕ). KeepsPace c.args.words.now.plan g.F.Flash.told cat texts ran.journal numbers
-    (session_side false (g.O.Sink.faults c.args.out.now) (g.O.Sink.written c.args.out.now) (g.F.Flash.state c.args.flash.now))
-    (session_side (is_sink c.run_session-tally.result.status) (g.O.Sink.faults c.run_session-tally.new.out) (g.O.Sink.written c.run_session-tally.new.out) (g.F.Flash.state c.run_session-tally.new.flash))) c.as_slice.ensures.value c.run_session-tally.ensures.ran.paced)
     (λ calm. lines_kept _ ran.journal _ _ wrote c.requires.going calm)
     (λ fine. lines_written _ ran.journal _ _ wrote (sym c.failed.ensures.failed ∙ c.end_of.ensures.no_depot (ap (λ (end : LocalEnd). (told_by_end end).depot) fine)))
     (λ t. let knows = known t in
@@ -70,7 +66,7 @@ pub returns-clause-causes : goal.returns-clause-causes
 returns-clause-causes g c =
     let cat = c.args.cat.now in
     let texts = texts_of c.args.script.now in
-    let ran = c.run_session-tally.ensures.ran.ran in
+    let ran = c.run_session-tally.ensures.ran in
     let setting = setting_of cat texts c.a_catalog_is_short.ensures.catalog c.requires.few in
     let wrote = c.proper_journals_are_written.ensures.written cat [] texts ran.journal _ _ setting ran.proper ran.went in
     let status = c.run_session-tally.result.status in

@@ -8,7 +8,7 @@ use Rattle.key_commands.proofs.local.running.run.Goals as goal
 
 pub returns-clause-ran : goal.returns-clause-ran
 returns-clause-ran g c = λ database stored hosted known.
-    ran_as g.D.Depot.contents g.D.Depot.faults g.D.Depot.append_faults c.args.words.now.plan c.args.words.now.pace.items g.F.Flash.told c.args.cat.now database (texts_of c.args.script.now) _ _ c.hold.result _ _ _ _ _ _ _ _ _ _
+    ran_as g.D.Depot.contents g.D.Depot.faults g.D.Depot.append_faults c.args.words.now.plan g.F.Flash.told c.args.cat.now database (texts_of c.args.script.now) _ _ c.hold.result _ _ _ _ _ _ _ _ _ _
     c.new-journaled.ensures.name c.new-journaled.ensures.files (search rules)
     (c.hold.ensures.ran database stored (hosted_as _ _ _ _ _ (sym c.new-journaled.ensures.moves) hosted) known)
 

@@ -2,7 +2,6 @@ use Rattle.std.proofs.Common.{List, subst, sym, ◌∙◌, ℕ, refl}
 use Rattle.ghost_model.specs.core.Causes.{Rose}
 use Rattle.ghost_model.specs.core.Texts.{texts_of}
 use Rattle.key_inputs.specs.Outside.{outside}
-use Rattle.key_session.specs.Pacing.{KeepsPace}
 use Rattle.key_commands.specs.query.Openings.{IsScript}
 use Rattle.key_commands.specs.query.Results.{side_since, side_now}
 use Rattle.key_commands.proofs.query_lemmas.Endings.{session_causes, unopened_causes}
@@ -32,9 +31,8 @@ returns-in-Ok-clause-ran g c =
       enough = opened.suffices.pages;
       script = c.deref.result.now;
       is_script = is_script;
-      ran = c.run_session.ensures.ran.ran;
-      paced = subst (λ (numbers : List ℕ). KeepsPace c.args.words.now.plan g.F.Flash.told c.in-Ok.opened.cat (texts_of c.deref.result.now) c.run_session.ensures.ran.ran.journal numbers since now) c.as_slice.ensures.value c.run_session.ensures.ran.paced;
-      answered = c.run_session.ensures.ran.ran.answered;
+      ran = c.run_session.ensures.ran;
+      answered = c.run_session.ensures.ran.answered;
       texts = c.run_session.ensures.texts;
       prints = c.run_session.ensures.prints;
       kept = c.run_session.ensures.pages;

@@ -1,5 +1,5 @@
 use Rattle.key_session.proofs.SessionCalls.{few_calls}
-use Rattle.key_session.proofs.laws.runs_take_few_calls.Goals as goal
+use Rattle.key_session.proofs.laws.steps_take_few_calls.Goals as goal
 
 pub returns : goal.returns
 returns c = few_calls (record {
