@@ -1,9 +1,10 @@
 -- How the command ended, from what its parts did.
-use Rattle.std.proofs.Common.{◌≡◌, ◌⊎◌, inl, inr, ◌≤◌, ◌<◌, ◌+◌, min, ℕ, Bool, true, false, List, [], Option, Some, Result, Ok, Err, refl, sym, ap, ◌∙◌, subst, arith}
+use Rattle.std.proofs.Common.{◌≡◌, ◌⊎◌, inl, inr, ◌≤◌, ◌<◌, ◌+◌, min, ℕ, Bool, true, false, List, [], length, Option, Some, Result, Ok, Err, refl, sym, ap, ◌∙◌, subst, arith}
 use Rattle.std.specs.Prelude.{count_by}
 use Rattle.std.proofs.lemmas.Bool.{cases_lt}
 use Rattle.ghost_model.specs.core.Causes.{Rose, last_count}
 use Rattle.ghost_model.specs.core.Channel.{Catalog, Journal}
+use Rattle.ghost_model.specs.core.Lines.{Reason}
 use Rattle.ghost_model.specs.core.Database.{IsDatabase}
 use Rattle.ghost_model.specs.forms.Flash.{Holds}
 use Rattle.ghost_model.specs.forms.Layout.{need, static_end}
@@ -20,13 +21,14 @@ use Rattle.edge_traits.specs.Devices.{Device, Counts, ChangesOnly}
 use Rattle.edge_traits.specs.Written.{grown}
 use Rattle.key_inputs.specs.Openings.{Opening}
 use Rattle.key_inputs.specs.Outside.{Outside, Risen}
-use Rattle.key_session.specs.Reasons.{HaveLines}
+use Rattle.key_session.specs.Counting.{is_flash}
+use Rattle.key_session.specs.Reasons.{HaveReasons, HaveLines}
 use Rattle.key_session.specs.Calls.{session_calls}
 use Rattle.key_words.specs.Words.{Local}
 use Rattle.key_inputs.specs.Whole.{WholeInput}
 use Rattle.key_lines.specs.Handing.{Hands, handed}
 use Rattle.key_commands.specs.local.Lines.{Gives, bytes_given, is_cut}
-use Rattle.key_commands.specs.local.Sessions.{Subject, subject, catalog_for, Ran, GivesLines, HasLines, session_side_in, is_sink}
+use Rattle.key_commands.specs.local.Sessions.{Subject, subject, catalog_for, Ran, HasLines, TellsReasons, session_side_in, is_sink}
 use Rattle.key_commands.specs.local.Results.{EndsLocal, EndsLocalCall, EndsSomeLocal, IsMade, subject_of, is_faultless, told_by}
 use Rattle.key_commands.specs.local.Making.{IsOfMaking}
 use Rattle.key_inputs.specs.Whole.{IsSpelled}
@@ -78,16 +80,23 @@ rose_after before more now later counts rose = of_cases (cases_lt now last_count
 few_since : (before more now later texts : ℕ) → Counts more before now → later ≤ now + texts → later ≤ before + (more + texts)
 few_since before more now later texts counts few = let most = counts.most in omega (arith, most, few)
 
-abbrev lines_since : (catalog : Catalog) (texts : List (List ℕ)) (journal : Journal) (failed : Bool) (before middle after : Outside) → middle.sink_faults ≡ before.sink_faults → middle.written ≡ before.written
-    → GivesLines catalog texts journal (handed false middle.sink_faults middle.written) (handed failed after.sink_faults after.written)
-    → GivesLines catalog texts journal (handed false before.sink_faults before.written) (handed failed after.sink_faults after.written)
-lines_since catalog texts journal failed before middle after sink written lines = record {
-  reasons = lines.reasons;
-  as_many = lines.as_many;
-  lines =
-      subst (λ (faults : ℕ). HaveLines catalog texts journal lines.reasons (handed false faults before.written) (handed failed after.sink_faults after.written)) sink
-      (subst (λ (held : Option (List ℕ)). HaveLines catalog texts journal lines.reasons (handed false middle.sink_faults held) (handed failed after.sink_faults after.written)) written lines.lines);
+abbrev reasons_since : (catalog : Catalog) (texts : List (List ℕ)) (journal : Journal) (Counted : List Reason → Type 0) (before middle after : Outside) → middle.device.faults ≡ before.device.faults
+    → HaveReasons catalog texts journal (length texts) Counted middle.device.faults after.device.faults → HaveReasons catalog texts journal (length texts) Counted before.device.faults after.device.faults
+reasons_since catalog texts journal Counted before middle after faults have = record {
+  reasons = have.reasons;
+  as_many = have.as_many;
+  each = have.each;
+  blamed = subst (λ (count : ℕ). min (count + count_by is_flash have.reasons) last_count ≤ after.device.faults) faults have.blamed;
+  unblamed = λ flash broken. have.unblamed flash broken ∙ faults;
+  counted = have.counted;
 }
+
+lines_since : (catalog : Catalog) (texts : List (List ℕ)) (journal : Journal) (reasons : List Reason) (failed : Bool) (before middle after : Outside) → middle.sink_faults ≡ before.sink_faults → middle.written ≡ before.written
+    → HaveLines catalog texts journal reasons (handed false middle.sink_faults middle.written) (handed failed after.sink_faults after.written)
+    → HaveLines catalog texts journal reasons (handed false before.sink_faults before.written) (handed failed after.sink_faults after.written)
+lines_since catalog texts journal reasons failed before middle after sink written lines =
+    subst (λ (faults : ℕ). HaveLines catalog texts journal reasons (handed false faults before.written) (handed failed after.sink_faults after.written)) sink
+    (subst (λ (held : Option (List ℕ)). HaveLines catalog texts journal reasons (handed false middle.sink_faults held) (handed failed after.sink_faults after.written)) written lines)
 
 -- the session ran over what was made for it
 pub ran_of : (told : Bool) (schema : Schema) (database : Database) (texts : List (List ℕ)) (words : Local) (end : LocalEnd) (catalog : Catalog) (before middle after : Outside)
@@ -111,7 +120,8 @@ ran_of told schema database texts words end catalog before middle after same ran
       kept = λ calm. lines_there words.journal mine.journal middle.files after.files mine.finished empty
           (mine.kept (λ rose. calm (subst (λ (count : ℕ). Rose count after.append_faults) appends rose)));
       all_kept = λ fine. lines_there words.journal mine.journal middle.files after.files mine.finished empty (mine.all_kept fine);
-      lines = lines_since (catalog_for schema database) texts mine.journal (is_sink end) before middle after sink written mine.lines;
+      reasons = reasons_since (catalog_for schema database) texts mine.journal (λ reasons. TellsReasons end reasons) before middle after faults mine.reasons;
+      lines = lines_since (catalog_for schema database) texts mine.journal mine.reasons.reasons (is_sink end) before middle after sink written mine.lines;
       gives = λ t. gives_since schema database texts (is_sink end) before middle after faults sink written (mine.gives t);
       printed_all = λ t whole. mine.printed_all t whole ∙ ap (λ (held : Option (List ℕ)). grown held (printed schema texts database)) written;
       few_calls = λ t is_pre unfailed.

@@ -18,9 +18,9 @@ use Rattle.ghost_model.specs.core.Local.{IsServedBy}
 use Rattle.ghost_model.specs.core.Split.{public_of}
 use Rattle.ghost_model.specs.laws.SessionLaws.{ThisHostIsHonest}
 use Rattle.session_laws.specs.Local.{IsLocal, IsUnbroken, LocalSessionsAreServed, holding_of}
-use Rattle.key_session.specs.Reasons.{HaveLines}
+use Rattle.key_session.specs.Reasons.{HaveReasons, HaveLines}
 use Rattle.key_session.specs.Refusing.{first_code}
-use Rattle.key_session.specs.Running.{blames_flash, is_sink as wrote_none, is_damaged as is_damage}
+use Rattle.key_session.specs.Running.{IsTallied, blames_flash, is_sink as wrote_none, is_damaged as is_damage}
 use Rattle.key_session.specs.Damages.{WasRead}
 use Rattle.leakless_plan.specs.declared.plan.Plan.{Plan}
 use Rattle.key_exec.specs.Plans.{by_pre}
@@ -33,11 +33,11 @@ use Rattle.key_lines.specs.Handing.{Hands, handed}
 use Rattle.key_commands.specs.local.Lines.{AreAnswered, Gives, GivesByTally, ToldTextsAreGiven, is_cut, bytes_given}
 use Rattle.key_commands.specs.local.Running.{RanOver, KeepsLines}
 use Rattle.key_inputs.specs.Outside.{Outside, outside}
-use Rattle.key_commands.specs.local.Sessions.{GivesLines, IsFirstSlot, session_side_in, is_sink, is_damaged}
+use Rattle.key_commands.specs.local.Sessions.{IsFirstSlot, session_side_in, is_sink, is_damaged}
 use Rattle.key_commands.specs.declared.local.ends.LocalEnd.{LocalEnd}
 use Rattle.key_commands.specs.declared.local.ends.LocalEnd.TheVariants as ends
 use Rattle.key_commands.proofs.local_lemmas.FirstSlots.{slot_stays}
-use Rattle.key_commands.proofs.local_lemmas.Statuses.{none_stops, no_code, whole_status, flash_status, damage_found, no_damage}
+use Rattle.key_commands.proofs.local_lemmas.Statuses.{none_stops, no_code, whole_status, flash_status, damage_found, no_damage, tells_reasons}
 
 not_so : (b : Bool) → (b ≡ true → ⊥) → b ≡ false
 not_so true never = absurd (never refl)
@@ -77,16 +77,18 @@ pub ran_over : (by : Plan) (told : Bool) (catalog : Catalog) (database : Databas
     → ((Rose before.append_faults after.append_faults → ⊥) → KeepsLines before.files after.files name journal)
     → (end ≡ ends.Ok → KeepsLines before.files after.files name journal)
     → (told ≡ true → AreAnswered by told before.device.page catalog database texts journal (wrote_none tally.status) (standing_after catalog (asked_of catalog.schema texts) journal) tally (session_side_in false before) (session_side_in (wrote_none tally.status) after))
-    → (lines : GivesLines catalog texts journal (handed false before.sink_faults before.written) (handed (wrote_none tally.status) after.sink_faults after.written))
-    → ((damage : Damage) → tally.status ≡ status.Damaged damage → IsFirstSlot by told before.device.page catalog texts lines.reasons damage)
-    → ((damage : Damage) → tally.status ≡ status.Damaged damage → WasRead by told before.device.calls after.device catalog texts lines.reasons damage) → ChangesOnly (static_end catalog) (need catalog) before.device after.device
+    → (reasons : HaveReasons catalog texts journal (length texts)
+    (λ reasons. IsTallied by told before.device.page catalog texts (wrote_none tally.status) (standing_after catalog (asked_of catalog.schema texts) journal) reasons tally) before.device.faults after.device.faults)
+    → HaveLines catalog texts journal reasons.reasons (handed false before.sink_faults before.written) (handed (wrote_none tally.status) after.sink_faults after.written)
+    → ((damage : Damage) → tally.status ≡ status.Damaged damage → IsFirstSlot by told before.device.page catalog texts reasons.reasons damage)
+    → ((damage : Damage) → tally.status ≡ status.Damaged damage → WasRead by told before.device.calls after.device catalog texts reasons.reasons damage) → ChangesOnly (static_end catalog) (need catalog) before.device after.device
     → is_sink end ≡ wrote_none tally.status → (end ≡ ends.Ok → tally.status ≡ status.Ok) → (end ≡ ends.Flash → blames_flash tally.status ≡ true)
     → (blames_flash tally.status ≡ true → Rose before.device.calls after.device.calls) → (is_damage tally.status ≡ true → Rose before.device.calls after.device.calls)
     → ((damage : Damage) → end ≡ ends.Damaged damage → tally.status ≡ status.Damaged damage)
     → (told ≡ true → by ≡ by_pre → (Rose before.device.faults after.device.faults → ⊥)
     → after.device.calls ≤ before.device.calls + session_calls catalog.schema database texts)
     → RanOver by told catalog database texts name end before after
-ran_over by told catalog database texts name end tally before after journal served given stays_damaged tree is_local finished kept all_kept are_told lines blamed was_read pages sink whole flash called read damaged few =
+ran_over by told catalog database texts name end tally before after journal served given stays_damaged tree is_local finished kept all_kept are_told reasons lines blamed was_read pages sink whole flash called read damaged few =
     let unbroken = served catalog database [] texts journal is_local in
     let stays = going catalog database texts journal unbroken in
     let right = valid catalog database texts journal unbroken in
@@ -99,11 +101,16 @@ ran_over by told catalog database texts name end tally before after journal serv
       finished = finished;
       kept = kept;
       all_kept = all_kept;
-      lines = record {
-        reasons = lines.reasons;
-        as_many = lines.as_many;
-        lines = subst (λ (failed : Bool). HaveLines catalog texts journal lines.reasons (handed false before.sink_faults before.written) (handed failed after.sink_faults after.written)) (sym sink) lines.lines;
+      reasons = record {
+        reasons = reasons.reasons;
+        as_many = reasons.as_many;
+        each = reasons.each;
+        blamed = reasons.blamed;
+        unblamed = reasons.unblamed;
+        counted = tells_reasons end tally.status (wrote_none tally.status) (standing_after catalog (asked_of catalog.schema texts) journal) reasons.reasons reasons.counted.damage stays right none
+            reasons.counted.status_is reasons.counted.found whole flash damaged;
       };
+      lines = subst (λ (failed : Bool). HaveLines catalog texts journal reasons.reasons (handed false before.sink_faults before.written) (handed failed after.sink_faults after.written)) (sym sink) lines;
       gives = λ t. gives_as catalog.schema database texts (wrote_none tally.status) (is_sink end) before after (sym sink) (by_tally t).gives;
       printed_all = λ t is.
           let all = by_tally t in
@@ -123,7 +130,7 @@ ran_over by told catalog database texts name end tally before after journal serv
           let none_found : is_damage tally.status ≡ false = ap is_damage all.status_is ∙ no_damage (wrote_none tally.status) (standing_after catalog (asked_of catalog.schema texts) journal) (list_any is_cut all.gives.given) stays right none in
           false_is_not (sym none_found ∙ damage_found end tally.status damaged found));
       damaged = λ damage is.
-          slot_stays stays_damaged by told before.device.page after.device.page catalog texts lines.reasons damage tree
+          slot_stays stays_damaged by told before.device.page after.device.page catalog texts reasons.reasons damage tree
           (λ number static. (pages.below number static).bytes) (blamed damage (damaged damage is));
       damage_read = λ damage is. was_read damage (damaged damage is);
     }

@@ -1,18 +1,20 @@
 -- How a session with a host in the key's own process can end.
-use Rattle.std.proofs.Common.{◌≡◌, Bool, true, false, ◌||◌, List, [], ◌∷◌, Option, None, Some, refl, ap, ◌∙◌}
+use Rattle.std.proofs.Common.{◌≡◌, Bool, true, false, ◌||◌, List, [], ◌∷◌, Option, None, Some, refl, sym, ap, ◌∙◌}
+use Rattle.std.specs.Prelude.{is_some}
 use Rattle.std.specs.List.{list_any}
 use Rattle.ghost_model.specs.core.Channel.{Journal}
 use Rattle.ghost_model.specs.core.Moves.{answers}
 use Rattle.ghost_model.specs.core.NextMove.{Standing, EndedAsk, Ending, Answered, Refused, is_stop}
-use Rattle.ghost_model.specs.core.Lines.{was_refused, is_refused_by}
+use Rattle.ghost_model.specs.core.Lines.{Reason, was_refused, is_refused_by}
 use Rattle.std.specs.Option.{option_or}
+use Rattle.key_session.specs.Counting.{is_flash, is_damage as met_damage}
 use Rattle.key_session.specs.Refusing.{first_code, code_of}
 use Rattle.key_session.specs.Running.{status_of, status_with, blames_flash, is_damaged as is_damage}
 use Rattle.key_exec.specs.declared.damage.Damage.{Damage}
 use Rattle.key_session.specs.declared.tally.SessionStatus.{SessionStatus}
 use Rattle.key_session.specs.declared.tally.SessionStatus.TheVariants as status
 use Rattle.key_commands.specs.local.Running.{is_of_local}
-use Rattle.key_commands.specs.local.Sessions.{is_damaged}
+use Rattle.key_commands.specs.local.Sessions.{TellsReasons, is_damaged}
 use Rattle.key_commands.specs.declared.local.ends.LocalEnd.{LocalEnd}
 use Rattle.key_commands.specs.declared.local.ends.LocalEnd.TheVariants as ends
 
@@ -89,3 +91,47 @@ damage_is false session false None damage going valid none e =
     let is : status_with false session false None ≡ status.Ok = rw (going, valid, none) refl in cc
 damage_is false session false (Some found) damage going valid none e =
     let is : status_with false session false (Some found) ≡ status.Damaged found = rw (going, valid, none) refl in cc
+
+-- where all is well no text was ended by the flash or by damage
+all_well : (failed : Bool) (session : Standing) (by_flash : Bool) (met : Option Damage) → session.stopped ≡ false → session.heard.broken ≡ false
+    → first_code session.heard.ended ≡ None → status_with failed session by_flash met ≡ status.Ok → (by_flash ≡ false) × (is_some met ≡ false)
+all_well true session by_flash met going valid none e = cc
+all_well false session true met going valid none e =
+    let is : status_with false session true met ≡ status.Flash = rw (going, valid, none) refl in cc
+all_well false session false None going valid none e = (refl, refl)
+all_well false session false (Some found) going valid none e =
+    let is : status_with false session false (Some found) ≡ status.Damaged found = rw (going, valid, none) refl in cc
+
+flash_met : (failed : Bool) (session : Standing) (by_flash : Bool) (met : Option Damage) → session.stopped ≡ false → session.heard.broken ≡ false
+    → first_code session.heard.ended ≡ None → blames_flash (status_with failed session by_flash met) ≡ true → by_flash ≡ true
+flash_met failed session true met going valid none e = refl
+flash_met true session false met going valid none e = cc
+flash_met false session false None going valid none e =
+    let is : status_with false session false None ≡ status.Ok = rw (going, valid, none) refl in cc
+flash_met false session false (Some found) going valid none e =
+    let is : status_with false session false (Some found) ≡ status.Damaged found = rw (going, valid, none) refl in cc
+
+no_flash_met : (failed : Bool) (session : Standing) (by_flash : Bool) (met : Option Damage) (damage : Damage) → session.stopped ≡ false → session.heard.broken ≡ false
+    → first_code session.heard.ended ≡ None → status_with failed session by_flash met ≡ status.Damaged damage → by_flash ≡ false
+no_flash_met failed session false met damage going valid none e = refl
+no_flash_met true session true met damage going valid none e = cc
+no_flash_met false session true met damage going valid none e =
+    let is : status_with false session true met ≡ status.Flash = rw (going, valid, none) refl in cc
+
+-- an end tells of the reasons what the status does
+pub tells_reasons : (end : LocalEnd) (one : SessionStatus) (failed : Bool) (session : Standing) (reasons : List Reason) (met : Option Damage) → session.stopped ≡ false → session.heard.broken ≡ false
+    → first_code session.heard.ended ≡ None → one ≡ status_with failed session (list_any is_flash reasons) met → is_some met ≡ list_any met_damage reasons
+    → (end ≡ ends.Ok → one ≡ status.Ok) → (end ≡ ends.Flash → blames_flash one ≡ true) → ((damage : Damage) → end ≡ ends.Damaged damage → one ≡ status.Damaged damage)
+    → TellsReasons end reasons
+tells_reasons ends.Ok one failed session reasons met going valid none is found whole flash damaged =
+    let well = all_well failed session (list_any is_flash reasons) met going valid none (sym is ∙ whole refl) in
+    (well.0, sym found ∙ well.1)
+tells_reasons ends.Sink one failed session reasons met going valid none is found whole flash damaged = tt
+tells_reasons ends.Depot one failed session reasons met going valid none is found whole flash damaged = tt
+tells_reasons ends.Flash one failed session reasons met going valid none is found whole flash damaged =
+    flash_met failed session (list_any is_flash reasons) met going valid none (sym (ap blames_flash is) ∙ flash refl)
+tells_reasons (ends.Damaged damage) one failed session reasons met going valid none is found whole flash damaged =
+    let same = sym is ∙ damaged damage refl in (
+      no_flash_met failed session (list_any is_flash reasons) met damage going valid none same,
+      sym found ∙ ap is_some (damage_is failed session (list_any is_flash reasons) met damage going valid none same),
+    )

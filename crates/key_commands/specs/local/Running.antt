@@ -1,5 +1,5 @@
 -- What the session itself does, apart from what was made for it.
-use Rattle.std.specs.Prelude.{◌≡◌, ℕ, ◌+◌, ◌≤◌, Bool, true, false, List, [], Option, None, Some, ⊤}
+use Rattle.std.specs.Prelude.{◌≡◌, ℕ, ◌+◌, ◌≤◌, Bool, true, false, List, [], length, Option, None, Some, ⊤}
 use Rattle.std.specs.List.{list_any}
 use Rattle.ghost_model.specs.core.Causes.{Rose}
 use Rattle.ghost_model.specs.core.Channel.{Catalog, Journal}
@@ -17,13 +17,14 @@ use Rattle.local_links.specs.Journaling.{told_file}
 use Rattle.local_links.specs.declared.host_link.HostLink.{HostLink}
 use Rattle.key_session.specs.Calls.{session_calls}
 use Rattle.key_session.specs.Damages.{WasRead}
+use Rattle.key_session.specs.Reasons.{HaveReasons, HaveLines}
 use Rattle.key_exec.specs.declared.damage.Damage.{Damage}
 use Rattle.key_session.specs.declared.tally.SessionStatus.{SessionStatus}
 use Rattle.key_session.specs.declared.tally.SessionStatus.TheVariants as status
 use Rattle.key_lines.specs.Handing.{handed}
 use Rattle.key_commands.specs.local.Lines.{Gives, is_cut}
 use Rattle.key_inputs.specs.Outside.{Outside}
-use Rattle.key_commands.specs.local.Sessions.{GivesLines, IsFirstSlot, session_side_in, is_sink, is_damaged}
+use Rattle.key_commands.specs.local.Sessions.{IsFirstSlot, TellsReasons, session_side_in, is_sink, is_damaged}
 use Rattle.key_commands.specs.local.Preparing.{IsHosted}
 use Rattle.key_commands.specs.declared.local.ends.LocalEnd.{LocalEnd}
 use Rattle.key_commands.specs.declared.local.ends.LocalEnd.TheVariants as ends
@@ -53,7 +54,8 @@ pub record RanOver (by : Plan) (told : Bool) (catalog : Catalog) (database : Dat
   pub finished : IsFinished journal
   pub kept : (Rose before.append_faults after.append_faults → ⊥) → KeepsLines before.files after.files name journal
   pub all_kept : end ≡ ends.Ok → KeepsLines before.files after.files name journal
-  pub lines : GivesLines catalog texts journal (handed false before.sink_faults before.written) (handed (is_sink end) after.sink_faults after.written)
+  pub reasons : HaveReasons catalog texts journal (length texts) (λ reasons. TellsReasons end reasons) before.device.faults after.device.faults
+  pub lines : HaveLines catalog texts journal reasons.reasons (handed false before.sink_faults before.written) (handed (is_sink end) after.sink_faults after.written)
   pub gives : told ≡ true → Gives catalog.schema database texts (session_side_in false before) (session_side_in (is_sink end) after)
   pub printed_all : told ≡ true → end ≡ ends.Ok → after.written ≡ grown before.written (printed catalog.schema texts database)
   -- by the plan `pre`, where the flash does not fail, it is called no more often than the texts take
@@ -63,5 +65,5 @@ pub record RanOver (by : Plan) (told : Bool) (catalog : Catalog) (database : Dat
   pub called : end ≡ ends.Flash → Rose before.device.calls after.device.calls
   pub damage_called : is_damaged end ≡ true → Rose before.device.calls after.device.calls
   pub undamaged : told ≡ true → is_damaged end ≡ false
-  pub damaged : (damage : Damage) → end ≡ ends.Damaged damage → IsFirstSlot by told after.device.page catalog texts lines.reasons damage
-  pub damage_read : (damage : Damage) → end ≡ ends.Damaged damage → WasRead by told before.device.calls after.device catalog texts lines.reasons damage
+  pub damaged : (damage : Damage) → end ≡ ends.Damaged damage → IsFirstSlot by told after.device.page catalog texts reasons.reasons damage
+  pub damage_read : (damage : Damage) → end ≡ ends.Damaged damage → WasRead by told before.device.calls after.device catalog texts reasons.reasons damage

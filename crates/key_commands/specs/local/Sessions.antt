@@ -24,8 +24,9 @@ use Rattle.key_session.specs.Calls.{session_calls}
 use Rattle.key_session.specs.Damages.{IsFirstDamaged, IsSlotOf, WasRead}
 use Rattle.key_exec.specs.declared.damage.Damage.{Damage}
 use Rattle.ghost_model.specs.core.Lines.{Reason}
-use Rattle.key_lines.specs.Handing.{Handed, handed}
-use Rattle.key_session.specs.Reasons.{HaveLines}
+use Rattle.key_lines.specs.Handing.{handed}
+use Rattle.key_session.specs.Counting.{is_flash, is_damage}
+use Rattle.key_session.specs.Reasons.{HaveReasons, HaveLines}
 use Rattle.key_session.specs.Telling.{SessionSide, session_side}
 use Rattle.key_inputs.specs.Outside.{Outside, Verdicts, Risen, Same, Untold, verdicts}
 use Rattle.key_words.specs.Words.{Local}
@@ -82,11 +83,13 @@ abbrev pub SameBesides : (name : Option (List ℕ)) → (before after : Option F
 SameBesides None before after = after ≡ before
 SameBesides (Some name) before after = SameBut name before after
 
--- every text has the lines of a reason, whatever the pages of the flash hold, and these were handed to the sink
-pub record GivesLines (catalog : Catalog) (texts : List (List ℕ)) (journal : Journal) (before after : Handed) : Type 0 where
-  pub reasons : List Reason
-  pub as_many : length reasons ≡ length texts
-  pub lines : HaveLines catalog texts journal reasons before after
+-- what an end tells of the reasons for the lines of the texts; behind `Sink` and `Depot`, which are told first, these may be any
+abbrev pub TellsReasons : LocalEnd → (reasons : List Reason) → Type 0
+TellsReasons ends.Ok reasons = (list_any is_flash reasons ≡ false) × (list_any is_damage reasons ≡ false)
+TellsReasons ends.Sink reasons = ⊤
+TellsReasons ends.Depot reasons = ⊤
+TellsReasons ends.Flash reasons = list_any is_flash reasons ≡ true
+TellsReasons (ends.Damaged damage) reasons = (list_any is_flash reasons ≡ false) × (list_any is_damage reasons ≡ true)
 
 -- of texts with these reasons, the first that damage ended has this damaged slot, which is read for it
 pub record IsFirstSlot (by : Plan) (told : Bool) (page : ℕ → List ℕ) (catalog : Catalog) (texts : List (List ℕ)) (reasons : List Reason) (damage : Damage) : Type 0 where
@@ -108,7 +111,9 @@ pub record Ran (told : Bool) (one : Subject) (end : LocalEnd) (before after : Ou
   pub kept : (Rose before.append_faults after.append_faults → ⊥) → HasLines after.files one.words.journal journal
   -- and so it is where all went well
   pub all_kept : end ≡ ends.Ok → HasLines after.files one.words.journal journal
-  pub lines : GivesLines (catalog_in one) one.texts journal (handed false before.sink_faults before.written) (handed (is_sink end) after.sink_faults after.written)
+  -- each text has a reason that the journal allows, whatever the pages of the flash hold, and the lines of it, which were handed to the sink
+  pub reasons : HaveReasons (catalog_in one) one.texts journal (length one.texts) (λ reasons. TellsReasons end reasons) before.device.faults after.device.faults
+  pub lines : HaveLines (catalog_in one) one.texts journal reasons.reasons (handed false before.sink_faults before.written) (handed (is_sink end) after.sink_faults after.written)
   -- each text has its lines, or a front of them where the flash failed
   pub gives : told ≡ true → Gives one.schema one.database one.texts (session_side_in false before) (session_side_in (is_sink end) after)
   pub printed_all : told ≡ true → end ≡ ends.Ok → after.written ≡ grown before.written (printed one.schema one.texts one.database)
@@ -125,9 +130,9 @@ pub record Ran (told : Bool) (one : Subject) (end : LocalEnd) (before after : Ou
   pub undamaged : told ≡ true → is_damaged end ≡ false
   -- it is that of the first text that damage ended: where all rows are looked at one of a hidden column, which has no value of it; by the
   -- indexes, where what the pages are of is known, a damaged one of a file that is read for this text
-  pub damaged : (damage : Damage) → end ≡ ends.Damaged damage → IsFirstSlot one.words.plan told after.device.page (catalog_in one) one.texts lines.reasons damage
+  pub damaged : (damage : Damage) → end ≡ ends.Damaged damage → IsFirstSlot one.words.plan told after.device.page (catalog_in one) one.texts reasons.reasons damage
   -- and the session read it there for this text
-  pub damage_read : (damage : Damage) → end ≡ ends.Damaged damage → WasRead one.words.plan told since.flash.calls after.device (catalog_in one) one.texts lines.reasons damage
+  pub damage_read : (damage : Damage) → end ≡ ends.Damaged damage → WasRead one.words.plan told since.flash.calls after.device (catalog_in one) one.texts reasons.reasons damage
   -- and the flash has been made for it, under the name that the words say
   pub name : after.device.name ≡ Some one.words.flash
   pub holds : told ≡ true → Holds after.device.page (catalog_in one) (hidden_of one.schema one.database)
