@@ -1,0 +1,5 @@
+pub mod Texts
+pub mod Numbers
+pub mod Told
+pub mod Moving
+pub mod Steps

@@ -1,0 +1,5 @@
+pub mod Audits
+pub mod Lines
+pub mod Replays
+pub mod Audited
+pub mod Laws
