@@ -4,17 +4,18 @@
 
 mod heard_sink;
 mod kept_depot;
-mod place;
+mod kept_flash;
 mod refusals;
-mod schema_place;
 mod table_line;
-mod table_remedy;
 mod telling;
 
 use crate::heard_sink::HeardSink;
 use crate::kept_depot::{KeptDepot, KeptText};
+use crate::kept_flash::KeptFlash;
 use crate::refusals::tell_refusals;
-use crate::telling::{Inputs, inputs_of, replaced_of, tell, tell_file, tell_input, tell_move};
+use crate::telling::{
+    Inputs, inputs_of, replaced_of, schema_of, tell, tell_file, tell_input, tell_move,
+};
 use edge_real::dir_depot::DirDepot;
 use edge_real::file_flash::FileFlash;
 use edge_real::progress::terminal;
@@ -27,6 +28,7 @@ use key_words::UsageFault;
 use std::io::ErrorKind;
 use std::process::ExitCode;
 use std::{env, io};
+use tree_schema::read_schema;
 
 /// Does what the words of the command line say, prints on standard error what did not go well, and ends with the status.
 fn main(rt: HostRuntime) -> ExitCode {
@@ -68,7 +70,8 @@ fn run(rt: &HostRuntime, words: &mut Vec<String>) -> io::Result<Ended> {
         schema: KeptText::of(rt.alloc(), schema),
         script: KeptText::of(rt.alloc(), script),
     };
-    let mut flash = ToldFlash::new(FileFlash::new(rt.alloc(), rt), terminal(rt));
+    let told = ToldFlash::new(FileFlash::new(rt.alloc(), rt), terminal(rt));
+    let mut flash = KeptFlash::new(rt.alloc(), told);
     let mut link = TcpLink::new(rt);
     let mut out = HeardSink::new(rt.alloc(), StdSink::new(rt.alloc(), rt)?)?;
     let ended = key_main(
@@ -79,13 +82,15 @@ fn run(rt: &HostRuntime, words: &mut Vec<String>) -> io::Result<Ended> {
         &mut link,
         &mut out,
     );
-    tell_refusals(rt, &depot.script, out.refused());
+    let (read, catalog) = (read_schema(depot.schema.bytes()).ok(), flash.catalog());
+    let schema = schema_of(&read, &catalog);
+    tell_refusals(rt, &depot.script, schema, out.refused());
     if ended.exit_code() != 0 {
         tell(rt, words, &ended);
         tell_file(rt, depot.depot.depot.first_fault());
-        tell_file(rt, flash.flash.first_fault());
+        tell_file(rt, flash.flash.flash.first_fault());
         tell_move(rt, link.first_cause());
-        tell_input(rt, &mut depot, tables, &ended);
+        tell_input(rt, &mut depot, tables, schema, &ended);
     }
     Ok(ended)
 }

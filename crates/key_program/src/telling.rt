@@ -1,8 +1,7 @@
 //! What is told of a command that did not end well.
 
 use crate::kept_depot::KeptDepot;
-use crate::schema_place::tell_place;
-use crate::table_line::tell_record;
+use crate::table_line::tell_table;
 use edge_real::file_fault::FileFault;
 use edge_real::plain_words::plain_words;
 use edge_real::replaced::{NONE_REPLACED, Replaced};
@@ -13,9 +12,11 @@ use key_commands::query::QueryFailure;
 use key_commands::{Ended, line_of};
 use key_inputs::InputFault;
 use key_load::LoadFailure;
+use key_messages::{BrokenText, schema_lines, usage_lines};
 use key_plain::PlainFault;
 use key_words::{KeyWords, read_words};
 use std::alloc::{AllocError, Global};
+use tree_schema::{Catalog, Schema};
 
 /// The files that a command reads: the schema's, the folder of the tables' and the script's, empty where there is none.
 #[derive(Clone, Copy)]
@@ -73,7 +74,12 @@ pub(crate) fn tell(rt: &HostRuntime, words: &[String], ended: &Ended) {
 
 /// The line that tells how a command ended, made of words without control characters.
 fn plain_line(alloc: Global, words: &[String], ended: &Ended) -> Result<String, AllocError> {
-    line_of(alloc, &plain_words(alloc, words)?, ended)
+    let words = plain_words(alloc, words)?;
+    let line = line_of(alloc, &words, ended)?;
+    match ended {
+        Ended::Usage(_) => usage_lines(alloc, &words, &line),
+        _ => Ok(line),
+    }
 }
 
 /// Prints on standard error the file that could not be read or written, if one could not.
@@ -90,19 +96,42 @@ pub(crate) fn tell_move(rt: &HostRuntime, cause: Option<Cause>) {
     }
 }
 
-/// Prints on standard error where the rule of an input is broken, if one is, and what to write: in a schema the place, in a
-/// table's file the line.
+/// The schema that texts were read with: that of the schema's file, or of the catalog on the device.
+pub(crate) fn schema_of<'a>(
+    read: &'a Option<Schema>,
+    catalog: &'a Option<Catalog>,
+) -> Option<&'a Schema> {
+    match (read, catalog) {
+        (Some(schema), _) => Some(schema),
+        (None, Some(catalog)) => Some(catalog.schema()),
+        (None, None) => None,
+    }
+}
+
+/// Prints on standard error where the rule of an input is broken, if one is, and what to write. `schema` is what was read
+/// of the schema's file means.
 pub(crate) fn tell_input<D: Depot + Drop>(
     rt: &HostRuntime,
     depot: &mut KeptDepot<'_, D>,
     tables: &str,
+    schema: Option<&Schema>,
     ended: &Ended,
 ) {
-    match fault_of(ended) {
-        Some(InputFault::Schema(broken)) => tell_place(rt, &depot.schema, &broken),
-        Some(InputFault::Table(broken)) => {
-            let schema = depot.schema.bytes();
-            tell_record(rt, &mut depot.depot, tables, schema, &broken);
+    match (fault_of(ended), schema) {
+        (Some(InputFault::Schema(broken)), _) => {
+            let text = BrokenText {
+                file: depot.schema.name(),
+                schema: depot.schema.bytes(),
+                broken,
+            };
+            if let Ok(lines) = schema_lines(rt.alloc(), &text)
+                && !lines.is_empty()
+            {
+                let _told = eprintln!(rt; "{lines}");
+            }
+        }
+        (Some(InputFault::Table(broken)), Some(schema)) => {
+            tell_table(rt, &mut depot.depot, tables, schema, &broken);
         }
         _ => {}
     }

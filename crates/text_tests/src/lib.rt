@@ -13,6 +13,10 @@ mod query_texts;
 #[cfg(test)]
 mod schema_texts;
 #[cfg(test)]
+mod told_files;
+#[cfg(test)]
+mod told_texts;
+#[cfg(test)]
 mod two_parts;
 #[cfg(test)]
 mod values;

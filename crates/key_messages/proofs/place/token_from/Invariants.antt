@@ -1,7 +1,7 @@
 use Rattle.std.proofs.Common.{◌≡◌, length, nat_le, find}
 use Rattle.ghost_model.specs.refusals.Tokens.{Token}
-use Rattle.key_program.specs.Places as places
-use Rattle.key_program.proofs.place.token_from.Given as goal
+use Rattle.key_messages.specs.Places as places
+use Rattle.key_messages.proofs.place.token_from.Given as goal
 
 abbrev pub decreases-loop-token : goal.decreases-loop-token
 decreases-loop-token l = length l.cursor

@@ -3,8 +3,8 @@
 ghost use Rattle.std.specs.Prelude.{◌≡◌, ◌+◌, ◌<◌, ◌^◌, false, not, length, filter, reverse, take, take_while, drop, IfSome};
 ghost use Rattle.std.specs.Char.{is_control};
 ghost use Rattle.tree_schema.specs.Marks.{token_of};
-ghost use Rattle.key_program.specs.Places as places;
-ghost use Rattle.key_program.specs.Places.{column_behind, line_behind};
+ghost use Rattle.key_messages.specs.Places as places;
+ghost use Rattle.key_messages.specs.Places.{column_behind, line_behind};
 
 use std::fmt::{Display, Error as FormatError, Formatter, Write};
 use tree_schema::{Cursor, Mark, Token};
@@ -176,9 +176,6 @@ impl<'a> Display for Word<'a> {
         let bytes = self.0.bytes;
         match self.0.mark {
             Mark::End => f.write_str("its end"),
-            Mark::Bad if bytes == b"'".as_slice() => {
-                f.write_str("a text that has no closing ' or a byte outside 0x20 to 0x7E")
-            }
             _ => {
                 let shown = bytes.get(..MOST_BEHIND).unwrap_or(bytes);
                 let dots = if shown.len() == bytes.len() {

@@ -1,6 +1,6 @@
 use Rattle.std.proofs.Common.{◌≡◌, ◌∙◌, List, ℕ, ap, sym, take, drop, length}
 use Rattle.std.proofs.lemmas.Slice.Eq.{bytes_eq-Decides}
-use Rattle.key_program.proofs.refusals.stands_at.Goals as goal
+use Rattle.key_messages.proofs.texts.stands_at.Goals as goal
 
 pub returns : goal.returns
 returns c =

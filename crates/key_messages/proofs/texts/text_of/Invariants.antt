@@ -1,6 +1,6 @@
 use Rattle.std.proofs.Common.{◌≡◌, ◌-◌, ◌≤◌, drop}
 use Rattle.ghost_model.specs.core.Texts.{texts_of}
-use Rattle.key_program.proofs.refusals.text_of.Given as goal
+use Rattle.key_messages.proofs.texts.text_of.Given as goal
 
 abbrev pub invariant-loop : goal.invariant-loop
 invariant-loop l =

@@ -1,7 +1,7 @@
 use Rattle.std.proofs.Common.{arith, ◌≡◌, ◌+◌, ◌-◌, ◌∙◌, ap, sym, drop, slice_get}
 use Rattle.ghost_model.specs.core.Texts.{texts_of}
-use Rattle.key_program.proofs.TextLemmas.{next_of}
-use Rattle.key_program.proofs.refusals.text_of.Goals as goal
+use Rattle.key_messages.proofs.TextLemmas.{next_of}
+use Rattle.key_messages.proofs.texts.text_of.Goals as goal
 
 pub loop-preserved : goal.loop-preserved
 loop-preserved c =
