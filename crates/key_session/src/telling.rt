@@ -160,7 +160,8 @@ impl<'a> Teller<'a> {
         }
     }
 
-    /// The text ahead was told to its end.
+    /// The text ahead was told to its end. It is no part of a slice's own code, which needs no room for a text then.
+    #[inline(never)]
     fn end(&mut self, told: Told)
         requires left { is_some self.old.ahead ≡ true }
         ensures ended { EndsText told self.old self.new }
