@@ -9,7 +9,8 @@ that no other row of this table has. A foreign key holds the key of a row of the
 compared as texts, so 7 and 07 are two keys.
 
 The k-th row of a file gets the identifier k, and each foreign key the number that its row got. The other fields stay
-as they are. Printed is how many rows each table has. Nothing is written where something is refused: a key that stands
+as they are. The old keys are in no table any more: they are kept, with the identifiers that they got, in
+old_keys/t.csv of the second folder. Printed is how many rows each table has. Nothing is written where something is refused: a key that stands
 twice, a reference to a key that no row has, a field that is no value of its column (docs/DATA.md). Then one line on
 standard error names the file, the line and the column, and the status is 1. The whole of the schema's rules is judged by
 `load`, as is the size of the files.
@@ -204,13 +205,18 @@ def number_rows(schema, source, target):
     for table, columns in tables.items():
         for _ in numbered(names[table], columns, keys):
             pass
-    os.makedirs(target, exist_ok=True)
+    os.makedirs(os.path.join(target, 'old_keys'), exist_ok=True)
     for table, columns in tables.items():
         with open(os.path.join(target, table + '.csv'), 'w', encoding='latin-1', newline='') as file:
             lines = csv.writer(file, lineterminator='\n')
             lines.writerow([column.name for column in columns])
             lines.writerows(numbered(names[table], columns, keys))
+        with open(os.path.join(target, 'old_keys', table + '.csv'), 'w', encoding='latin-1', newline='') as file:
+            lines = csv.writer(file, lineterminator='\n')
+            lines.writerow(['id', 'old_key'])
+            lines.writerows((number, key) for key, number in keys[table].items())
         print('%s: rows 1 to %d' % (table, len(keys[table])) if keys[table] else '%s: no row' % table)
+    print('the old keys: %s' % os.path.join(target, 'old_keys'))
 
 
 def main():
