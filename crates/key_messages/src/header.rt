@@ -114,6 +114,44 @@ impl<'a> Header<'a> {
         column
     }
 
+    /// The names that it has to have.
+    fn names(&self) -> HeaderNames<'a> {
+        HeaderNames {
+            schema: self.schema,
+            table: self.table,
+        }
+    }
+
+    /// Tells what is wrong where it names no column.
+    fn write_unnamed<W: Write>(
+        &self,
+        f: &mut Formatter<W>,
+        wrong: Wrong,
+    ) -> Result<(), FormatError> {
+        let names = self.names();
+        match wrong {
+            Wrong::Wide => f.write_str("the file is in UTF-16: save it as plain ASCII"),
+            Wrong::Divided(b'\t') => {
+                f.write_str("its fields are divided by tabs: write the file with commas")
+            }
+            Wrong::Divided(byte) => {
+                let sign = byte as char;
+                write!(
+                    f,
+                    "its fields are divided by {sign}: write the file with commas"
+                )
+            }
+            Wrong::Row => write!(
+                f,
+                "the first line has a row and no names: put above it the line {names}"
+            ),
+            _ => write!(
+                f,
+                "the first line names no column of the schema: see that the file's columns are those of the schema, in their order, and let the first line be {names}"
+            ),
+        }
+    }
+
     /// What stands in it at a place.
     fn field(&self, column: usize) -> Bytes<'a> {
         Bytes(bare(self.line.split(is_comma).nth(column).unwrap_or(&[])))
@@ -160,37 +198,19 @@ impl<'a> Display for HeaderNames<'a> {
 /// What is wrong, and what to do. No field of a row is told.
 impl<'a> Display for Header<'a> {
     fn fmt<W: Write>(&self, f: &mut Formatter<W>) -> Result<(), FormatError> {
-        let Header { schema, table, .. } = *self;
-        let names = HeaderNames { schema, table };
+        let HeaderNames { schema, table } = self.names();
         match self.wrong() {
-            Wrong::Wide => f.write_str("the file is in UTF-16: save it as plain ASCII"),
-            Wrong::Divided(b'\t') => {
-                f.write_str("its fields are divided by tabs: write the file with commas")
-            }
-            Wrong::Divided(byte) => {
-                write!(
-                    f,
-                    "its fields are divided by {}: write the file with commas",
-                    byte as char
-                )
-            }
-            Wrong::Row => write!(
-                f,
-                "the first line has a row and no names: put above it the line {names}"
-            ),
-            Wrong::NoName => write!(
-                f,
-                "the first line names no column of the schema: see that the file's columns are those of the schema, in their order, and let the first line be {names}"
-            ),
             Wrong::Order => write!(
                 f,
-                "the columns stand in another order than in the schema, {} for {names}: do not change this line alone, which would swap columns; bring the columns of the schema, or those of the whole file, into the other's order",
-                Bytes(self.line)
+                "the columns stand in another order than in the schema, {} for {}: do not change this line alone, which would swap columns; bring the columns of the schema, or those of the whole file, into the other's order",
+                Bytes(self.line),
+                self.names()
             ),
             Wrong::Count(count) => write!(
                 f,
-                "the first line has {count} names, and the table {} columns, {names}: let the file and the schema have the same ones",
-                schema.columns(table)
+                "the first line has {count} names, and the table {} columns, {}: let the file and the schema have the same ones",
+                schema.columns(table),
+                self.names()
             ),
             Wrong::Other(column) => write!(
                 f,
@@ -199,6 +219,7 @@ impl<'a> Display for Header<'a> {
                 self.field(column),
                 column_name(schema, Field { table, column })
             ),
+            unnamed => self.write_unnamed(f, unnamed),
         }
     }
 }

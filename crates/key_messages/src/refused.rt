@@ -16,7 +16,7 @@ use tree_schema::{Mark, Schema};
 
 /// A text that was refused.
 #[derive(Clone, Copy)]
-pub struct RefusedText<'a> {
+pub struct RefusedText<'a, 's> {
     /// The name of the script's file.
     pub file: &'a str,
 
@@ -24,7 +24,7 @@ pub struct RefusedText<'a> {
     pub script: &'a [u8],
 
     /// The schema that the text was read with, where it is at hand.
-    pub schema: Option<&'a Schema>,
+    pub schema: Option<&'s Schema>,
 
     /// The number of the text, from 1.
     pub text: u32,
@@ -35,7 +35,7 @@ pub struct RefusedText<'a> {
 
 /// The lines, without the end of the last one, that tell of a refused text what is wrong, where in its script, and what to
 /// write, and that show the place.
-pub fn refused_lines(alloc: Global, refused: &RefusedText<'_>) -> Result<String, AllocError> {
+pub fn refused_lines(alloc: Global, refused: &RefusedText<'_, '_>) -> Result<String, AllocError> {
     let Some(found) = text_of(refused.script, refused.text) else {
         return lost_line(alloc, refused);
     };
@@ -52,7 +52,7 @@ pub fn refused_lines(alloc: Global, refused: &RefusedText<'_>) -> Result<String,
 /// The lines that tell this of an offset of a text.
 fn lines_at(
     alloc: Global,
-    refused: &RefusedText<'_>,
+    refused: &RefusedText<'_, '_>,
     found: &TextAt<'_>,
     at: usize,
     told: &str,
@@ -67,7 +67,7 @@ fn lines_at(
 /// The lines of a text that is not in the grammar, from the token at this offset on.
 fn syntax_lines(
     alloc: Global,
-    refused: &RefusedText<'_>,
+    refused: &RefusedText<'_, '_>,
     found: &TextAt<'_>,
     at: usize,
 ) -> Result<String, AllocError> {
@@ -93,7 +93,7 @@ fn syntax_lines(
 /// What is wrong with a text that is in the grammar, where its schema is at hand.
 fn found_in(
     alloc: Global,
-    refused: &RefusedText<'_>,
+    refused: &RefusedText<'_, '_>,
     text: &[u8],
 ) -> Result<Option<Found>, AllocError> {
     let Some(schema) = refused.schema else {
@@ -119,7 +119,7 @@ fn found_in(
 }
 
 /// The line of a text that is not at hand.
-fn lost_line(alloc: Global, refused: &RefusedText<'_>) -> Result<String, AllocError> {
+fn lost_line(alloc: Global, refused: &RefusedText<'_, '_>) -> Result<String, AllocError> {
     let number = refused.text;
     match refused.refusal {
         Refusal::Syntax { at } => {

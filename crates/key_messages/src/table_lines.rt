@@ -32,48 +32,46 @@ pub fn table_line(alloc: Global, file: &BrokenFile<'_>) -> Result<String, AllocE
     format!(in alloc; "{name}: {file}")
 }
 
+impl<'a> BrokenFile<'a> {
+    /// The names of a table's columns.
+    fn names(&self, at: &Place) -> HeaderNames<'a> {
+        HeaderNames {
+            schema: self.schema,
+            table: usize::from(at.table),
+        }
+    }
+
+    /// The first line, and the table whose columns it has to name.
+    fn header(&self, at: &Place) -> Header<'a> {
+        Header {
+            line: self.line,
+            schema: self.schema,
+            table: usize::from(at.table),
+        }
+    }
+}
+
 impl<'a> Display for BrokenFile<'a> {
     fn fmt<W: Write>(&self, f: &mut Formatter<W>) -> Result<(), FormatError> {
-        let schema = self.schema;
         match self.broken {
             BrokenTable::FileLimit(_) | BrokenTable::RowLimit(_) => {
                 f.write_str("leave out rows, or parts of them in a table of their own")
             }
             BrokenTable::Empty(record) => {
-                let table = usize::from(record.at.table);
-                write!(
-                    f,
-                    "write as the first line {}",
-                    HeaderNames { schema, table }
-                )
+                write!(f, "write as the first line {}", self.names(&record.at))
             }
-            BrokenTable::Header(record) => {
-                let table = usize::from(record.at.table);
-                let line = self.line;
-                write!(
-                    f,
-                    "{}",
-                    Header {
-                        line,
-                        schema,
-                        table
-                    }
-                )
-            }
-            BrokenTable::FieldCount(record) => {
-                let table = usize::from(record.at.table);
-                let names = HeaderNames { schema, table };
-                write!(
-                    f,
-                    "write in each line {names}, and \" round a value that has a comma or a line end"
-                )
-            }
+            BrokenTable::Header(record) => write!(f, "{}", self.header(&record.at)),
+            BrokenTable::FieldCount(record) => write!(
+                f,
+                "write in each line {}, and \" round a value that has a comma or a line end",
+                self.names(&record.at)
+            ),
             BrokenTable::BadId { .. } => f.write_str(
                 "write 1, 2, 3 and so on; examples/number_rows.py makes them of other keys",
             ),
             BrokenTable::BadInt { value, .. } => f.write_str(number_cure(&value)),
             BrokenTable::BadChars { field, value } => {
-                let most = length_at(schema, &field.at);
+                let most = length_at(self.schema, &field.at);
                 write!(f, "{}", CharsFault { value, most })
             }
             BrokenTable::BadReference { child, .. } => {

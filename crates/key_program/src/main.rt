@@ -84,7 +84,7 @@ fn run(rt: &HostRuntime, words: &mut Vec<String>) -> io::Result<Ended> {
     );
     let (read, catalog) = (read_schema(depot.schema.bytes()).ok(), flash.catalog());
     let schema = schema_of(&read, &catalog);
-    tell_refusals(rt, &depot.script, schema, out.refused());
+    tell_refusals(rt, script, depot.script.bytes(), schema, out.refused());
     if ended.exit_code() != 0 {
         tell(rt, words, &ended);
         tell_file(rt, depot.depot.depot.first_fault());

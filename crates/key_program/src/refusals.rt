@@ -1,22 +1,23 @@
 //! What is told of refused texts.
 
 use crate::heard_sink::Refused;
-use crate::kept_depot::KeptText;
 use key_messages::{RefusedCount, RefusedText, refused_lines};
 use spj_parse::text_count;
 use tree_schema::Schema;
 
-/// Prints on standard error what each refusal means, where it stands, and what to write, and how many texts were refused.
-pub(crate) fn tell_refusals(
+/// Prints on standard error what each refusal of a script's text means, where it stands, and what to write, and how many of
+/// its texts were refused.
+pub(crate) fn tell_refusals<'a>(
     rt: &HostRuntime,
-    script: &KeptText<'_>,
+    file: &'a str,
+    script: &'a [u8],
     schema: Option<&Schema>,
     refused: &[Refused],
 ) {
     for one in refused {
         let text = RefusedText {
-            file: script.name(),
-            script: script.bytes(),
+            file,
+            script,
             schema,
             text: one.text,
             refusal: one.refusal,
@@ -26,7 +27,7 @@ pub(crate) fn tell_refusals(
             Err(_) => eprintln!(rt; "text {}: out of memory", one.text),
         };
     }
-    tell_count(rt, refused.len(), text_count(script.bytes()));
+    tell_count(rt, refused.len(), text_count(script));
 }
 
 /// Prints on standard error how many of a script's texts were refused, where some were and its texts are at hand.
