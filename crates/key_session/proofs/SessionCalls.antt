@@ -30,7 +30,7 @@ use Rattle.key_session.specs.FewCalls.{IsServedSoFar, CallsSoFar, StepsTakeFewCa
 use Rattle.key_session.specs.Going.{WasAmid, WasMoved, WasSliced}
 use Rattle.key_session.specs.Kept.{is_lost, with_lease}
 use Rattle.key_session.specs.Laws.{LaterTextsAreUnmarked}
-use Rattle.key_session.specs.Spending.{CountsStay, IsServedText, SpendsCalls, spent_by, spent_for}
+use Rattle.key_session.specs.Spending.{IsServedText, spent_by, spent_for}
 use Rattle.key_session.specs.Telling.{SessionSide, marks_behind}
 use Rattle.key_session.specs.TextOrder.{TextsComeInOrder}
 use Rattle.key_session.specs.declared.session.Session.{Session}

@@ -1,5 +1,5 @@
 -- A session between two steps, and how often it has called the flash so far, where its texts are answered by the plan `pre`.
-use Rattle.std.specs.Prelude.{◌≡◌, ℕ, ◌+◌, ◌*◌, ◌≤◌, min, Bool, false, List, [], ◌∷◌, ◌++◌, length, Option, None, ⊤}
+use Rattle.std.specs.Prelude.{◌≡◌, ℕ, ◌+◌, ◌*◌, ◌≤◌, min, Bool, false, List, [], ◌∷◌, ◌++◌, length, None, ⊤}
 use Rattle.ghost_model.specs.core.Causes.{Rose, last_count}
 use Rattle.ghost_model.specs.core.Channel.{Catalog, Journal}
 use Rattle.ghost_model.specs.core.Honest.{IsSetting}
@@ -20,7 +20,7 @@ use Rattle.key_session.specs.Telling.{SessionSide}
 use Rattle.key_session.specs.declared.session.Session.{Session}
 use Rattle.key_session.specs.declared.teller.Teller.{Teller}
 
--- a session with an honest host that is not over yet, over pages that hold; the flash did not fail
+-- so far a session with an honest host, which goes on so to its end, over pages that hold; the flash did not fail
 pub record IsServedSoFar (told : Bool) (catalog : Catalog) (database : Database) (texts : List (List ℕ)) (journal : Journal) (since now : SessionSide) : Type 0 where
   pub at : List ℕ
   pub rest : Journal

@@ -1,11 +1,10 @@
-use Rattle.std.proofs.Common.{ℕ, false, List, [], ap, sym, ◌∙◌, subst}
+use Rattle.std.proofs.Common.{[], ap, sym, ◌∙◌}
 use Rattle.std.specs.List.{list_any}
 use Rattle.ghost_model.specs.core.Asks.{asked_of}
 use Rattle.ghost_model.specs.core.NextMove.{standing_after}
 use Rattle.ghost_model.specs.core.Texts.{texts_of}
 use Rattle.key_session.specs.Counting.{is_flash}
 use Rattle.key_session.specs.Running.{is_sink, blames_flash, spares_flash}
-use Rattle.key_session.specs.Telling.{session_side}
 use Rattle.key_commands.specs.local.Sessions.{told_by_end}
 use Rattle.key_commands.specs.declared.local.ends.LocalEnd.{LocalEnd}
 use Rattle.key_commands.proofs.local_lemmas.Causing.{causes_of}

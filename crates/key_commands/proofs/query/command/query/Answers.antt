@@ -1,6 +1,5 @@
 use Rattle.std.proofs.Common.{List, subst, sym, ◌∙◌, ℕ, refl}
 use Rattle.ghost_model.specs.core.Causes.{Rose}
-use Rattle.ghost_model.specs.core.Texts.{texts_of}
 use Rattle.key_inputs.specs.Outside.{outside}
 use Rattle.key_commands.specs.query.Openings.{IsScript}
 use Rattle.key_commands.specs.query.Results.{side_since, side_now}
