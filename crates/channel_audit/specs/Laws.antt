@@ -7,3 +7,7 @@ use Rattle.channel_audit.specs.Lines.{lacks}
 -- a line that tells a move has no LF
 abbrev pub LinesHaveNoEnd : Type 0
 LinesHaveNoEnd = (text : List ℕ) (made : Entry) → Tells text made → lacks 10 text ≡ true
+
+-- a line tells one move with one answer
+abbrev pub LinesTellOneMove : Type 0
+LinesTellOneMove = (text : List ℕ) (made other : Entry) → Tells text made → Tells text other → made ≡ other

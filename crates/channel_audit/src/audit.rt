@@ -22,7 +22,7 @@ use ghost_base::limits::MAX_TEXTS;
 use tree_schema::Catalog;
 
 /// A move as it is told: its kind, and how long it is.
-#[derive(Clone, Copy)]
+#[derive(Clone, Copy, Debug)]
 pub enum Due {
     /// The dial.
     Dial,
