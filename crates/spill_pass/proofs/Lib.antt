@@ -3,6 +3,7 @@ pub mod Writing
 pub mod Going
 pub mod Gathered
 pub mod Counted
+pub mod Stepping
 pub mod PlaceCells
 pub mod SparedLemmas
 pub mod Grouping

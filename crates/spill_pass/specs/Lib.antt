@@ -1,4 +1,5 @@
 pub mod Causes
+pub mod Stepping
 pub mod Merging
 pub mod Known
 pub mod Places

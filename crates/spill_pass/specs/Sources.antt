@@ -11,7 +11,6 @@ use Rattle.page_pool.specs.Laws.{SameBuffer}
 use Rattle.flash_pages.specs.declared.fault.PageFault.{PageFault}
 use Rattle.flash_pages.specs.declared.fault.PageFault.TheVariants.{Flash, Damaged}
 use Rattle.flash_pages.specs.Reads.{WasGiven}
-use Rattle.spill_pass.specs.Causes.{CallsAtFault, TellsFault, EndsAtFault}
 use Rattle.spill_pass.specs.Lists.{IsReadable, IsOrdered, id_of}
 use Rattle.spill_pass.specs.Merging.{MadeAtMost}
 
@@ -60,17 +59,14 @@ GaveNext device old new None = old.lists_left ≡ 0
 GaveNext device old new (Some list) = GaveList device old new list
 
 -- what a call does, whatever the answer: it makes at most three calls of the flash and writes no page. At the end of the lists it
--- makes none; otherwise it makes at least one exactly where that was told before, and where the flash is blamed it made one
+-- makes none; otherwise it makes at least one exactly where that was told before
 pub record LooksUp {T : Type 0} (before now : Device) (pool later : Pool) (lease : ℕ) (calls : Bool) (old new : Source) (result : Result T PageFault) : Type 0 where
   pub kept : KeepsPages before now
   pub at_most : MadeAtMost 3 before now
   pub none : calls ≡ false → MadeAtMost 0 before now
   pub called : calls ≡ true → OnOk result (Rose before.calls now.calls)
-  pub failed : CallsAtFault before.calls now.calls result
   pub a_list : OnOk result (now.calls + 3 * new.lists_left ≤ before.calls + 3 * old.lists_left)
   pub reads : OnOk result (now.deep_reads + 3 * new.lists_left ≤ before.deep_reads + 3 * old.lists_left)
-  pub cause : TellsFault before.faults now.faults result
-  pub last : EndsAtFault now.since_fault result
   pub buffer : ChangesPage pool later lease
   pub out : IsOut later lease
   pub given : (since : ℕ) → since ≤ before.calls → WasGiven since before pool lease → WasGiven since now later lease

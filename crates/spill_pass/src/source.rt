@@ -1,11 +1,12 @@
 //! What gives lists one after another.
 
-ghost use Rattle.std.specs.Prelude.{◌≡◌, ◌+◌, ◌-◌, ◌*◌, ◌^◌, ◌<◌, ◌≤◌, Bool, true, ℕ, List, IfOk, OnOk};
-ghost use Rattle.edge_traits.specs.Devices.{Device, Counts};
+ghost use Rattle.std.specs.Prelude.{◌≡◌, ◌+◌, ◌*◌, ◌^◌, ◌<◌, ◌≤◌, Bool, true, ℕ, List, IfOk, OnOk};
+ghost use Rattle.edge_traits.specs.Devices.{Device};
 ghost use Rattle.page_pool.specs.Pools.{Pool};
 ghost use Rattle.id_merge.specs.Since.{Since, IsSince, Blames};
 ghost use Rattle.spill_pass.specs.Known.{KnowsNext};
 ghost use Rattle.spill_pass.specs.Lists.{OutOfRowsIn};
+ghost use Rattle.spill_pass.specs.Stepping.{Stepped};
 ghost use Rattle.spill_pass.specs.Sources.{Source, SparesSource, LooksUp, GaveNext, GivesLists, BlamesSource};
 
 use edge_traits::flash::Flash;
@@ -55,9 +56,7 @@ pub trait ListSource {
         ensures less { (page : ℕ → List ℕ) → (rows : ℕ) → (number slot found : ℕ) → damaged page rows self.new number slot found → damaged page rows self.old number slot found }
         ensures gave { IfOk result (GaveNext (F.state flash.new) (source self.old) (source self.new)) }
         ensures looks { LooksUp (F.state flash.old) (F.state flash.new) pool.old pool.new (source self.old).lease (calls pool.old self.old) (source self.old) (source self.new) result }
-        ensures counted { Counts (spent.new - spent.old) (F.state flash.old).calls (F.state flash.new).calls }
-        ensures rises { spent.old ≤ spent.new }
-        ensures most { spent.new ≤ spent.old + 3 }
+        ensures stepped { Stepped 3 (F.state flash.old) (F.state flash.new) spent.old spent.new result }
         ensures a_list { OnOk result (spent.new + 3 * (source self.new).lists_left ≤ spent.old + 3 * (source self.old).lists_left) }
         ensures ready { ready F.told (F.state flash.new) pool.new self.new };
 
