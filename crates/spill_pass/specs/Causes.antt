@@ -10,12 +10,6 @@ TellsFault before now (Ok value) = now ≡ before
 TellsFault before now (Err Flash) = Rose before now
 TellsFault before now (Err (Damaged page slot found)) = now ≡ before
 
--- where the flash is blamed, its last call is the one that failed
-abbrev pub EndsAtFault : {T : Type 0} → (since_fault : ℕ) → Result T PageFault → Type 0
-EndsAtFault since_fault (Ok value) = ⊤
-EndsAtFault since_fault (Err Flash) = since_fault ≡ 0
-EndsAtFault since_fault (Err (Damaged page slot found)) = ⊤
-
 -- where the flash is blamed, it was called
 abbrev pub CallsAtFault : {T : Type 0} → (before now : ℕ) → Result T PageFault → Type 0
 CallsAtFault before now (Ok value) = ⊤
