@@ -22,6 +22,7 @@ pub mod TakingOn
 pub mod FoldingOn
 pub mod SearchOn
 pub mod Turning
+pub mod Stepping
 pub mod CutReplies
 pub mod Founds
 pub mod Blames
