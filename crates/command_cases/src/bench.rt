@@ -56,6 +56,13 @@ pub struct Bench {
     deep: u64,
 }
 
+/// Puts bytes over those of a page from a place on, as far as it goes.
+fn put_over(page: &mut [u8], place: usize, front: &[u8]) {
+    for (byte, new) in page.iter_mut().skip(place).zip(front.iter()) {
+        *byte = *new;
+    }
+}
+
 /// A link to another end that says nothing.
 fn silent_link(alloc: Global, room: LinkRoom) -> Result<MemLink, AllocError> {
     let peer = PeerScript {
@@ -154,14 +161,13 @@ impl Bench {
         let Ok(page) = u32::try_from(page) else {
             return false;
         };
-        let mut bytes = match self.flash.page(page) {
-            Some(before) => *before,
+        let mut bytes = [0xFF; 2048];
+        match self.flash.page(page) {
+            Some(before) => put_over(&mut bytes, 0, before),
             None => return false,
-        };
-        let place = (slot as usize).saturating_mul(front.len());
-        for (byte, damaged) in bytes.iter_mut().skip(place).zip(front.iter()) {
-            *byte = *damaged;
         }
+        let place = (slot as usize).saturating_mul(front.len());
+        put_over(&mut bytes, place, front);
         self.flash.put_page(page, &bytes)
     }
 
