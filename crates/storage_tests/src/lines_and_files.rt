@@ -130,57 +130,39 @@ fn a_file_is_replaced_as_a_whole(rt: HostRuntime) {
     assert!(rt; depot.replace("/dev/null", b"1").is_ok());
 }
 
+/// Whether this is told of reading `note` where a command is to replace these files, nothing where it is read; it stays in any case.
+fn tells(rt: &HostRuntime, flash: &str, visible: &str, line: &str) -> Result<bool, AllocError> {
+    let replaced = Replaced {
+        flash,
+        visible,
+        journal: "",
+    };
+    let mut depot = DirDepot::replacing(rt.alloc(), rt, replaced);
+    let is_read = reads(&mut depot, "note", 0, "1");
+    let is_told = match depot.first_fault() {
+        Some(fault) => format!(in rt.alloc(); "{fault}")?.as_str() == line,
+        None => line.is_empty(),
+    };
+    let stays = !fs::exists(rt, "new").unwrap_or(true) && holds(rt, "note", b"1");
+    Ok(is_told && is_read == line.is_empty() && stays)
+}
+
 #[test]
 fn no_file_is_read_that_is_to_be_replaced(rt: HostRuntime) -> Result<(), AllocError> {
     let mut depot = DirDepot::new(rt.alloc(), &rt);
     assert!(rt; depot.replace("note", b"1").is_ok());
-    for (flash, visible, line) in [
-        ("key", "new", ""),
-        (
-            "note",
-            "new",
-            "note would be written over by --flash: it stays; give --flash another name",
-        ),
-        (
-            "key",
-            "./note",
-            "note would be written over by --visible: it stays; give --visible another name",
-        ),
-        (
-            "new",
-            "./new",
-            "new would be written over by --visible: it stays; give --visible another name",
-        ),
-        (
-            "new.part",
-            "new",
-            "new.part would be written over by --visible: it stays; give --visible another name",
-        ),
-        (
-            "key",
-            "none/new",
-            "could not write none/new: its folder is not there",
-        ),
-        ("key", ".", "could not write .: it is a folder"),
-    ] {
-        let replaced = Replaced {
-            flash,
-            visible,
-            journal: "",
-        };
-        let mut depot = DirDepot::replacing(rt.alloc(), &rt, replaced);
-        assert!(rt;
-            reads(&mut depot, "note", 0, "1") == line.is_empty(),
-            "{line}"
-        );
-        if let Some(fault) = depot.first_fault() {
-            assert!(rt;
-                format!(in rt.alloc(); "{fault}")?.as_str() == line,
-                "{line}"
-            );
-        }
-        assert!(rt; !fs::exists(&rt, "new").unwrap_or(true) && holds(&rt, "note", b"1"));
-    }
+    assert!(rt; tells(&rt, "key", "new", "")?);
+    let line = "note would be written over by --flash: it stays; give --flash another name";
+    assert!(rt; tells(&rt, "note", "new", line)?);
+    let line = "note would be written over by --visible: it stays; give --visible another name";
+    assert!(rt; tells(&rt, "key", "./note", line)?);
+    let line = "new would be written over by --visible: it stays; give --visible another name";
+    assert!(rt; tells(&rt, "new", "./new", line)?);
+    let line = "new.part would be written over by --visible: it stays; give --visible another name";
+    assert!(rt; tells(&rt, "new.part", "new", line)?);
+    let line = "could not write none/new: its folder is not there";
+    assert!(rt; tells(&rt, "key", "none/new", line)?);
+    assert!(rt; tells(&rt, "key", ".", "could not write .: it is a folder")?);
     Ok(())
 }
 
