@@ -37,6 +37,7 @@ fn has_what_was_written<F: Flash>(alloc: Global, flash: &mut F) -> Result<bool, 
 
 #[test]
 fn a_device_keeps_its_pages(rt: HostRuntime) -> Result<(), AttachFault> {
+    let _gone = fs::remove_file(&rt, "key");
     let mut flash = MemFlash::new(rt.alloc(), 2, &[])?;
     write(rt.alloc(), &mut flash)?;
     assert!(rt; has_what_was_written(rt.alloc(), &mut flash)?);
@@ -169,6 +170,7 @@ fn what_fails_on_a_device_has_its_line(rt: HostRuntime) -> Result<(), AllocError
 
 #[test]
 fn a_missing_right_and_a_full_disk_have_their_lines(rt: HostRuntime) -> Result<(), AllocError> {
+    let _gone = fs::remove_file(&rt, "key");
     assert!(rt;
         put(
             &rt,

@@ -149,6 +149,7 @@ fn tells(rt: &HostRuntime, flash: &str, visible: &str, line: &str) -> Result<boo
 
 #[test]
 fn no_file_is_read_that_is_to_be_replaced(rt: HostRuntime) -> Result<(), AllocError> {
+    let _gone = fs::remove_file(&rt, "new");
     let mut depot = DirDepot::new(rt.alloc(), &rt);
     assert!(rt; depot.replace("note", b"1").is_ok());
     assert!(rt; tells(&rt, "key", "new", "")?);
