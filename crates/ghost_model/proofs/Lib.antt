@@ -12,6 +12,7 @@ pub mod CatalogSpellingLemmas
 pub mod QueryLemmas
 pub mod QueryReadingLemmas
 pub mod ChannelLemmas
+pub mod RecordedLemmas
 pub mod MeaningLemmas
 pub mod SessionLemmas
 pub mod RunLemmas

@@ -14,5 +14,7 @@ pub mod NextMove
 pub mod Honest
 pub mod Host
 pub mod Local
+pub mod Recorded
 pub mod Replies
 pub mod Lines
+pub mod Generated

@@ -4,6 +4,7 @@ pub mod Tokens
 pub mod Schemas
 pub mod Queries
 pub mod Channel
+pub mod Recorded
 pub mod Meaning
 pub mod Databases
 pub mod Sessions
@@ -12,3 +13,5 @@ pub mod Layout
 pub mod Flash
 pub mod Slots
 pub mod QueryWork
+pub mod Generated
+pub mod NonMembers

@@ -5,6 +5,7 @@ pub mod TextLaws
 pub mod QueryLaws
 pub mod CatalogLaws
 pub mod ChannelLaws
+pub mod RecordedLaws
 pub mod HostLaws
 pub mod SplitByFlags
 pub mod RunLaws
