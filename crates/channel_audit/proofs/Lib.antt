@@ -3,4 +3,3 @@ pub mod Numbers
 pub mod Told
 pub mod Moving
 pub mod Steps
-pub mod Once

@@ -4,7 +4,7 @@ use Rattle.ghost_model.specs.core.Channel as channel
 use Rattle.ghost_model.specs.core.Channel.{Catalog, Entry, Journal, Move, Piece}
 use Rattle.ghost_model.specs.core.Asks.{NumberedAsk}
 use Rattle.ghost_model.specs.core.NextMove as next
-use Rattle.ghost_model.specs.core.NextMove.{next_with, standing_after}
+use Rattle.ghost_model.specs.core.NextMove.{next_with}
 use Rattle.edge_traits.specs.Links.{gave, Steps, entry}
 use Rattle.channel_pump.specs.State.{want_at, is_closed}
 use Rattle.channel_pump.specs.declared.state.Pump.{Pump}
@@ -14,7 +14,7 @@ use Rattle.channel_pump.specs.declared.state.Want.TheVariants as want
 use lib.Seq.{take-append_seam}
 use denote.Ref.{Bor}
 use Rattle.edge_traits.specs.declared.Failed.{Failed}
-use Rattle.channel_audit.specs.Audits.{Tells, number}
+use Rattle.ghost_model.specs.core.Recorded.{Tells, number}
 use Rattle.channel_audit.specs.Audited.{FitsPage, kind_of_next, move_due}
 use Rattle.channel_audit.specs.declared.audit.Due.{Due}
 use Rattle.channel_audit.specs.declared.audit.Due.TheVariants as due_is

@@ -1,52 +1,15 @@
 -- What each kind of line does to an audit that stands in a file.
-use Rattle.std.proofs.Common.{◌≡◌, ℕ, zero, suc, ◌+◌, ◌≤◌, ◌<◌, Bool, true, List, [], ◌∷◌, ◌++◌, length, take, codes, refl, sym, ap, subst, ◌∙◌, arith, append_assoc, append-nil, length-append}
-use Rattle.std.proofs.lemmas.Grind.{flat_map-append}
+use Rattle.std.proofs.Common.{◌≡◌, ℕ, zero, suc, ◌+◌, ◌≤◌, ◌<◌, Bool, true, List, [], ◌∷◌, ◌++◌, length, take, sym, ap, subst, ◌∙◌, arith, append_assoc, length-append}
 use Rattle.std.proofs.lemmas.Bool.{and_parts}
-use Rattle.hex.specs.Hex.{encode_lower}
-use Rattle.ghost_model.specs.core.Channel.{Catalog, Answer, Made, Port, Piece, End, Failed, Entry, Journal, Move, Dial, Listen, Accept, Send, Take, Close}
+use Rattle.ghost_model.specs.core.Channel.{Catalog, Entry, Journal}
 use Rattle.ghost_model.specs.core.Asks.{NumberedAsk}
 use Rattle.ghost_model.specs.core.NextMove.{standing_after}
-use Rattle.channel_audit.specs.Audits.{Tells, TellsMove, TellsDone, TellsGiven, EachTells, ended_line, all_lines, most_journal, is_digit, GoesOnWith, IsProperFile, IsWrongAt, IsNoLineAt}
-use Rattle.channel_audit.specs.Lines.{lacks}
-use Rattle.channel_audit.specs.Audited.{GoesOn, GoesWrong, StandsIn}
+use Rattle.ghost_model.specs.core.Recorded.{Tells, EachTells, ended_line, all_lines, most_journal, GoesOnWith, IsProperFile, IsNoLineAt, lacks}
+use Rattle.channel_audit.specs.Audited.{GoesOn, GoesWrong, IsWrongMove, StandsIn}
 use Rattle.channel_audit.specs.declared.audit.Audit.{Audit}
 use Rattle.channel_audit.specs.declared.audit.Due.{Due}
-use Rattle.channel_audit.proofs.Texts.{cut_once, passes_lack, lacks_append, hex_lacks, lacks_none}
-use Rattle.channel_audit.proofs.Numbers.{number_digits}
-
-done_lacks : (answer : Answer) (word : List ℕ) → TellsDone answer word → lacks 10 word ≡ true
-done_lacks Made word e = ap (lacks 10) e
-done_lacks (Port _) word e = absurd e
-done_lacks (Piece _) word e = absurd e
-done_lacks End word e = absurd e
-done_lacks Failed word e = ap (lacks 10) e
-
-given_lacks : (most : ℕ) (answer : Answer) (word : List ℕ) → TellsGiven most answer word → lacks 10 word ≡ true
-given_lacks most Made word e = absurd e
-given_lacks most (Port _) word e = absurd e
-given_lacks most (Piece bytes) word t = ap (lacks 10) t.word_is ∙ hex_lacks 10 refl bytes t.are_bytes
-given_lacks most End word e = ap (lacks 10) e
-given_lacks most Failed word e = ap (lacks 10) e
-
--- no line has an LF before its end
-pub told_lacks : (text : List ℕ) (made : Entry) → Tells text made → lacks 10 text ≡ true
-told_lacks text made tells = by made.move made.answer tells.tells
-  where
-    by : (move : Move) (answer : Answer) → TellsMove move answer text → lacks 10 text ≡ true
-    by (Dial []) answer t = ap (lacks 10) t.text_is ∙ done_lacks answer t.word t.done
-    by (Dial (_ ∷ _)) answer t = absurd t
-    by (Listen _) answer t = absurd t
-    by Accept answer t = absurd t
-    by (Send bytes) answer t =
-        ap (lacks 10) t.text_is ∙ lacks_append 10 (encode_lower bytes) (codes " " ++ t.word) (hex_lacks 10 refl bytes t.are_bytes) (done_lacks answer t.word t.done)
-    by (Take most) answer t =
-        ap (lacks 10) t.text_is
-        ∙ lacks_append 10 t.digits (codes " " ++ t.word) (passes_lack is_digit 10 refl t.digits (number_digits t.digits t.numeral)) (given_lacks most answer t.word t.given)
-    by Close Made t = ap (lacks 10) t
-    by Close (Port _) t = absurd t
-    by Close (Piece _) t = absurd t
-    by Close End t = absurd t
-    by Close Failed t = absurd t
+use Rattle.ghost_model.proofs.RecordedLemmas.Texts.{cut_once, lacks_none}
+use Rattle.ghost_model.proofs.RecordedLemmas.Ends.{told_lacks, lines_more, ended_rest}
 
 each_more : (texts : List (List ℕ)) (journal : Journal) (text : List ℕ) (made : Entry) → EachTells texts journal → Tells text made
     → EachTells (texts ++ text ∷ []) (journal ++ made ∷ [])
@@ -54,12 +17,6 @@ each_more [] [] text made each tells = (tells, tt)
 each_more [] (_ ∷ _) text made each tells = absurd each
 each_more (_ ∷ _) [] text made each tells = absurd each
 each_more (_ ∷ texts) (_ ∷ journal) text made each tells = (each.0, each_more texts journal text made each.1 tells)
-
-lines_more : (texts : List (List ℕ)) (text : List ℕ) → all_lines (texts ++ text ∷ []) ≡ all_lines texts ++ ended_line text
-lines_more texts text = flat_map-append ended_line texts (text ∷ []) ∙ ap (λ (xs : List ℕ). all_lines texts ++ xs) (append-nil (ended_line text))
-
-ended_rest : (text rest : List ℕ) → text ++ 10 ∷ rest ≡ ended_line text ++ rest
-ended_rest text rest = sym (append_assoc text (10 ∷ []) rest)
 
 module _ (catalog : Catalog) (asks : List NumberedAsk) (file : List ℕ) where
   -- a line that is fine was passed
@@ -88,21 +45,25 @@ module _ (catalog : Catalog) (asks : List NumberedAsk) (file : List ℕ) where
 
   -- a line tells another move than the next one
   pub wrong_step : (text rest : List ℕ) (audit : Audit) (passed moves : ℕ) (told due : Due) → (stands : StandsIn catalog asks file (text ++ 10 ∷ rest) audit passed moves)
-      → GoesWrong catalog asks stands.journal text told due → passed + (length text + 1) ≤ most_journal → IsWrongAt catalog asks file (moves + 1)
+      → GoesWrong catalog asks stands.journal text told due → passed + (length text + 1) ≤ most_journal → IsWrongMove catalog asks file (moves + 1) told due
   wrong_step text rest audit passed moves told due stands goes within = record {
-    journal = stands.journal;
-    rest = text ++ 10 ∷ rest;
-    before = stands.begins;
-    made = goes.made;
-    there = record {
-      text = text;
-      later = rest;
-      tells = goes.tells;
-      begins = ended_rest text rest;
-      within = (let long = length-append text (10 ∷ []) in let is = stands.passed_is in omega (arith, long, is, within));
+    wrong = record {
+      journal = stands.journal;
+      rest = text ++ 10 ∷ rest;
+      before = stands.begins;
+      made = goes.made;
+      there = record {
+        text = text;
+        later = rest;
+        tells = goes.tells;
+        begins = ended_rest text rest;
+        within = (let long = length-append text (10 ∷ []) in let is = stands.passed_is in omega (arith, long, is, within));
+      };
+      wrong = goes.wrong;
+      place = ap (λ (n : ℕ). n + 1) (sym stands.moves_is);
     };
-    wrong = goes.wrong;
-    place = ap (λ (n : ℕ). n + 1) (sym stands.moves_is);
+    told_is = goes.told_is;
+    due_is = goes.due_is;
   }
 
   -- no line of a journal stands at the front of the rest

@@ -4,10 +4,9 @@ use Rattle.hex.specs.Hex.{encode_lower, lower_digits}
 use Rattle.hex.proofs.HexLemmas.{length-encode_with}
 use Rattle.ghost_model.specs.core.Channel.{Answer, Made, Port, Piece, End, Failed, Entry, Move, Dial, Listen, Accept, Send, Take, Close}
 use Rattle.ghost_model.specs.forms.Frames.{AreBytes}
-use Rattle.channel_audit.specs.Audits.{Tells, TellsMove, TellsDial, TellsSend, TellsTake, TellsGiven, TellsPiece, TellsDone, is_number, is_digit, number}
-use Rattle.channel_audit.specs.Lines.{lacks, Cuts, done_as}
-use Rattle.channel_audit.proofs.Texts.{cut_once, passes_lack, hex_lacks, hex_once, has_byte}
-use Rattle.channel_audit.proofs.Numbers.{number_digits}
+use Rattle.ghost_model.specs.core.Recorded.{Tells, TellsMove, TellsDial, TellsSend, TellsTake, TellsGiven, TellsPiece, TellsDone, is_number, is_digit, number, lacks}
+use Rattle.channel_audit.specs.Lines.{Cuts, done_as}
+use Rattle.ghost_model.proofs.RecordedLemmas.Texts.{cut_once, passes_lack, hex_lacks, hex_once, has_byte, number_digits}
 
 -- no word for an answer
 pub not_done : (word : List ℕ) → (word ≡ codes "ok" → ⊥) → (word ≡ codes "failed" → ⊥) → (answer : Answer) → TellsDone answer word → ⊥

@@ -5,7 +5,7 @@ use Rattle.ghost_model.specs.core.Channel.{Catalog, Entry, Journal}
 use Rattle.ghost_model.specs.core.Asks.{NumberedAsk}
 use Rattle.ghost_model.specs.core.NextMove.{next_with}
 use Rattle.channel_pump.specs.Sessions.{IsLive}
-use Rattle.channel_audit.specs.Audits.{Tells, BeginsProperly, all_lines}
+use Rattle.ghost_model.specs.core.Recorded.{Tells, BeginsProperly, IsWrongAt, all_lines}
 use Rattle.channel_audit.specs.declared.audit.Audit.{Audit}
 use Rattle.channel_audit.specs.declared.audit.Due.{Due}
 use Rattle.channel_audit.specs.declared.audit.Due.TheVariants as due_is
@@ -69,3 +69,9 @@ pub record StandsIn (catalog : Catalog) (asks : List NumberedAsk) (file rest : L
   pub audited : IsAudited catalog asks journal audit
   pub passed_is : length (all_lines begins.texts) ≡ passed
   pub moves_is : length journal ≡ moves
+
+-- the move with this number is the first of a file that is not the next one; this is told of it, and of the one that was due
+pub record IsWrongMove (catalog : Catalog) (asks : List NumberedAsk) (file : List ℕ) (at : ℕ) (told due : Due) : Type 0 where
+  pub wrong : IsWrongAt catalog asks file at
+  pub told_is : told ≡ kind_of wrong.made.move
+  pub due_is : due ≡ kind_of_next (next_with catalog [] asks wrong.journal)

@@ -1,5 +1,3 @@
-pub mod Audits
 pub mod Lines
 pub mod Replays
 pub mod Audited
-pub mod Laws

@@ -1,17 +1,12 @@
 -- What a line that was read tells.
-use Rattle.std.specs.Prelude.{◌≡◌, ℕ, Bool, true, false, not, ◌==◌, List, [], ◌∷◌, ◌++◌}
-use Rattle.std.specs.List.{list_all}
+use Rattle.std.specs.Prelude.{◌≡◌, ℕ, Bool, true, false, List, [], ◌∷◌, ◌++◌}
 use Rattle.ghost_model.specs.core.Channel as channel
 use Rattle.ghost_model.specs.core.Channel.{Answer, Entry}
-use Rattle.channel_audit.specs.Audits.{number, TellsMove}
+use Rattle.ghost_model.specs.core.Recorded.{number, TellsMove, lacks}
 use Rattle.channel_audit.specs.declared.line.Line.{Line}
 use Rattle.channel_audit.specs.declared.line.Line.TheVariants.{Dial, Send, Take, Close}
 use Rattle.channel_audit.specs.declared.line.Given.{Given}
 use Rattle.channel_audit.specs.declared.line.Given.TheVariants.{Piece, End, Failed}
-
--- no byte of a text is this one
-abbrev pub lacks : (byte : ℕ) → List ℕ → Bool
-lacks byte text = list_all (λ one. not (one == byte)) text
 
 -- a text is cut at the first byte of this value
 pub record Cuts (byte : ℕ) (text first rest : List ℕ) : Type 0 where

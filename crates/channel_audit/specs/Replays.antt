@@ -1,7 +1,7 @@
 -- A link of one move, which it answers as a line tells.
 use Rattle.std.specs.Prelude.{◌≡◌, List, ℕ}
 use Rattle.ghost_model.specs.core.Channel.{Entry}
-use Rattle.channel_audit.specs.Audits.{Tells}
+use Rattle.ghost_model.specs.core.Recorded.{Tells}
 use Rattle.channel_audit.specs.Lines.{entry_of}
 use Rattle.channel_audit.specs.declared.line.Line.{Line}
 use Rattle.channel_audit.specs.declared.replay.Replay.{Replay}

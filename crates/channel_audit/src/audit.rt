@@ -19,10 +19,11 @@ use channel_pump::laws::sessions_begin;
 use channel_pump::pump;
 use channel_pump::state::{Pump, Want};
 use ghost_base::limits::MAX_TEXTS;
+use std::fmt::{Display, Error as FormatError, Formatter, Write};
 use tree_schema::Catalog;
 
 /// A move as it is told: its kind, and how long it is.
-#[derive(Clone, Copy, Debug)]
+#[derive(Clone, Copy, Debug, Drop)]
 pub enum Due {
     /// The dial.
     Dial,
@@ -34,6 +35,18 @@ pub enum Due {
     Close,
     /// No move.
     Nothing,
+}
+
+impl Display for Due {
+    fn fmt<W: Write>(&self, f: &mut Formatter<W>) -> Result<(), FormatError> {
+        match self {
+            Due::Dial => write!(f, "a dial"),
+            Due::Send(count) => write!(f, "a send of {count} bytes"),
+            Due::Take(most) => write!(f, "a take of {most} bytes"),
+            Due::Close => write!(f, "the close"),
+            Due::Nothing => write!(f, "no move"),
+        }
+    }
 }
 
 /// What an audit says of a line.

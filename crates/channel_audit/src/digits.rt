@@ -2,8 +2,8 @@
 
 ghost use Rattle.std.specs.Prelude.{◌≡◌, min};
 ghost use Rattle.std.specs.List.{list_all};
-ghost use Rattle.channel_audit.specs.Audits as audits;
-ghost use Rattle.channel_audit.specs.Audits.{is_digit, number};
+ghost use Rattle.ghost_model.specs.core.Recorded as audits;
+ghost use Rattle.ghost_model.specs.core.Recorded.{is_digit, number};
 
 /// A number that is greater than any length of bytes in a line, and than any that a key asks for.
 pub(crate) const MANY: usize = 100_000;

@@ -8,9 +8,8 @@
 pub mod audit;
 mod digits;
 mod hexadecimal;
-pub mod laws;
 pub mod line;
 mod replay;
-mod words;
+pub mod words;
 
 pub use audit::{Audit, Due, Step};

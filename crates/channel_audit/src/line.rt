@@ -2,7 +2,7 @@
 
 ghost use Rattle.std.specs.Prelude.{◌≡◌, ◌++◌, ◌≤◌, ℕ, List, codes, length, IfSome, IfNone};
 ghost use Rattle.ghost_model.specs.core.Channel.{Answer, Entry};
-ghost use Rattle.channel_audit.specs.Audits.{Tells, TellsDial, TellsSend, TellsTake, TellsGiven};
+ghost use Rattle.ghost_model.specs.core.Recorded.{Tells, TellsDial, TellsSend, TellsTake, TellsGiven};
 ghost use Rattle.channel_audit.specs.Lines.{IsRead, entry_of, given_as};
 
 use crate::digits::{is_number, number_up_to_many};
@@ -53,7 +53,7 @@ fn read_send<'a>(text: &[u8], room: &'a mut [u8; MOST_TOLD]) -> Option<Line<'a>>
     ensures some { IfSome result (λ line. IsRead (codes "send " ++ text.now) line) }
     ensures none { IfNone result ((bytes : List ℕ) (answer : Answer) → TellsSend bytes answer (codes "send " ++ text.now) → ⊥) }
 {
-    let Some((digits, word)) = cut(text) else {
+    let Some((digits, word)) = cut(b' ', text) else {
         return None;
     };
     let Some(well) = done(word) else {
@@ -97,7 +97,7 @@ fn read_take<'a>(text: &'a [u8], room: &'a mut [u8; MOST_TOLD]) -> Option<Line<'
     ensures some { IfSome result (λ line. IsRead (codes "take " ++ text.now) line) }
     ensures none { IfNone result ((most : ℕ) (answer : Answer) → TellsTake most answer (codes "take " ++ text.now) → ⊥) }
 {
-    let Some((digits, word)) = cut(text) else {
+    let Some((digits, word)) = cut(b' ', text) else {
         return None;
     };
     if !is_number(digits) {

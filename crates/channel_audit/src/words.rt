@@ -2,8 +2,8 @@
 
 ghost use Rattle.std.specs.Prelude.{◌≡◌, ℕ, List, ◌++◌, true, MatchOption, IfSome, IfNone};
 ghost use Rattle.ghost_model.specs.core.Channel.{Answer};
-ghost use Rattle.channel_audit.specs.Audits.{TellsDone};
-ghost use Rattle.channel_audit.specs.Lines.{lacks, done_as, Cuts};
+ghost use Rattle.ghost_model.specs.core.Recorded.{TellsDone, lacks};
+ghost use Rattle.channel_audit.specs.Lines.{done_as, Cuts};
 
 use memchr::memchr;
 
@@ -15,16 +15,16 @@ pub(crate) fn behind<'a>(text: &'a [u8], front: &[u8]) -> Option<&'a [u8]>
     text.strip_prefix(front)
 }
 
-/// What stands before the first blank of a text, and what stands behind it.
-pub(crate) fn cut(text: &[u8]) -> Option<(&[u8], &[u8])>
-    ensures cut { MatchOption result (lacks 32 text.now ≡ true) (λ parts. Cuts 32 text.now parts.0.now parts.1.now) }
+/// What stands before the first byte of this value in a text, and what stands behind it.
+pub fn cut(byte: u8, text: &[u8]) -> Option<(&[u8], &[u8])>
+    ensures cut { MatchOption result (lacks byte text.now ≡ true) (λ parts. Cuts byte text.now parts.0.now parts.1.now) }
 {
-    match memchr(b' ', text) {
+    match memchr(byte, text) {
         None => None,
         Some(at) => {
             let (first, rest) = text.split_at(at);
-            let (_blank, word) = rest.split_at(1);
-            Some((first, word))
+            let (_byte, later) = rest.split_at(1);
+            Some((first, later))
         }
     }
 }

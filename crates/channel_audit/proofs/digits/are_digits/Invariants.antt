@@ -1,6 +1,6 @@
 use Rattle.std.proofs.Common.{◌≡◌, length}
 use Rattle.std.specs.List.{list_all}
-use Rattle.channel_audit.specs.Audits.{is_digit}
+use Rattle.ghost_model.specs.core.Recorded.{is_digit}
 use Rattle.channel_audit.proofs.digits.are_digits.Given as goal
 
 abbrev pub invariant-loop-byte : goal.invariant-loop-byte

@@ -1,5 +1,5 @@
 use Rattle.std.proofs.Common.{◌≡◌, ◌+◌, ◌-◌, ◌*◌, ℕ, List, min, ap, sym, ◌∙◌, rules, arith}
-use Rattle.channel_audit.specs.Audits.{number_behind}
+use Rattle.ghost_model.specs.core.Recorded.{number_behind}
 use Rattle.channel_audit.proofs.Numbers.{counted}
 use Rattle.channel_audit.proofs.digits.number_up_to_many.Goals as goal
 

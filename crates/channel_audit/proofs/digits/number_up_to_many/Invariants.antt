@@ -1,5 +1,5 @@
 use Rattle.std.proofs.Common.{◌≡◌, ◌≤◌, min, length}
-use Rattle.channel_audit.specs.Audits.{number, number_behind}
+use Rattle.ghost_model.specs.core.Recorded.{number, number_behind}
 use Rattle.channel_audit.proofs.digits.number_up_to_many.Given as goal
 
 abbrev pub invariant-loop-digit : goal.invariant-loop-digit

@@ -1,5 +1,5 @@
 use Rattle.std.proofs.Common.{◌≡◌, ℕ, min, false, ap, sym, subst, ◌∙◌, rules, true≢false}
-use Rattle.channel_audit.specs.Audits.{TellsGiven, is_number}
+use Rattle.ghost_model.specs.core.Recorded.{TellsGiven, is_number}
 use Rattle.channel_audit.proofs.Texts.{cut_short}
 use Rattle.channel_audit.proofs.Told.{take_parts, given_up_to}
 use Rattle.channel_audit.proofs.line.read_take.Goals as goal
