@@ -1,7 +1,7 @@
 -- Lists of the identifiers of a reply, one after another.
-use Rattle.std.specs.Prelude.{◌≡◌, ◌⊎◌, ℕ, ◌+◌, ◌-◌, ◌<◌, ◌≤◌, Bool, true, ◌&&◌, ◌||◌, nat_le, nat_lt, List, length, map, drop, get_or, Result, IfErr, IfSome, OnOk, if◌then◌else◌}
+use Rattle.std.specs.Prelude.{◌≡◌, ◌⊎◌, ℕ, ◌+◌, ◌-◌, ◌<◌, ◌≤◌, min, Bool, true, false, ◌&&◌, ◌||◌, nat_le, nat_lt, List, ◌∷◌, length, map, drop, get_or, Result, IfErr, IfSome, OnOk, if◌then◌else◌}
 use Rattle.std.specs.List.{concat}
-use Rattle.ghost_model.specs.forms.Runs.{page_of, id_at, number_in}
+use Rattle.ghost_model.specs.forms.Runs.{page_of, slot_of, per_page, cell_in, id_at, number_in}
 use Rattle.ghost_base.specs.Runs.{run_of}
 use Rattle.edge_traits.specs.Devices.{Device, KeepsPages, next_if}
 use Rattle.page_pool.specs.Pools.{Pool, ChangesPage, page_at}
@@ -122,6 +122,21 @@ pub record TakesIds (old new : ReplyLists) : Type 0 where
   pub level : new.level ≡ old.level
   pub left : new.left ≡ old.left
   pub lease : new.lease ≡ old.lease
+
+-- the last of identifiers that were taken behind one
+abbrev pub last_of : (last : ℕ) → (ids : List ℕ) → ℕ
+last_of last ids = get_or (last ∷ ids) (length ids) 0
+
+-- how many identifiers are taken at most where none is at hand: 64, up to the end of the page and of the reply
+abbrev pub most_taken : ReplyLists → ℕ
+most_taken lists =
+    min (min (per_page lists.reply.run.width - slot_of (run_of lists.reply.run) lists.given) (lists.reply.run.count - lists.given)) 64
+
+-- identifiers were taken from the bytes of their page, and where they are fewer the next row begins with none that may follow
+abbrev pub TakesMany : (old new : ReplyLists) → (bytes : List ℕ) → Type 0
+TakesMany old new bytes =
+    length new.ids.items < most_taken old
+    → may_follow new.last old.reply.rows (cell_in bytes old.reply.run.width (slot_of (run_of old.reply.run) old.given + length new.ids.items)) ≡ false
 
 -- one page is read at most under a lease, that with a number, and none where none is needed: what a reader of a page says, but for the page
 -- that the buffer has then

@@ -1,6 +1,6 @@
 //! Climbing indexes.
 
-ghost use Rattle.std.specs.Prelude.{◌≡◌, ◌<◌, ◌≤◌, ◌+◌, ℕ, true, false, [], List, length, map, OnOk};
+ghost use Rattle.std.specs.Prelude.{◌≡◌, ◌<◌, ◌≤◌, ◌+◌, ℕ, true, false, [], List, length, map, OnOk, IsOk};
 ghost use Rattle.std.specs.List.{All};
 ghost use Rattle.ghost_model.specs.forms.Flash.{IsHidden, HoldsIndex, HoldsLists, hidden_cells, value_lists};
 ghost use Rattle.ghost_model.specs.forms.Runs.{pages_of};
@@ -140,6 +140,7 @@ fn write_any<F: Flash>(
 ) -> Result<(), BuildFault>
     requires part { IsHidden laid.now hidden.now }
     requires can { CanFill (F.state flash.old) (sums.index_begin laid.now table column) (sums.index_pages laid.now table column) }
+    ensures none { layout.is_hidden laid.now.schema table column ≡ false → IsOk result }
     ensures holds { OnOk result (F.told ≡ true → layout.is_hidden laid.now.schema table column ≡ true → HoldsIndex (F.state flash.new).page laid.now hidden.now table column) }
     ensures wrote { Wrote (sums.index_begin laid.now table column) (sums.index_begin laid.now table column + sums.index_pages laid.now table column) (index_written laid.now hidden.now table column) (F.state flash.old) (F.state flash.new) result }
 {

@@ -1,6 +1,6 @@
 //! What the rows of a table lead to in the tables below.
 
-ghost use Rattle.std.specs.Prelude.{List, ◌≡◌, ◌<◌, ◌≤◌, ◌+◌, ◌^◌, ℕ, true, false, Some, IfOk, IfSome, IfNone, length, map};
+ghost use Rattle.std.specs.Prelude.{List, ◌≡◌, ◌<◌, ◌≤◌, ◌+◌, ◌^◌, ℕ, true, false, Some, IfOk, IfSome, IfNone, length, map, vec_capacity};
 ghost use Rattle.std.specs.List.{range_with_len};
 ghost use Rattle.ghost_model.specs.core.Schema as schemas;
 ghost use Rattle.ghost_model.specs.laws.MeaningLaws.{IsAtOrBelow};
@@ -41,11 +41,12 @@ fn taken_up(
 /// So many numbers from one on, ascending.
 pub(crate) fn numbers_from(alloc: Global, first: u32, count: u32) -> Result<Vec<u32>, AllocError>
     requires { first + count < 2 ^ 32 }
-    ensures { IfOk result (λ numbers. numbers.items ≡ range_with_len first count) }
+    ensures numbers { IfOk result (λ numbers. numbers.items ≡ range_with_len first count) }
+    ensures room { IfOk result (λ numbers. vec_capacity numbers ≡ count) }
 {
     let mut numbers = Vec::with_capacity(alloc, count as usize)?;
     for at in 0..count {
-        numbers.push(first + at)?;
+        numbers.push_reserved(first + at);
     }
     Ok(numbers)
 }

@@ -86,6 +86,7 @@ pub fn load_flash<F: Flash>(
     ensures untouched { 64 * blocks < layout.need cat.now → F.state flash.new ≡ F.state flash.old }
     ensures large_enough { layout.need cat.now ≤ 64 * blocks → IsLargeEnough result }
     ensures unsealed { layout.need cat.now ≤ 64 * blocks → 0 < (F.state flash.new).page_count → F.told ≡ true → (F.state flash.new).blank 0 ≡ true → SpellsNoCatalog (F.state flash.new).page }
+    ensures unsealed_memory { layout.need cat.now ≤ 64 * blocks → 0 < (F.state flash.new).page_count → result ≡ Err fault.NoMemory → (F.state flash.new).blank 0 ≡ true }
     ensures files_first { layout.need cat.now ≤ 64 * blocks → 0 < (F.state flash.new).page_count → F.told ≡ true → (F.state flash.new).blank 0 ≡ false → HoldsFiles (F.state flash.new).page cat.now hidden.now }
     ensures page_0_last { layout.need cat.now ≤ 64 * blocks → 0 < (F.state flash.new).page_count → F.told ≡ true → (F.state flash.new).blank 0 ≡ false → HoldsFrom 1 (F.state flash.new).page cat.now }
     ensures exact { OnOk result (Counts (load_calls cat.now hidden.now) (F.state flash.old).calls (F.state flash.new).calls) }

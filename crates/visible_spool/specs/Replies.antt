@@ -106,6 +106,7 @@ pub record BlamesSlot (since : ℕ) (device : Device) (reply : Reply) (number sl
   pub slot_is : slot ≡ slot_of (run_of reply.run) place
   pub bytes : List ℕ
   pub read : WasRead since device (run_of reply.run) place bytes
+  pub wide : length bytes ≡ reply.run.width
   pub wrong : may_stand reply place bytes ≡ false
   pub found_is : found ≡ found_in bytes
 

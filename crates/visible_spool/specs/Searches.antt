@@ -1,5 +1,5 @@
 -- A look-up in a reply, page by page: what one page tells of an identifier, and which pages are left.
-use Rattle.std.specs.Prelude.{◌≡◌, ◌≢◌, ℕ, ◌+◌, ◌-◌, ◌/◌, ◌%◌, ◌^◌, ◌<◌, ◌≤◌, ◌⊎◌, ⊤, Bool, true, false, nat_lt, List, [], length, get_or, Option, Some, None, Result, Ok, Err, IfSome, IfOk, IfErr, OnErr, if◌then◌else◌}
+use Rattle.std.specs.Prelude.{◌≡◌, ◌≢◌, ℕ, ◌+◌, ◌-◌, ◌/◌, ◌%◌, ◌*◌, ◌^◌, ◌<◌, ◌≤◌, min, max, ◌⊎◌, ⊤, Bool, true, false, nat_lt, List, [], length, get_or, Option, Some, None, Result, Ok, Err, IfSome, IfOk, IfErr, OnErr, if◌then◌else◌}
 use Rattle.ghost_model.specs.forms.Runs as runs
 use Rattle.ghost_model.specs.forms.Runs.{cell_in, number_in, per_page, pages_of}
 use Rattle.ghost_base.specs.Runs.{run_of}
@@ -13,6 +13,7 @@ use Rattle.flash_pages.specs.declared.fault.PageFault.TheVariants.{Flash, Damage
 use Rattle.visible_spool.specs.declared.judging.Verdict.{Verdict}
 use Rattle.visible_spool.specs.declared.judging.Verdict.TheVariants.{Before, After, At, Nowhere, Wrong}
 use Rattle.visible_spool.specs.declared.reply.Reply.{Reply}
+use Rattle.visible_spool.specs.declared.search.Known.{Known}
 use Rattle.visible_spool.specs.declared.search.Looking.{Looking}
 use Rattle.visible_spool.specs.declared.search.Search.{Search}
 use Rattle.visible_spool.specs.declared.search.Search.TheVariants.{New, Among}
@@ -63,6 +64,13 @@ IsVerdict reply bytes first last identifier Nowhere =
 IsVerdict reply bytes first last identifier (Wrong place) =
     (first ≤ place) × (place ≤ last) × (may_stand reply place (row_at reply bytes place) ≡ false)
 
+-- The page that is guessed for an identifier between two rows, counted from the reply's first page: identifiers are taken to lie as
+-- far from each other as ranks do.
+abbrev pub guessed_page : Reply → (below above : Known) → (identifier : ℕ) → ℕ
+guessed_page reply below above identifier =
+    let passed = (identifier - below.id) * (above.rank - below.rank) / max (above.id - below.id) 1 in
+    page_of reply (min (below.rank + passed - 1) reply.run.count)
+
 -- pages are left
 abbrev pub is_open : Looking → Bool
 is_open looking = nat_lt looking.low looking.high
@@ -88,6 +96,11 @@ width_left looking = looking.high - looking.low
 abbrev pub left_in : Reply → Search → ℕ
 left_in reply New = pages_in reply + 1
 left_in reply (Among looking) = width_left looking
+
+-- how often a page may still be guessed
+abbrev pub guesses_left : Search → ℕ
+guesses_left New = 3
+guesses_left (Among looking) = looking.guesses
 
 -- Calls: by proportion a page is guessed at most so often; then pages are halved.
 pub record LooksLeft (looking : Looking) (left : ℕ) : Type 0 where

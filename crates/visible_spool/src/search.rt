@@ -1,6 +1,6 @@
 //! A look-up in a reply, step by step.
 
-ghost use Rattle.std.specs.Prelude.{◌≡◌, ◌<◌, ◌≤◌, ◌+◌, ◌-◌, ◌/◌, ◌^◌, ℕ, Bool, true, List, None, Some, IfOk, IfErr, OnErr};
+ghost use Rattle.std.specs.Prelude.{◌≡◌, ◌<◌, ◌≤◌, ◌+◌, ◌-◌, ◌/◌, ◌^◌, ℕ, min, max, Bool, true, List, None, Some, length, IfOk, IfErr, OnErr};
 ghost use Rattle.ghost_model.specs.forms.Runs as runs;
 ghost use Rattle.ghost_base.specs.Runs.{run_of};
 ghost use Rattle.edge_traits.specs.Devices.{Device, GaveSince, next_if};
@@ -9,7 +9,7 @@ ghost use Rattle.flash_pages.specs.Reads.{Reads, ReadsPages, CanRead, IsFilled, 
 ghost use Rattle.flash_pages.specs.declared.fault.PageFault.TheVariants.{Damaged};
 ghost use Rattle.visible_spool.specs.Replies.{IsReadable, IsSound, HoldsRows, Blames, IsFlash};
 ghost use Rattle.visible_spool.specs.declared.search.Search.TheVariants.{New};
-ghost use Rattle.visible_spool.specs.Searches.{BlamedHere, CallsLeft, GivesStep, HoldsOwn, IsElsewhere, IsFewer, IsNowhere, IsSearch, IsSlot, IsSought, IsSoughtAmong, KeepsSearch, LooksLeft, StepFinds, StepLies, StepStands, StepWas, TurnFinds, TurnIsInHeld, TurnLeaves, TurnLies, TurnNarrows, TurnStands, calls_if, is_more, left_in, pages_in, row_at, step_calls, width_left};
+ghost use Rattle.visible_spool.specs.Searches.{BlamedHere, CallsLeft, GivesStep, HoldsOwn, IsElsewhere, IsFewer, IsNowhere, IsSearch, IsSlot, IsSought, IsSoughtAmong, KeepsSearch, LooksLeft, StepFinds, StepLies, StepStands, StepWas, TurnFinds, TurnIsInHeld, TurnLeaves, TurnLies, TurnNarrows, TurnStands, calls_if, guessed_page, guesses_left, is_more, left_in, pages_in, row_at, step_calls, width_left};
 
 use crate::judging::Verdict;
 use crate::reply::Reply;
@@ -97,6 +97,7 @@ impl Reply {
         ensures within { result.high ≤ pages_in self.now }
         ensures sought { (page : ℕ → List ℕ) (rows : List (List ℕ)) → HoldsRows page self.now rows → IsSoughtAmong self.now rows id result }
         ensures fewer { (k : ℕ) → self.now.run.count < 2 ^ k → LooksLeft result (k + 3) }
+        ensures guesses { result.guesses ≡ GUESSES }
     {
         let each = per_page(self.run.width);
         let first = id.saturating_sub(self.rows - self.run.count + 1);
@@ -135,13 +136,14 @@ impl Reply {
     fn guess(&self, below: Known, above: Known, id: u32) -> u32
         requires wide { 4 ≤ self.now.run.width }
         requires narrow { self.now.run.width ≤ 1540 }
+        ensures page { result ≡ guessed_page self.now below above id }
     {
         let ids = above.id.saturating_sub(below.id).max(1) as u64;
         let ranks = above.rank.saturating_sub(below.rank) as u64;
         let past = id.saturating_sub(below.id) as u64;
-        let more = (past.saturating_mul(ranks) / ids).min(self.run.count as u64) as u32;
-        let place = below.rank.saturating_add(more).saturating_sub(1);
-        place / per_page(self.run.width)
+        let more = past.saturating_mul(ranks) / ids;
+        let place = (below.rank as u64).saturating_add(more).saturating_sub(1);
+        place.min(self.run.count as u64) as u32 / per_page(self.run.width)
     }
 
     /// The page that is looked at next: by proportion as long as guesses are left, and then the middle one.
@@ -152,6 +154,7 @@ impl Reply {
         ensures low { looking.low ≤ result }
         ensures high { result < looking.high }
         ensures halves { looking.guesses ≡ 0 → result ≡ looking.low + (looking.high - looking.low) / 2 }
+        ensures guesses { 0 < looking.guesses → result ≡ min (max (guessed_page self.now looking.below looking.above id) looking.low) (looking.high - 1) }
     {
         if looking.guesses == 0 {
             return looking.low + (looking.high - looking.low) / 2;
@@ -167,6 +170,7 @@ impl Reply {
         requires narrow { self.now.run.width ≤ 1540 }
         requires page { runs.page_of (run_of self.now.run) place < 2 ^ 32 }
         ensures fault { result ≡ Damaged (runs.page_of (run_of self.now.run) place) (runs.slot_of (run_of self.now.run) place) (runs.found_in (row_at self.now bytes.now place)) }
+        ensures wide { length (row_at self.now bytes.now place) ≡ self.now.run.width }
     {
         let each = per_page(self.run.width);
         PageFault::Damaged {
@@ -323,6 +327,7 @@ impl Reply {
         requires sound { IsSound self.now }
         requires some { 0 < self.now.run.count }
         ensures within { result < pages_in self.now }
+        ensures held { (page : ℕ) → held ≡ Some page → self.now.run.first ≤ page → page - self.now.run.first < pages_in self.now → result ≡ page - self.now.run.first }
     {
         held.unwrap_or(0)
             .saturating_sub(self.run.first)
@@ -409,6 +414,7 @@ impl Reply {
         ensures blamed { IfErr result (BlamedHere (page_at pool.new lease.now)) }
         ensures shorter { IfOk result (λ step. is_more step ≡ true → left_in self.now search.new < width_left looking) }
         ensures fewer { (k left : ℕ) → LooksLeft looking left → IfOk result (λ step. is_more step ≡ true → IsFewer k search.new left) }
+        ensures guesses { IfOk result (λ step. is_more step ≡ true → guesses_left search.new ≡ looking.guesses - 1) }
         ensures some { (k left : ℕ) → CallsLeft k search.old left → LooksLeft looking left → step_calls (page_at pool.old lease.now) (page_at pool.new lease.now) result ≡ true → 1 ≤ left }
         ensures reads { search.old ≡ New → 0 < self.now.run.count → step_calls (page_at pool.old lease.now) (page_at pool.new lease.now) result ≡ true }
         ensures more { IfOk result (λ step. is_more step ≡ true → step_calls (page_at pool.old lease.now) (page_at pool.new lease.now) result ≡ true) }

@@ -13,7 +13,7 @@ loop-level-init c =
     let tree = c.layout_laws.ensures.layout.tree in
     let rows : c.rows.result ≡ layout.count_of cat c.args.table =
     c.rows.ensures.count ∙ rows_counted cat c.args.hidden.now c.hidden_parts_go_with_catalogs.ensures c.requires.part c.args.table in
-    let items = c.in_ok-reached.ensures ∙ ap (range_with_len 1) rows in
+    let items = c.in_ok-reached.ensures.numbers ∙ ap (range_with_len 1) rows in
     let own = own_level cat.schema c.levels_are_ancestors.ensures tree c.args.table c.requires.there (omega (arith, c.requires.steps)) in
     record {
       lead = subst (λ (from : ℕ). LeadAs cat c.args.hidden.now from c.args.table c.in_ok-reached.reached.items) (sym own)

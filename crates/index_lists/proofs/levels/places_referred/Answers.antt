@@ -8,5 +8,5 @@ use Rattle.index_lists.proofs.levels.places_referred.Goals as goal
 pub returns-clause-below : goal.returns-clause-below
 returns-clause-below c =
     let keys = c.args.keys.now in
-    let all = c.loop-key.invariant ∙ ap (λ ks. map (λ identifier. identifier - 1) (map identifier_of ks)) (take_all c.loop-key.key-index keys (omega arith)) in
+    let all = c.loop-key.invariant.places ∙ ap (λ ks. map (λ identifier. identifier - 1) (map identifier_of ks)) (take_all c.loop-key.key-index keys (omega arith)) in
     All-same (λ place. place < c.args.rows) c.loop-key.places.items (map (λ identifier. identifier - 1) (map identifier_of keys)) all (places_below c.args.rows keys c.requires.named)

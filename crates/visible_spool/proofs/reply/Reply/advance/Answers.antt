@@ -15,6 +15,14 @@ returns-in-Ok-Narrowed-clause-fewer g c = λ k left looks more.
     fewer_left k looking c.in-Ok-Narrowed.next c.next_page-page.result left c.next_page-page.ensures.low c.next_page-page.ensures.high c.next_page-page.ensures.halves
     (n.guesses ∙ c.saturating_sub.ensures) n.low n.high n.side looks
 
+pub returns-in-Ok-Narrowed-clause-guesses : goal.returns-in-Ok-Narrowed-clause-guesses
+returns-in-Ok-Narrowed-clause-guesses g c = λ more.
+    let looking = c.args.looking in
+    let fewer : Looking = record { low = looking.low; high = looking.high; below = looking.below; above = looking.above; guesses = c.saturating_sub.result } in
+    let n : IsNarrowed fewer c.in-Ok-Narrowed.next c.next_page-page.result =
+    subst (TurnNarrows fewer c.next_page-page.result) c.in-Ok-Narrowed.field-0-is c.in-Ok-Narrowed.ensures.narrows in
+    n.guesses ∙ c.saturating_sub.ensures
+
 pub returns-in-Err-clause-page : goal.returns-in-Err-clause-page
 returns-in-Err-clause-page g c =
     let high = c.next_page-page.ensures.high in

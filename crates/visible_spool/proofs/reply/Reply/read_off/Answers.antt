@@ -136,6 +136,7 @@ returns-in-Wrong-clause-blames c = λ since device gave.
         gave = subst (λ q. GaveSince since device c.args.bytes.now (c.args.self.now.run.first + q)) (sym at) gave;
         record_is = refl;
       };
+      wide = c.damage.ensures.wide;
       wrong = told.2;
       found_is = refl;
     })
