@@ -15,3 +15,4 @@ pub mod Joins
 pub mod Costs
 pub mod Turning
 pub mod Regions
+pub mod Passes

@@ -12,3 +12,5 @@ pub mod Joins
 pub mod Few
 pub mod Staying
 pub mod Given
+pub mod JoiningWork
+pub mod ReducingWork

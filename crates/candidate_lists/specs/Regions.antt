@@ -1,5 +1,5 @@
 -- A region of pages that stays as it was, since all that is written lies outside of it.
-use Rattle.std.specs.Prelude.{ℕ, ◌+◌, ◌≤◌, Bool}
+use Rattle.std.specs.Prelude.{ℕ, ◌+◌, ◌≤◌, Bool, List}
 use Rattle.edge_traits.specs.Devices.{Device, KeepsPages}
 use Rattle.page_pool.specs.Pools.{Pool}
 use Rattle.spill_pass.specs.declared.groups.Groups.{Groups}
@@ -7,8 +7,9 @@ use Rattle.spill_pass.specs.declared.merging.MergeInto.{MergeInto}
 use Rattle.spill_pass.specs.declared.reduce.Areas.{Areas}
 use Rattle.spill_pass.specs.Grouping.{AreApart}
 use Rattle.spill_pass.specs.Merging.{Goes, area_end, area_pages}
-use Rattle.spill_pass.specs.Reducing.{ReduceGoes}
+use Rattle.spill_pass.specs.Reducing.{IsOutside}
 use Rattle.spill_pass.specs.Sources.{Source}
+use Rattle.spill_pass.specs.Works.{WorkGoes}
 use Rattle.candidate_lists.specs.declared.candidates.Candidates.{Candidates}
 use Rattle.candidate_lists.specs.declared.closing.Closed.{Closed}
 use Rattle.candidate_lists.specs.Joins.{IsJoining}
@@ -41,17 +42,16 @@ OpeningKeeps =
 -- where lists are merged beside candidates, and the areas lie outside of it
 abbrev pub BesideKeeps : Type 0
 BesideKeeps =
-    (low high : ℕ) (before now : Device) (pool later : Pool) (source rest : Source) (closed : Closed) (areas : Areas) (old new : Groups)
-    (rows size : ℕ)
-    → IsBeside before closed areas old → ReduceGoes areas before now pool later source rest old new → closed.rows ≤ rows → old.size ≤ size
-    → ScratchOutside low high closed.scratch rows size → KeepsRegion low high before now
+    (low high : ℕ) (before now : Device) (pool later : Pool) (held holds : List ℕ) (closed : Closed) (areas : Areas) (old : Groups) (rows size : ℕ)
+    → IsBeside before closed areas old → WorkGoes (IsOutside areas old.into.rows old.size) before now pool later held holds → closed.rows ≤ rows
+    → old.size ≤ size → ScratchOutside low high closed.scratch rows size → KeepsRegion low high before now
 
 abbrev pub JoiningKeeps : Type 0
 JoiningKeeps =
-    (low high : ℕ) (before now : Device) (pool later : Pool) (source rest : Source) (candidates : Candidates) (areas : Areas)
-    (old new : Groups) (rows size : ℕ)
-    → IsJoining before candidates areas old → ReduceGoes areas before now pool later source rest old new → candidates.rows ≤ rows
-    → old.size ≤ size → ScratchOutside low high candidates.scratch rows size → KeepsRegion low high before now
+    (low high : ℕ) (before now : Device) (pool later : Pool) (held holds : List ℕ) (candidates : Candidates) (areas : Areas) (old : Groups)
+    (rows size : ℕ)
+    → IsJoining before candidates areas old → WorkGoes (IsOutside areas old.into.rows old.size) before now pool later held holds
+    → candidates.rows ≤ rows → old.size ≤ size → ScratchOutside low high candidates.scratch rows size → KeepsRegion low high before now
 
 -- candidates that stand as a list in it stay
 abbrev pub RegionKeepsClosed : Type 0

@@ -2,7 +2,7 @@
 
 ghost use Rattle.candidate_lists.specs.Given.{CandidatesStayGiven, ClosedStaysGiven, ClosingStaysGiven};
 ghost use Rattle.candidate_lists.specs.Spared.{ClosedStays, ClosingSpares, ListsStay, ReduceKeeps, ScratchStays};
-ghost use Rattle.candidate_lists.specs.Staying.{BesideStays, ClosedIsKept, ClosingCallsStay, ClosingCostsStay, ClosingHasStays, ClosingIsSmall, ClosingLeftStays, ClosingStays, DamageStays, HeldStays, JoinedStays, JoiningStays, OpenedStays, OpeningStays, ReducedStays, ScratchIsOutside, SparesRest};
+ghost use Rattle.candidate_lists.specs.Staying.{BesideStays, ClosedIsKept, ClosingCostsStay, ClosingHasStays, ClosingIsSmall, ClosingLeftStays, ClosingStays, DamageStays, HeldStays, JoinedStays, JoiningStays, OpenedStays, OpeningStays, ReducedStays, ScratchIsOutside, SparesRest};
 ghost use Rattle.candidate_lists.specs.Regions.{BesideKeeps, JoiningKeeps, OpeningKeeps, RegionIsKept, RegionKeepsClosed, RegionStaysKept, WritingKeeps};
 
 use id_merge::spared::cursors_are_spared;
@@ -34,7 +34,6 @@ pub fn candidates_are_spared()
     ensures closing_given { ClosingStaysGiven }
     ensures closing_has { ClosingHasStays }
     ensures closing_left { ClosingLeftStays }
-    ensures closing_calls { ClosingCallsStay }
     ensures closing_costs { ClosingCostsStay }
     ensures closing_small { ClosingIsSmall }
     ensures closed { ClosedIsKept }

@@ -34,3 +34,5 @@ pub mod SparedReducing
 pub mod ReduceGiving
 pub mod ListCalls
 pub mod FewPages
+pub mod WorkLemmas
+pub mod ReduceWorks

@@ -85,7 +85,7 @@ nearer : (page first end end' : ℕ) → end' ≤ end → (page < first) ⊎ (en
 nearer page first end end' less (inl below) = inl below
 nearer page first end end' less (inr above) = inr (omega (arith, above, less))
 
-outside_fewer : {areas : Areas} {rows size rows' size' page : ℕ} → rows' ≡ rows → size' ≤ size → IsOutside areas rows size page → IsOutside areas rows' size' page
+pub outside_fewer : {areas : Areas} {rows size rows' size' page : ℕ} → rows' ≡ rows → size' ≤ size → IsOutside areas rows size page → IsOutside areas rows' size' page
 outside_fewer {rows = rows} {size = size} {rows' = rows'} {size' = size'} {page = page} same few outside = record {
   lists = λ first is. nearer page first (first + area_pages rows) (first + area_pages rows') (omega (arith, ap (λ n. area_pages n) same)) (outside.lists first is);
   places = λ first is. nearer page first (first + area_pages size) (first + area_pages size') (omega (arith, few)) (outside.places first is);

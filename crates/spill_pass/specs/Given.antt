@@ -9,7 +9,7 @@ use Rattle.edge_traits.specs.Devices.{Device}
 use Rattle.page_pool.specs.Pools.{Pool}
 use Rattle.flash_pages.specs.declared.fault.PageFault.{PageFault}
 use Rattle.flash_pages.specs.Writers.{HasPut}
-use Rattle.id_merge.specs.Since.{Since, MayBlame}
+use Rattle.id_merge.specs.Since.{FaultIsBlamed, Since, MayBlame}
 use Rattle.id_merge.specs.Cursors.{AllGiven}
 use Rattle.spill_pass.specs.declared.groups.Groups.{Groups}
 use Rattle.spill_pass.specs.declared.groups.PlacedLists.{PlacedLists}
@@ -116,3 +116,9 @@ abbrev pub TurnKnown : {S : Type 0} (given : Since → Device → Pool → ℕ �
 TurnKnown given since device pool rows reduce (Ok (Some calls)) = ReduceGiven given since device pool reduce
 TurnKnown given since device pool rows reduce (Ok None) = KnowsRun since device.page rows reduce.run
 TurnKnown given since device pool rows reduce (Err fault) = ⊤
+
+-- what is known after a step: of the one list, of the passes where there is more to do, and what is blamed
+abbrev pub StepKnown : {S : Type 0} (given : Since → Device → Pool → ℕ → S → Type 0) (since : Since) → Device → Pool → (rows : ℕ) → Reduce S → Result Bool PageFault → Type 0
+StepKnown given since device pool rows reduce (Ok true) = KnowsRun since device.page rows reduce.run
+StepKnown given since device pool rows reduce (Ok false) = ReduceGiven given since device pool reduce
+StepKnown given since device pool rows reduce (Err fault) = FaultIsBlamed since device fault

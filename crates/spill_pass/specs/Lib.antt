@@ -18,3 +18,5 @@ pub mod ReduceContents
 pub mod Sparing
 pub mod ListCalls
 pub mod FewPages
+pub mod Works
+pub mod ReduceWork

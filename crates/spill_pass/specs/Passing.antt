@@ -5,6 +5,7 @@ use Rattle.edge_traits.specs.Devices.{Device}
 use Rattle.page_pool.specs.Pools.{Pool, AreOut, KeepsOthers, others_out, free_count}
 use Rattle.spill_pass.specs.declared.groups.Groups.{Groups}
 use Rattle.spill_pass.specs.declared.groups.PlacedLists.{PlacedLists}
+use Rattle.spill_pass.specs.declared.passes.Pass.{Pass}
 use Rattle.spill_pass.specs.declared.passes.PassTurn.{PassTurn}
 use Rattle.spill_pass.specs.declared.passes.PassTurn.TheVariants.{Went, Placed}
 use Rattle.spill_pass.specs.Grouping.{CanBegin, IsGrouping, ChangesAreas, AreRunsOf, groups_held, lists_at_hand, ids_at_hand, places_end}
@@ -40,6 +41,13 @@ pub record IsPassing (told : Bool) (device : Device) (pool : Pool) (source : Sou
   pub complete : merging ≡ true → IsComplete source groups
   pub pairs : ArePairs source groups
   pub over : AllOver source.run groups.into.rows groups.into.merge.cursors.items
+
+-- the next list may be taken into the group at hand
+pub record CanTakeNext {S : Type 0} (source : S → Source) (ready : Bool → Device → Pool → S → Type 0) (told : Bool) (device : Device) (pool : Pool) (pass : Pass S) : Type 0 where
+  pub lists_ready : ready told device pool pass.lists
+  pub passing : IsPassing told device pool (source pass.lists) pass.groups pass.fan pass.merging
+  pub taking : pass.merging ≡ false
+  pub more : lists_at_hand pass.groups < pass.fan
 
 -- what is done whatever the answer: of the pages only those of the two areas changed, of the buffers only those of the leases
 -- held and of those leased since. Those that are held now are out

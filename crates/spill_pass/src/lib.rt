@@ -23,6 +23,7 @@ pub mod places;
 pub mod reduce;
 pub mod source;
 pub mod spared;
+pub mod works;
 
 pub use groups::Groups;
 pub use merging::MergeInto;
@@ -30,3 +31,4 @@ pub use passes::Pass;
 pub use places::PlaceReader;
 pub use reduce::{Areas, Reduce};
 pub use source::ListSource;
+pub use works::{Work, go_on};

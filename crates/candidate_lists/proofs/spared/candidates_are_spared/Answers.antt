@@ -1,7 +1,7 @@
 use Rattle.id_merge.specs.Cursors.{leases_of}
 use Rattle.candidate_lists.proofs.Damaging.{damage_stays}
 use Rattle.candidate_lists.proofs.Giving.{candidates_stay_given, closing_stays_given}
-use Rattle.candidate_lists.proofs.Sparing.{beside_stays, closed_is_kept, closing_calls_stay, closing_has_stays, closing_is_small, closing_left_stays, closing_stays, held_stays, opened_stays, opening_stays, reduced_stays, scratch_is_outside, spares_rest}
+use Rattle.candidate_lists.proofs.Sparing.{beside_stays, closed_is_kept, closing_has_stays, closing_is_small, closing_left_stays, closing_stays, held_stays, opened_stays, opening_stays, reduced_stays, scratch_is_outside, spares_rest}
 use Rattle.candidate_lists.proofs.Costs.{closing_costs_stay}
 use Rattle.candidate_lists.proofs.Joins.{joined_stays, joining_stays}
 use Rattle.candidate_lists.proofs.spared.candidates_are_spared.Goals as goal
@@ -29,9 +29,6 @@ returns-clause-closing_has c = closing_has_stays c.merging_is_spared.ensures.gat
 
 pub returns-clause-closing_left : goal.returns-clause-closing_left
 returns-clause-closing_left c = closing_left_stays c.merging_is_spared.ensures.left
-
-pub returns-clause-closing_calls : goal.returns-clause-closing_calls
-returns-clause-closing_calls c = closing_calls_stay c.merging_is_spared.ensures.calls
 
 pub returns-clause-closing_small : goal.returns-clause-closing_small
 returns-clause-closing_small c = closing_is_small c.merging_is_spared.ensures.small
