@@ -8,3 +8,4 @@ pub mod Taken
 pub mod Sets
 pub mod Given
 pub mod Costs
+pub mod Passes
