@@ -1,5 +1,5 @@
 -- What the events of a piece tell of the replies.
-use Rattle.std.proofs.Common.{◌≡◌, ℕ, ◌+◌, ◌*◌, ◌/◌, ◌%◌, ◌≤◌, Bool, true, false, ◌&&◌, ◌==◌, nat_le, List, [], ◌∷◌, ◌++◌, length, take, refl, ap, sym, ◌∙◌, subst, arith, append-nil}
+use Rattle.std.proofs.Common.{◌≡◌, ℕ, zero, suc, ◌+◌, ◌*◌, ◌/◌, ◌%◌, ◌<◌, ◌≤◌, Bool, true, false, ◌&&◌, ◌==◌, nat_le, List, [], ◌∷◌, ◌++◌, length, take, refl, ap, sym, ◌∙◌, subst, arith, append-nil}
 use Rattle.std.proofs.lemmas.Bool.Decides.{nat_tests}
 use Rattle.std.proofs.Math.Nat.{div-add-mod}
 use Rattle.ghost_model.specs.core.Channel as channel
@@ -54,6 +54,14 @@ ended_is AwaitsNothing bytes n (channel.SorryFrame _ _) = refl
 rows_whole : (version serial : Bool) (width kind size : ℕ) → kind ≡ 18 → (version && serial && next.reply_size_fits width kind size) ≡ true → size % width ≡ 0
 rows_whole version serial width kind size e t = grind (arith, nat_tests)
 
+rows_some : (version serial : Bool) (width kind size : ℕ) → kind ≡ 18 → (version && serial && next.reply_size_fits width kind size) ≡ true → 0 < size
+rows_some version serial width kind size e t = grind (arith, nat_tests)
+
+-- of a product that is not 0 neither is the first factor
+first_some : (n width size : ℕ) → size ≡ n * width → 0 < size → 0 < n
+first_some zero width size same some = absurd (omega (arith, same, some))
+first_some (suc n) width size same some = omega arith
+
 not_greeting : (version kind serial size missing : ℕ) → kind ≡ 18
     → (version == 1 && kind == 17 && serial == 0 && nat_le 2 size && nat_le size 2040 && nat_le size (missing + 1)) ≡ true → ⊥
 not_greeting version kind serial size missing e t = grind (arith, nat_tests)
@@ -78,14 +86,16 @@ came_of catalog (next.AwaitsReply asked serial later count last) part n kind who
     let awaits : Awaits = next.AwaitsReply asked serial later count last in
     let counted : n ≡ length (rows_in catalog.schema asked.ask (frames.payload_in part)) =
     number ∙ ap (λ (f : channel.Frame). length (rows_of_frame catalog (next.AwaitsReply asked serial later count last) f)) frame in
+    let whole_rows : frames.size_in part ≡ n * width =
+    product width (frames.size_in part) n
+    (counted ∙ (rows_count width (length (frames.payload_in part) / width) (frames.payload_in part) ∙ ap (λ (k : ℕ). k / width) (payload_length part whole)))
+    (rows_whole (frames.version_in part == frames.frame_version) (frames.serial_in part == serial) width (frames.kind_in part) (frames.size_in part) kind header) in
     record {
+      some = first_some n width (frames.size_in part) whole_rows
+          (rows_some (frames.version_in part == frames.frame_version) (frames.serial_in part == serial) width (frames.kind_in part) (frames.size_in part) kind header);
       fit = subst (λ (f : channel.Frame). next.payload_fits catalog (next.AwaitsReply asked serial later count last) f ≡ true) frame payload;
       count = counted;
-      size = payload_length part whole
-          ∙ product (row_width catalog.schema asked.ask) (frames.size_in part) n
-          (counted ∙ (rows_count (row_width catalog.schema asked.ask) (length (frames.payload_in part) / row_width catalog.schema asked.ask) (frames.payload_in part)
-          ∙ ap (λ (k : ℕ). k / row_width catalog.schema asked.ask) (payload_length part whole)))
-          (rows_whole (frames.version_in part == frames.frame_version) (frames.serial_in part == serial) (row_width catalog.schema asked.ask) (frames.kind_in part) (frames.size_in part) kind header);
+      size = payload_length part whole ∙ whole_rows;
     }
 came_of catalog AwaitsNothing part n kind whole header payload count = absurd (no_truth header)
 

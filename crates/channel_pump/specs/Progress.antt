@@ -1,5 +1,5 @@
 -- What an event tells of the replies: the rows that came, the asks that were ended, and why the session ends.
-use Rattle.std.specs.Prelude.{◌≡◌, ℕ, ◌*◌, ◌≤◌, true, false, List, [], ◌∷◌, ◌++◌, length, Option, Some, None}
+use Rattle.std.specs.Prelude.{◌≡◌, ℕ, ◌*◌, ◌<◌, ◌≤◌, true, false, List, [], ◌∷◌, ◌++◌, length, Option, Some, None}
 use Rattle.ghost_model.specs.core.Channel.{Catalog, count_of}
 use Rattle.ghost_model.specs.core.Asks.{NumberedAsk, rows_in, row_width, kinds_of}
 use Rattle.ghost_model.specs.forms.Frames.{payload_in, kind_in}
@@ -41,8 +41,9 @@ ended_on event.Done awaits rows = ended_with awaits (Answered rows)
 ended_on (event.Sorry code) awaits rows = ended_with awaits (Refused code)
 ended_on (event.Invalid _ _) awaits rows = []
 
--- rows of the reply that is awaited came: so many whole ones, which may stand after those before
+-- rows of the reply that is awaited came: so many whole ones, at least one, which may stand after those before
 pub record RowsCame (catalog : Catalog) (asked : NumberedAsk) (last : ℕ) (payload : List ℕ) (n : ℕ) : Type 0 where
+  pub some : 0 < n
   pub fit : rows_fit (count_of catalog asked.ask.table) last (kinds_of catalog.schema asked.ask) (rows_in catalog.schema asked.ask payload) ≡ true
   pub count : n ≡ length (rows_in catalog.schema asked.ask payload)
   pub size : length payload ≡ n * row_width catalog.schema asked.ask

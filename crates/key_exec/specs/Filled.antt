@@ -23,6 +23,7 @@ use Rattle.leakless_plan.specs.declared.plan.Plan.TheVariants as plan
 use Rattle.channel_pump.specs.declared.state.ReplyState.{ReplyState}
 use Rattle.key_lines.specs.Handing.{Handed}
 use Rattle.key_exec.specs.Reading.{KnowsBut}
+use Rattle.key_lines.specs.declared.told.ToldText.{ToldText}
 use Rattle.key_exec.specs.Telling.{AreRepliesOf, HasTold}
 use Rattle.key_exec.specs.declared.text.Told.TheVariants as told
 
@@ -121,14 +122,14 @@ pub record NoOthersHaveRows : Type 0 where
 pub record AnswersAreOfEach : Type 0 where
   pub each :
       (cat : Catalog) (side number : ℕ) (text : List ℕ) (state : ReplyState) (is_marked : Bool) (half : Half) (start device : Device) (before now : Handed)
-      → IsTree cat.schema → (has : HasTold plan.Scan true cat side number text state is_marked half start device before now told.Answered)
+      → IsTree cat.schema → (one : ToldText) → (has : HasTold plan.Scan true cat side number text state is_marked half start device before now told.Answered one)
       → (replies : List Reply) → AreRepliesOf start.page cat text half replies
       → (public : Public) (fill : (table column identifier : ℕ) → Value) (database : Database) → IsFilled start.page cat public fill database
       → (asked : Query) → reading cat.schema text ≡ Ok asked
       → has.lines ≡ answer_lines number (answer_from cat.schema (hidden_of cat.schema database) asked replies)
   pub same :
       (cat : Catalog) (side number : ℕ) (text : List ℕ) (state : ReplyState) (is_marked : Bool) (half : Half) (start device : Device) (before now : Handed)
-      → IsTree cat.schema → HasTold plan.Scan true cat side number text state is_marked half start device before now told.Answered
+      → IsTree cat.schema → (one : ToldText) → HasTold plan.Scan true cat side number text state is_marked half start device before now told.Answered one
       → (replies : List Reply) → AreRepliesOf start.page cat text half replies
       → (public : Public) (fill other_fill : (table column identifier : ℕ) → Value) (database other : Database)
       → IsFilled start.page cat public fill database → IsFilled start.page cat public other_fill other

@@ -5,6 +5,8 @@ pub mod ReadFor
 pub mod Blaming
 pub mod Jobs
 pub mod Ready
+pub mod Steps
+pub mod Slices
 pub mod Rows
 pub mod Texts
 pub mod Telling

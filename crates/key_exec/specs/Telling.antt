@@ -20,6 +20,8 @@ use Rattle.spj_parse.specs.Views.{refusal_of}
 use Rattle.visible_spool.specs.declared.half.Half.{Half}
 use Rattle.visible_spool.specs.Sparing.{SparesHalf}
 use Rattle.key_lines.specs.Handing.{Handed, Hands}
+use Rattle.key_lines.specs.Told.{IsTold}
+use Rattle.key_lines.specs.declared.told.ToldText.{ToldText}
 use Rattle.candidate_rows.specs.Rows.{HoldsReplies}
 use Rattle.condition_lists.specs.CostLaws.{AreHonest}
 use Rattle.key_exec.specs.declared.job.Job.{Job}
@@ -69,6 +71,16 @@ spent_in (Answering job) = job.at.spent
 
 abbrev pub spent_of : Telling → ℕ
 spent_of telling = spent_in telling.stage
+
+-- what is told of it: the rule by which it is refused, and how many of its rows were given
+abbrev pub told_at : Stage → ToldText
+told_at (Refused refusal) = record { refusal = Some refusal; rows = 0 }
+told_at (Broken state) = record { refusal = None; rows = 0 }
+told_at Marked = record { refusal = None; rows = 0 }
+told_at (Answering job) = record { refusal = None; rows = job.at.given }
+
+abbrev pub told_of : Telling → ToldText
+told_of telling = told_at telling.stage
 
 -- a text whose rows a job gives
 abbrev pub answering : (number : ℕ) → Job → Telling
@@ -208,7 +220,7 @@ AreThere (plan.Linked forced) pages_told page cat text state is_marked half = Is
 
 -- The text was told to its end, since the flash and the sink were as at the first. Where the pages are those of a database, but
 -- for slots that may not stand as they do, its lines are of its answer over it.
-pub record HasTold (by : Plan) (pages_told : Bool) (cat : Catalog) (side number : ℕ) (text : List ℕ) (state : ReplyState) (is_marked : Bool) (half : Half) (start device : Device) (before now : Handed) (result : Told) : Type 0 where
+pub record HasTold (by : Plan) (pages_told : Bool) (cat : Catalog) (side number : ℕ) (text : List ℕ) (state : ReplyState) (is_marked : Bool) (half : Half) (start device : Device) (before now : Handed) (result : Told) (one : ToldText) : Type 0 where
   pub called : ToldCalls start.calls device.calls result
   pub blames : AreThere by pages_told start.page cat text state is_marked half → ToldBlames by pages_told start.page cat text side half result
   pub read : ToldReads by pages_told start.calls device cat text side half result
@@ -216,6 +228,7 @@ pub record HasTold (by : Plan) (pages_told : Bool) (cat : Catalog) (side number 
   pub lines : List (List ℕ)
   pub handed_on : Hands (concat lines) before now
   pub are : AreLinesOf cat.schema number text lines result
+  pub entry : IsTold cat.schema text lines one
   pub why : (database : Database) (replies : List Reply) → KnowsButBy by pages_told start.page cat database
       → (IsDone state is_marked false → AreRepliesOf start.page cat text half replies)
       → Why cat.schema (hidden_of cat.schema database) replies number text state lines result
@@ -225,4 +238,4 @@ abbrev pub GoesOn : Plan → (pages_told : Bool) (cat : Catalog) (side : ℕ) (t
 GoesOn by pages_told cat side text state is_marked half start device before now pool telling None =
     IsAccepted cat.schema text (IsDone state is_marked false) × IsUnderWay by pages_told cat side text state is_marked half start device before now pool telling
 GoesOn by pages_told cat side text state is_marked half start device before now pool telling (Some result) =
-    HasTold by pages_told cat side telling.number text state is_marked half start device before now result
+    HasTold by pages_told cat side telling.number text state is_marked half start device before now result (told_of telling)

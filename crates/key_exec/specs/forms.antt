@@ -4,3 +4,4 @@ pub mod Contents
 pub mod Costs
 pub mod Given
 pub mod Turns
+pub mod Steps

@@ -22,10 +22,10 @@ lines_of schema kept given number text state lines asked read (is_broken why) = 
 
 pub returns : goal.returns
 returns c = record {
-  each = λ cat side number text state is_marked half start device before now tree has replies are public fill database is asked read.
+  each = λ cat side number text state is_marked half start device before now tree one has replies are public fill database is asked read.
       lines_of cat.schema (hidden_of cat.schema database) replies number text state has.lines asked read
       (has.why database replies (c.slots_can_be_filled.ensures.known start.page cat public fill database tree is) (λ done. are));
-  same = λ cat side number text state is_marked half start device before now tree has replies are public fill other_fill database other is is_other asked read.
+  same = λ cat side number text state is_marked half start device before now tree one has replies are public fill other_fill database other is is_other asked read.
       let one = lines_of cat.schema (hidden_of cat.schema database) replies number text state has.lines asked read
       (has.why database replies (c.slots_can_be_filled.ensures.known start.page cat public fill database tree is) (λ done. are)) in
       let another = lines_of cat.schema (hidden_of cat.schema other) replies number text state has.lines asked read
