@@ -7,6 +7,7 @@ use Rattle.key_words.specs.Words.{Plain, Load, Local, Query}
 use Rattle.key_inputs.specs.Openings.{Spelled, TablesInput, tables_opening}
 use Rattle.key_inputs.specs.Outside.{Outside, HasCauses}
 use Rattle.key_inputs.specs.Scripts.{script_opening}
+use Rattle.key_lines.specs.declared.told.ToldText.{ToldText}
 use Rattle.key_session.specs.declared.tally.Tally.{Tally}
 use Rattle.key_inputs.specs.Whole.{WholeInput}
 use Rattle.key_plain.specs.Openings.{plain_opening}
@@ -18,7 +19,7 @@ use Rattle.key_load.specs.declared.failures.LoadFailure.{LoadFailure}
 use Rattle.key_commands.specs.local.Openings.{local_opening}
 use Rattle.key_commands.specs.local.Sessions as locals
 use Rattle.key_commands.specs.local.Results as locally
-use Rattle.key_commands.specs.declared.local.ends.LocalEnd.{LocalEnd}
+use Rattle.key_commands.specs.declared.local.ends.LocalRun.{LocalRun}
 use Rattle.key_commands.specs.declared.local.ends.LocalFailure.{LocalFailure}
 use Rattle.key_commands.specs.query.PublicPages.{HasCatalog}
 use Rattle.key_commands.specs.query.Results as queries
@@ -33,13 +34,14 @@ pub record IsUntouched (before after : Outside) : Type 0 where
   pub written : after.written ≡ before.written
   pub sink_faults : after.sink_faults ≡ before.sink_faults
 
-pub record PlainDid (outcome : Result (Unit {0}) PlainFault) (before after : Outside) (words : Plain) : Type 0 where
+pub record PlainDid (outcome : Result (Unit {0}) PlainFault) (told : List ToldText) (before after : Outside) (words : Plain) : Type 0 where
   pub ends : (files : Files) → before.files ≡ Some files
-      → plains.EndsPlainCall (plain_opening files words) outcome before.written after.written
+      → plains.EndsPlainCall (plain_opening files words) outcome before.written after.written told
+  pub names : (files : Files) → before.files ≡ Some files → plains.ShowsNames files words.schema words.tables outcome
   pub complete : (files : Files) → (input : WholeInput) → before.files ≡ Some files
       → (Rose before.depot_faults after.depot_faults → ⊥) → (Rose before.sink_faults after.sink_faults → ⊥)
       → plain_opening files words ≡ Spelled input → (outcome ≡ Ok tt) ⊎ (outcome ≡ Err plain_fault.NoMemory)
-  pub prints : plains.PrintsSomeRead outcome before.written after.written
+  pub prints : plains.PrintsSomeRead outcome before.written after.written told
   pub nothing_written : plains.writes_nothing outcome ≡ true → after.written ≡ before.written
   pub causes : HasCauses (plains.told_by outcome) before after
   pub files : after.files ≡ before.files
@@ -48,6 +50,7 @@ pub record PlainDid (outcome : Result (Unit {0}) PlainFault) (before after : Out
 pub record LoadDid (told : Bool) (outcome : Result (Unit {0}) LoadFailure) (before after : Outside) (words : Load) : Type 0 where
   pub ends : (files : Files) → before.files ≡ Some files
       → loads.EndsLoadCall told (tables_opening files words.schema words.tables) words outcome before after
+  pub names : (files : Files) → before.files ≡ Some files → loads.ShowsNames files words.schema words.tables outcome
   pub loads_some : loads.EndsSomeLoad told words outcome before after
   pub complete : (files : Files) → (input : TablesInput) → before.files ≡ Some files
       → (Rose before.depot_faults after.depot_faults → ⊥) → (Rose before.device.faults after.device.faults → ⊥)
@@ -65,9 +68,10 @@ pub record LoadDid (told : Bool) (outcome : Result (Unit {0}) LoadFailure) (befo
   pub causes : HasCauses (loads.told_by outcome) before after
 
 -- the headline of `local` stands in `ends` and `ran`
-pub record LocalDid (told : Bool) (outcome : Result LocalEnd LocalFailure) (before after : Outside) (words : Local) : Type 0 where
+pub record LocalDid (told : Bool) (outcome : Result LocalRun LocalFailure) (before after : Outside) (words : Local) : Type 0 where
   pub ends : (files : Files) → before.files ≡ Some files
       → locally.EndsLocalCall told (local_opening files words) words outcome before after
+  pub names : (files : Files) → before.files ≡ Some files → locally.ShowsNames files words.schema words.tables outcome
   pub ran : locally.EndsSomeLocal told words outcome before after
   pub complete : (files : Files) → (input : WholeInput) → before.files ≡ Some files
       → (Rose before.depot_faults after.depot_faults → ⊥) → (Rose before.device.faults after.device.faults → ⊥)

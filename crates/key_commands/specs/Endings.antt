@@ -1,5 +1,7 @@
 -- How a call ended: its exit code, and what is said of one command alone.
-use Rattle.std.specs.Prelude.{◌≡◌, ℕ, Bool, true, false, Option, Some, Result, Ok, Err, ⊤}
+use Rattle.std.specs.Prelude.{◌≡◌, ℕ, List, [], Bool, true, false, Option, Some, Result, Ok, Err, ⊤}
+use Rattle.key_lines.specs.Told.{told_in}
+use Rattle.key_lines.specs.declared.told.ToldText.{ToldText}
 use Rattle.key_words.specs.Words.{Command}
 use Rattle.key_words.specs.declared.words.UsageFault.{UsageFault}
 use Rattle.key_plain.specs.declared.faults.PlainFault.{PlainFault}
@@ -7,6 +9,7 @@ use Rattle.key_plain.specs.declared.faults.PlainFault.TheVariants as plain_fault
 use Rattle.key_load.specs.declared.failures.LoadFailure.{LoadFailure}
 use Rattle.key_load.specs.declared.failures.LoadFailure.TheVariants as load_failure
 use Rattle.key_commands.specs.declared.local.ends.LocalEnd.{LocalEnd}
+use Rattle.key_commands.specs.declared.local.ends.LocalRun.{LocalRun}
 use Rattle.key_commands.specs.declared.local.ends.LocalEnd.TheVariants as local_end
 use Rattle.key_commands.specs.declared.local.ends.LocalFailure.{LocalFailure}
 use Rattle.key_commands.specs.declared.local.ends.LocalFailure.TheVariants as local_failure
@@ -16,6 +19,7 @@ use Rattle.key_session.specs.declared.tally.Tally.{Tally}
 use Rattle.key_session.specs.declared.tally.SessionStatus.{SessionStatus}
 use Rattle.key_session.specs.declared.tally.SessionStatus.TheVariants as status
 use Rattle.key_commands.specs.declared.ending.Ended.{Ended}
+use Rattle.key_commands.specs.declared.ending.PlainRun.{PlainRun}
 use Rattle.key_commands.specs.declared.ending.Ended.TheVariants as ended
 
 abbrev pub plain_code : Result (Unit {0}) PlainFault → ℕ
@@ -34,12 +38,16 @@ load_code (Err load_failure.Flash) = 6
 load_code (Err load_failure.Sink) = 9
 load_code (Err (load_failure.TooSmall needed had)) = 10
 
-abbrev pub local_code : Result LocalEnd LocalFailure → ℕ
-local_code (Ok local_end.Ok) = 0
-local_code (Ok local_end.Sink) = 9
-local_code (Ok local_end.Depot) = 5
-local_code (Ok local_end.Flash) = 6
-local_code (Ok (local_end.Damaged damage)) = 13
+-- of a session of `local` that was held
+abbrev pub end_code : LocalEnd → ℕ
+end_code local_end.Ok = 0
+end_code local_end.Sink = 9
+end_code local_end.Depot = 5
+end_code local_end.Flash = 6
+end_code (local_end.Damaged damage) = 13
+
+abbrev pub local_code : Result LocalRun LocalFailure → ℕ
+local_code (Ok run) = end_code run.end
 local_code (Err local_failure.NoMemory) = 3
 local_code (Err (local_failure.Input broken)) = 4
 local_code (Err local_failure.Depot) = 5
@@ -67,10 +75,17 @@ query_code (Err query_failure.NotAKey) = 11
 abbrev pub exit_code : Ended → ℕ
 exit_code (ended.Usage fault) = 2
 exit_code ended.NoMemory = 3
-exit_code (ended.Plain outcome) = plain_code outcome
+exit_code (ended.Plain run) = plain_code run.outcome
 exit_code (ended.Load outcome) = load_code outcome
 exit_code (ended.Local outcome) = local_code outcome
 exit_code (ended.Query outcome) = query_code outcome
+
+-- what was told of each text of a script
+abbrev pub told_of : Ended → List ToldText
+told_of (ended.Plain run) = told_in run.told
+told_of (ended.Local (Ok run)) = told_in run.told
+told_of (ended.Query (Ok tally)) = told_in tally.told
+told_of _ = []
 
 -- whether no command was begun: the words are refused, or there was no memory to read them
 abbrev pub is_unbegun : Ended → Bool
@@ -93,8 +108,8 @@ OfUsage (ended.Usage fault) says = says fault
 OfUsage _ says = ⊤
 
 -- what is said of `plain`
-abbrev pub OfPlain : Ended → (Result (Unit {0}) PlainFault → Type 0) → Type 0
-OfPlain (ended.Plain outcome) says = says outcome
+abbrev pub OfPlain : Ended → (PlainRun → Type 0) → Type 0
+OfPlain (ended.Plain run) says = says run
 OfPlain _ says = ⊤
 
 -- what is said of `load`
@@ -103,7 +118,7 @@ OfLoad (ended.Load outcome) says = says outcome
 OfLoad _ says = ⊤
 
 -- what is said of `local`
-abbrev pub OfLocal : Ended → (Result LocalEnd LocalFailure → Type 0) → Type 0
+abbrev pub OfLocal : Ended → (Result LocalRun LocalFailure → Type 0) → Type 0
 OfLocal (ended.Local outcome) says = says outcome
 OfLocal _ says = ⊤
 

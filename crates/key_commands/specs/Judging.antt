@@ -12,7 +12,7 @@ use Rattle.key_plain.specs.declared.faults.PlainFault.TheVariants as plain_fault
 use Rattle.key_load.specs.declared.failures.LoadFailure.{LoadFailure}
 use Rattle.key_load.specs.declared.failures.LoadFailure.TheVariants as load_failure
 use Rattle.key_commands.specs.local.Openings.{local_opening}
-use Rattle.key_commands.specs.declared.local.ends.LocalEnd.{LocalEnd}
+use Rattle.key_commands.specs.declared.local.ends.LocalRun.{LocalRun}
 use Rattle.key_commands.specs.declared.local.ends.LocalFailure.{LocalFailure}
 use Rattle.key_commands.specs.declared.local.ends.LocalFailure.TheVariants as local_failure
 use Rattle.key_commands.specs.declared.query.failures.QueryFailure.{QueryFailure}
@@ -30,7 +30,7 @@ pub record JudgesPlain (files : Files) (outcome : Result (Unit {0}) PlainFault) 
 pub record JudgesLoad (files : Files) (outcome : Result (Unit {0}) LoadFailure) (words : Load) : Type 0 where
   pub unbroken : outcome ≡ Err load_failure.Depot → IsUnbroken (tables_opening files words.schema words.tables)
 
-pub record JudgesLocal (files : Files) (outcome : Result LocalEnd LocalFailure) (words : Local) : Type 0 where
+pub record JudgesLocal (files : Files) (outcome : Result LocalRun LocalFailure) (words : Local) : Type 0 where
   pub unbroken : outcome ≡ Err local_failure.Depot → IsUnbroken (local_opening files words)
 
 pub record JudgesQuery (files : Files) (outcome : Result Tally QueryFailure) (words : Query) : Type 0 where
@@ -38,7 +38,7 @@ pub record JudgesQuery (files : Files) (outcome : Result Tally QueryFailure) (wo
 
 -- where a command ended by the depot before a session, no rule of the inputs that its words name is broken first
 pub record Judges (files : Files) (read : Option Command) (ending : Ended) : Type 0 where
-  pub plain : OfPlain ending (λ outcome. DoesAs PlainCommand read (JudgesPlain files outcome))
+  pub plain : OfPlain ending (λ run. DoesAs PlainCommand read (JudgesPlain files run.outcome))
   pub load : OfLoad ending (λ outcome. DoesAs LoadCommand read (JudgesLoad files outcome))
   pub local : OfLocal ending (λ outcome. DoesAs LocalCommand read (JudgesLocal files outcome))
   pub query : OfQuery ending (λ outcome. DoesAs QueryCommand read (JudgesQuery files outcome))

@@ -6,17 +6,19 @@ ghost use Rattle.key_words.specs.Views.{plain_view, load_view, local_view, query
 ghost use Rattle.key_words.specs.Refusals.{HasCause, told_kind};
 ghost use Rattle.key_words.specs.Words.{reading, PlainCommand, LoadCommand, LocalCommand, QueryCommand};
 ghost use Rattle.key_inputs.specs.Outside.{outside};
+ghost use Rattle.key_lines.specs.Told.{told_in};
 ghost use Rattle.key_commands.specs.Doing.{IsUntouched, PlainDid, LoadDid, LocalDid, QueryDid};
 ghost use Rattle.key_commands.specs.Endings.{DoesAs, OfUsage, OfPlain, OfLoad, OfLocal, OfQuery, is_unbegun, is_usage, is_query};
 ghost use Rattle.key_commands.specs.Judging.{Judges, JudgesPlain, JudgesLoad, JudgesLocal, JudgesQuery};
 
-use crate::ending::{Ended, not_read};
-use crate::local::{LocalEnd, LocalFailure, local};
+use crate::ending::{Ended, PlainRun, not_read};
+use crate::local::{LocalFailure, LocalRun, local};
 use crate::query::{QueryFailure, query};
 use edge_traits::depot::Depot;
 use edge_traits::flash::Flash;
 use edge_traits::link::Link;
 use edge_traits::sink::Sink;
+use key_lines::ToldTexts;
 use key_load::{LoadFailure, load};
 use key_plain::{PlainFault, plain};
 use key_session::Tally;
@@ -37,7 +39,7 @@ pub fn key_main<D: Depot, F: Flash, L: Link, O: Sink>(
     ensures untouched { is_unbegun result ≡ true → IsUntouched
         (outside (D.contents depot.old) (D.faults depot.old) (D.append_faults depot.old) (F.state flash.old) (O.written out.old) (O.faults out.old))
         (outside (D.contents depot.new) (D.faults depot.new) (D.append_faults depot.new) (F.state flash.new) (O.written out.new) (O.faults out.new)) }
-    ensures plain { OfPlain result (λ outcome. DoesAs PlainCommand (reading (map string_bytes args.now)) (PlainDid outcome
+    ensures plain { OfPlain result (λ run. DoesAs PlainCommand (reading (map string_bytes args.now)) (PlainDid run.outcome (told_in run.told)
         (outside (D.contents depot.old) (D.faults depot.old) (D.append_faults depot.old) (F.state flash.old) (O.written out.old) (O.faults out.old))
         (outside (D.contents depot.new) (D.faults depot.new) (D.append_faults depot.new) (F.state flash.new) (O.written out.new) (O.faults out.new)))) }
     ensures load { OfLoad result (λ outcome. DoesAs LoadCommand (reading (map string_bytes args.now)) (LoadDid F.told outcome
@@ -54,7 +56,11 @@ pub fn key_main<D: Depot, F: Flash, L: Link, O: Sink>(
     ensures judged { (files : Files) → D.contents depot.old ≡ Some files → AreSure files (D.sure depot.old) → Judges files (reading (map string_bytes args.now)) result }
 {
     match read_words(alloc, args) {
-        Ok(KeyWords::Plain(words)) => Ended::Plain(plain(alloc, &words, depot, out)),
+        Ok(KeyWords::Plain(words)) => {
+            let mut told = ToldTexts::none();
+            let outcome = plain(alloc, &words, depot, out, &mut told);
+            Ended::Plain(PlainRun { outcome, told })
+        }
         Ok(KeyWords::Load(words)) => Ended::Load(load(alloc, &words, depot, flash, out)),
         Ok(KeyWords::Local(words)) => Ended::Local(local(alloc, &words, depot, flash, out)),
         Ok(KeyWords::Query(words)) => {

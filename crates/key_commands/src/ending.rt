@@ -1,15 +1,27 @@
 //! How a call ended.
 
 ghost use Rattle.std.specs.Prelude.{◌≡◌};
+ghost use Rattle.key_lines.specs.Told.{told_in};
 ghost use Rattle.key_commands.specs.Endings as endings;
 ghost use Rattle.key_commands.specs.Renaming.{ended_by};
 
-use crate::local::{LocalEnd, LocalFailure};
+use crate::local::{LocalEnd, LocalFailure, LocalRun};
 use crate::query::QueryFailure;
+use key_lines::ToldTexts;
 use key_load::LoadFailure;
 use key_plain::PlainFault;
 use key_session::{SessionStatus, Tally};
 use key_words::{UsageFault, WordsFault};
+
+/// How `plain` ended, and what was told of its texts.
+#[derive(Clone, Copy, Drop)]
+pub struct PlainRun {
+    /// How it ended.
+    pub outcome: Result<(), PlainFault>,
+
+    /// Of each text the rule by which it is refused, and the rows that were given; after a failed write some texts from the front.
+    pub told: ToldTexts,
+}
 
 /// How a command ended, or why none was begun.
 #[derive(Clone, Copy, Drop)]
@@ -21,13 +33,13 @@ pub enum Ended {
     NoMemory,
 
     /// `plain` ended so.
-    Plain(Result<(), PlainFault>),
+    Plain(PlainRun),
 
     /// `load` ended so.
     Load(Result<(), LoadFailure>),
 
     /// `local` ended so.
-    Local(Result<LocalEnd, LocalFailure>),
+    Local(Result<LocalRun, LocalFailure>),
 
     /// `query` ended so.
     Query(Result<Tally, QueryFailure>),
@@ -44,6 +56,18 @@ pub(crate) fn not_read(fault: WordsFault) -> Ended
 }
 
 impl Ended {
+    /// What was told of each text of a script: nothing where none was begun.
+    pub fn told(&self) -> ToldTexts
+        ensures told { told_in result ≡ endings.told_of self.now }
+    {
+        match self {
+            Ended::Plain(run) => run.told,
+            Ended::Local(Ok(run)) => run.told,
+            Ended::Query(Ok(tally)) => tally.told,
+            _ => ToldTexts::none(),
+        }
+    }
+
     /// The exit code of the program.
     pub fn exit_code(&self) -> u8
         ensures code { result ≡ endings.exit_code self.now }
@@ -51,7 +75,7 @@ impl Ended {
         match self {
             Ended::Usage(_) => 2,
             Ended::NoMemory => 3,
-            Ended::Plain(outcome) => plain_code(outcome),
+            Ended::Plain(run) => plain_code(&run.outcome),
             Ended::Load(outcome) => load_code(outcome),
             Ended::Local(outcome) => local_code(outcome),
             Ended::Query(outcome) => query_code(outcome),
@@ -87,16 +111,25 @@ fn load_code(outcome: &Result<(), LoadFailure>) -> u8
     }
 }
 
+/// The exit code of a session of `local` that was held.
+fn end_code(end: &LocalEnd) -> u8
+    ensures code { result ≡ endings.end_code end.now }
+{
+    match end {
+        LocalEnd::Ok => 0,
+        LocalEnd::Sink => 9,
+        LocalEnd::Depot => 5,
+        LocalEnd::Flash => 6,
+        LocalEnd::Damaged(_) => 13,
+    }
+}
+
 /// The exit code of `local`.
-fn local_code(outcome: &Result<LocalEnd, LocalFailure>) -> u8
+fn local_code(outcome: &Result<LocalRun, LocalFailure>) -> u8
     ensures code { result ≡ endings.local_code outcome.now }
 {
     match outcome {
-        Ok(LocalEnd::Ok) => 0,
-        Ok(LocalEnd::Sink) => 9,
-        Ok(LocalEnd::Depot) => 5,
-        Ok(LocalEnd::Flash) => 6,
-        Ok(LocalEnd::Damaged(_)) => 13,
+        Ok(run) => end_code(&run.end),
         Err(LocalFailure::NoMemory) => 3,
         Err(LocalFailure::Input(_)) => 4,
         Err(LocalFailure::Depot) => 5,

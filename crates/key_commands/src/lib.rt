@@ -1,4 +1,4 @@
-//! The commands of the key as one call: its words choose the command, and a line tells why one did not end well.
+//! The commands of the key as one call: its words choose the command.
 //!
 //! The words are read by `clap`. The commands `local` and `query`, which hold a session, have a folder each; `plain` and `load` are
 //! crates of their own, which stand beside sessions. `docs/SESSION.md` states what each command does.
@@ -6,12 +6,8 @@
 
 pub mod command;
 pub mod ending;
-mod input_lines;
 pub mod local;
 pub mod query;
-mod sessions;
-pub mod telling;
 
 pub use command::key_main;
-pub use ending::Ended;
-pub use telling::line_of;
+pub use ending::{Ended, PlainRun};

@@ -14,4 +14,4 @@ mod preparing;
 mod running;
 
 pub use command::local;
-pub use ends::{LocalEnd, LocalFailure};
+pub use ends::{LocalEnd, LocalFailure, LocalRun};

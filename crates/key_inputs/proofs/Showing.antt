@@ -1,5 +1,5 @@
 -- What an error shows of a table's file, by where its fault stands.
-use Rattle.std.proofs.Common.{◌≡◌, ℕ, zero, suc, ◌<◌, arith, true, List, [], ◌∷◌, length, Option, Some, None, Result, Ok, Err, IfOk, refl, sym, ap, ◌∙◌, subst, map as each}
+use Rattle.std.proofs.Common.{◌≡◌, ℕ, true, List, [], ◌∷◌, Option, Some, None, refl, sym, ap, ◌∙◌, subst, map as each}
 use Rattle.std.specs.FinMap as map
 use Rattle.ghost_model.specs.core.Schema.{Schema, columns_of}
 use Rattle.ghost_model.specs.readings.SchemaReading.{schema_reading}
@@ -12,7 +12,8 @@ use Rattle.edge_traits.specs.Files.{Files}
 use Rattle.key_inputs.specs.Openings.{TableRule, table_file}
 use Rattle.key_inputs.specs.Rules.{table_rule}
 use Rattle.key_inputs.specs.Views.{TellsRule, AreFiles, rule_in, rule_or, name_at}
-use Rattle.key_inputs.specs.Naming.{IsLineOf, IsNamedBy, IsShownBy, IsSpelledIn, OfTable, OfField, OfKey, OfRecord, ShowsField, ShowsKey, TellsLine, tells_empty}
+use Rattle.key_inputs.specs.Naming.{HasNoLine, IsIn, IsLineOf, IsNamedBy, IsNamedIn, IsShownBy, IsSpelledIn, OfTable, OfField, OfKey, OfRecord, ShowsField, ShowsKey, TellsLine, tells_empty}
+use Rattle.csv_split.specs.declared.faults.LoadFault.{LoadFault}
 use Rattle.csv_split.specs.declared.faults.Place.{Place}
 use Rattle.key_inputs.specs.declared.shown.Shown.{Shown}
 use Rattle.key_inputs.specs.declared.broken_table.BrokenTable.{BrokenTable}
@@ -165,21 +166,57 @@ shown_of_keys files folder schema read tables (open_fault.Input (fault.Table one
 shown_of_keys files folder schema read tables (open_fault.Input fault.ScriptBytes) are is rule names shows lines = tt
 shown_of_keys files folder schema read tables (open_fault.Input fault.ScriptTexts) are is rule names shows lines = tt
 
--- the file of a table was read, and is there
-pub file_is_there : (files : Files) (folder : List ℕ) (schema : Schema) (read : List (List ℕ)) (table : ℕ) → AreFiles files folder schema read
-    → table < length schema → (file : List ℕ) × (map.get files (table_file folder (name_at schema table)) ≡ Some file)
-file_is_there files folder [] read table are within = absurd (omega (arith, within))
-file_is_there files folder (declared ∷ schema) [] table are within = absurd (cc (are))
-file_is_there files folder (declared ∷ schema) (file ∷ read) zero are within = (file, cc (are))
-file_is_there files folder (declared ∷ schema) (file ∷ read) (suc table) are within =
-    file_is_there files folder schema read table (cc (are)) (omega (arith, within))
+-- where no line is told none is wrong
+no_line_of : (files : Files) (folder : List ℕ) (schema : Schema) (at : Place) (line : Option ℕ) → line ≡ None → IsLineOf files folder schema at line
+no_line_of files folder schema at line is = λ file there. subst (λ one. TellsLine file at one) (sym is) tt
 
--- the line at a place is told of a fault that stands there
-pub line_of_place : (files : Files) (folder : List ℕ) (schema : Schema) (place : Place) (stands : Option Place) → stands ≡ Some place
-    → (result : Result (Option ℕ) OpenFault) → IfOk result (IsLineOf files folder schema place)
-    → IfOk result (λ line. (at : Place) → stands ≡ Some at → IsLineOf files folder schema at line)
-line_of_place files folder schema place stands here (Ok line) tells = λ (at : Place) (is : stands ≡ Some at).
-    let both : Some place ≡ Some at = sym here ∙ is in
-    let same : place ≡ at = cc (both) in
-    subst (λ one. IsLineOf files folder schema one line) same tells
-line_of_place files folder schema place stands here (Err fault) tells = tt
+broken_unlined : (files : Files) (folder : List ℕ) (schema : Schema) (told : BrokenTable) → HasNoLine told → OfRecord (IsLineOf files folder schema) told
+broken_unlined files folder schema (broken.FileLimit named) none = tt
+broken_unlined files folder schema (broken.Header named) none = no_line_of files folder schema named.at named.line none
+broken_unlined files folder schema (broken.Empty named) none = tt
+broken_unlined files folder schema (broken.RowLimit named) none = no_line_of files folder schema named.at named.line none
+broken_unlined files folder schema (broken.FieldCount named) none = no_line_of files folder schema named.at named.line none
+broken_unlined files folder schema (broken.BadId field value) none = no_line_of files folder schema field.at field.line none
+broken_unlined files folder schema (broken.BadInt field value) none = no_line_of files folder schema field.at field.line none
+broken_unlined files folder schema (broken.BadChars field value) none = no_line_of files folder schema field.at field.line none
+broken_unlined files folder schema (broken.BadReference field child value) none = no_line_of files folder schema field.at field.line none
+
+pub unlined : (files : Files) (folder : List ℕ) (schema : Schema) (error : OpenFault) → OfTable HasNoLine error → OfTable (OfRecord (IsLineOf files folder schema)) error
+unlined files folder schema open_fault.NoMemory none = tt
+unlined files folder schema open_fault.Depot none = tt
+unlined files folder schema (open_fault.Input fault.SchemaBytes) none = tt
+unlined files folder schema (open_fault.Input (fault.Schema other)) none = tt
+unlined files folder schema (open_fault.Input (fault.Table told)) none = broken_unlined files folder schema told none
+unlined files folder schema (open_fault.Input fault.ScriptBytes) none = tt
+unlined files folder schema (open_fault.Input fault.ScriptTexts) none = tt
+
+no_line_in : (fault : LoadFault) (told : BrokenTable) → OfRecord (IsIn fault None) told → HasNoLine told
+no_line_in fault (broken.FileLimit named) is = tt
+no_line_in fault (broken.Header named) is = is.line_given
+no_line_in fault (broken.Empty named) is = tt
+no_line_in fault (broken.RowLimit named) is = is.line_given
+no_line_in fault (broken.FieldCount named) is = is.line_given
+no_line_in fault (broken.BadId field value) is = is.line_given
+no_line_in fault (broken.BadInt field value) is = is.line_given
+no_line_in fault (broken.BadChars field value) is = is.line_given
+no_line_in fault (broken.BadReference field child value) is = is.line_given
+
+-- a fault that was given no line tells none
+pub given_no_line : (one : LoadFault) (error : OpenFault) → OfTable (OfRecord (IsIn one None)) error → OfTable HasNoLine error
+given_no_line one open_fault.NoMemory is = tt
+given_no_line one open_fault.Depot is = tt
+given_no_line one (open_fault.Input fault.SchemaBytes) is = tt
+given_no_line one (open_fault.Input (fault.Schema other)) is = tt
+given_no_line one (open_fault.Input (fault.Table told)) is = no_line_in one told is
+given_no_line one (open_fault.Input fault.ScriptBytes) is = tt
+given_no_line one (open_fault.Input fault.ScriptTexts) is = tt
+
+-- an error that is of no table shows what any does
+pub of_no_table : (files : Files) (name folder : List ℕ) (error : OpenFault) → OfTable (λ _. ⊥) error → IsNamedIn files name folder error
+of_no_table files name folder open_fault.NoMemory none = λ schema spelled. tt
+of_no_table files name folder open_fault.Depot none = λ schema spelled. tt
+of_no_table files name folder (open_fault.Input fault.SchemaBytes) none = λ schema spelled. tt
+of_no_table files name folder (open_fault.Input (fault.Schema other)) none = λ schema spelled. tt
+of_no_table files name folder (open_fault.Input (fault.Table told)) none = absurd none
+of_no_table files name folder (open_fault.Input fault.ScriptBytes) none = λ schema spelled. tt
+of_no_table files name folder (open_fault.Input fault.ScriptTexts) none = λ schema spelled. tt

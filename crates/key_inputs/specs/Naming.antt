@@ -21,13 +21,14 @@ use Rattle.key_inputs.specs.declared.broken_table.BrokenTable.{BrokenTable}
 use Rattle.key_inputs.specs.declared.broken_table.BrokenTable.TheVariants as broken
 use Rattle.key_inputs.specs.declared.broken_table.RecordNamed.{RecordNamed}
 use Rattle.key_inputs.specs.declared.broken_table.FieldNamed.{FieldNamed}
+use Rattle.key_inputs.specs.declared.faults.InputFault.{InputFault}
 use Rattle.key_inputs.specs.declared.faults.InputFault.TheVariants as fault
 use Rattle.key_inputs.specs.declared.faults.OpenFault.{OpenFault}
 use Rattle.key_inputs.specs.declared.faults.OpenFault.TheVariants as open_fault
 
--- what is shown of a name or a value: all its bytes, or the first 64 of more
+-- what is shown of a name or a value: all its bytes, or the first 100 of more
 abbrev pub most_shown : ℕ
-most_shown = 64
+most_shown = 100
 
 abbrev pub front_of : List ℕ → Front
 front_of bytes = record { places = padded most_shown bytes; len = length bytes }
@@ -193,3 +194,11 @@ pub record IsSpelledIn (files : Files) (name : List ℕ) (schema : Schema) : Typ
 abbrev pub IsNamedIn : Files → (name folder : List ℕ) → OpenFault → Type 0
 IsNamedIn files name folder error =
     (schema : Schema) → IsSpelledIn files name schema → OfTable (IsShownBy files folder schema) error
+
+-- and so does a broken rule that a command tells
+abbrev pub IsShownIn : Files → (name folder : List ℕ) → InputFault → Type 0
+IsShownIn files name folder broken = IsNamedIn files name folder (open_fault.Input broken)
+
+-- no line is told of a record
+abbrev pub HasNoLine : BrokenTable → Type 0
+HasNoLine told = OfRecord (λ at line. line ≡ None) told

@@ -10,7 +10,6 @@ pub mod faults;
 mod field_values;
 pub mod file_lines;
 pub mod laws;
-mod line_again;
 pub mod names;
 mod naming;
 pub mod opening;

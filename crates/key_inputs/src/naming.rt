@@ -1,10 +1,10 @@
 //! The names of a schema and the value of a field, put into a fault of a table's file.
 
-ghost use Rattle.std.specs.Prelude.{◌≡◌, [], true, false, Some, IfSome};
+ghost use Rattle.std.specs.Prelude.{◌≡◌, [], true, false, Some, None, IfSome};
 ghost use Rattle.ghost_model.specs.core.Database.{records_of};
 ghost use Rattle.csv_split.specs.declared.faults.LoadFault.TheVariants as load_fault;
 ghost use Rattle.csv_split.specs.Faults.{told};
-ghost use Rattle.key_inputs.specs.Naming.{IsAt, IsFieldNamedBy, IsIn, IsNamedBy, IsRecordNamedBy, OfField, OfKey, OfRecord, OfTable, ShowsField, ShowsKey, TellsLine, child_name_at, column_name_at, field_place, name_of_child, record_place, shown, tells_empty};
+ghost use Rattle.key_inputs.specs.Naming.{HasNoLine, IsAt, IsFieldNamedBy, IsIn, IsNamedBy, IsRecordNamedBy, OfField, OfKey, OfRecord, OfTable, ShowsField, ShowsKey, TellsLine, child_name_at, column_name_at, field_place, name_of_child, record_place, shown, tells_empty};
 ghost use Rattle.key_inputs.specs.Views.{name_at, rule_in, rule_or};
 
 use crate::broken_table::{BrokenTable, FieldNamed, RecordNamed};
@@ -52,23 +52,18 @@ fn empty_at(alloc: Global, file: &[u8], fault: &LoadFault) -> Option<Place>
     }
 }
 
-/// What a fault of the foreign keys of tables is to the input, told with the line of its record. The tables show the key that
-/// breaks the rule.
-pub(crate) fn fault_of_keys(
-    schema: &Schema,
-    tables: &Tables,
-    fault: LoadFault,
-    line: Option<u32>,
-) -> OpenFault
+/// What a fault of the foreign keys of tables is to the input, told with the number of its record and no line: no file is at hand
+/// then. The tables show the key that breaks the rule.
+pub(crate) fn fault_of_keys(schema: &Schema, tables: &Tables, fault: LoadFault) -> OpenFault
     ensures rule { rule_in result ≡ rule_or (told fault) }
     ensures not_depot { result ≡ OpenFault.Depot → ⊥ }
     ensures names { OfTable (IsNamedBy schema.now) result }
     ensures value { OfTable (OfKey (ShowsKey tables.now)) result }
-    ensures line { OfTable (OfRecord (IsIn fault line)) result }
+    ensures line { OfTable HasNoLine result }
 {
     match place_of(&fault) {
-        Some(at) => with_names(schema, fault, value_in(tables, &at), line),
-        None => with_names(schema, fault, Shown::Unread, line),
+        Some(at) => with_names(schema, fault, value_in(tables, &at), None),
+        None => with_names(schema, fault, Shown::Unread, None),
     }
 }
 
@@ -83,7 +78,7 @@ fn line_of_fault(alloc: Global, file: &[u8], fault: &LoadFault) -> Option<u32>
 }
 
 /// Where the record of a fault stands.
-pub(crate) fn record_of(fault: &LoadFault) -> Option<Place>
+fn record_of(fault: &LoadFault) -> Option<Place>
     ensures place { result ≡ record_place fault.now }
 {
     match fault {

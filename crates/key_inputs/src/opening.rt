@@ -6,8 +6,8 @@ ghost use Rattle.ghost_model.specs.laws.ShortWords as short;
 ghost use Rattle.ghost_model.specs.core.Database as database;
 ghost use Rattle.edge_traits.specs.Files.{Files, AreSure};
 ghost use Rattle.key_inputs.specs.Openings.{tables_opening, tables_from};
-ghost use Rattle.key_inputs.specs.Naming.{IsLineOf, IsNamedBy, IsNamedIn, IsShownBy, IsSpelledIn, OfKey, OfRecord, OfTable, ShowsKey};
-ghost use Rattle.key_inputs.specs.Views.{AreFiles, OpensTables, OpensSchema, ReadsFiles, ReadsTable, Tells, TellsRule, rule_in, rule_of, name_at, opening_at};
+ghost use Rattle.key_inputs.specs.Naming.{HasNoLine, IsNamedBy, IsNamedIn, IsShownBy, IsSpelledIn, OfKey, OfTable, ShowsKey};
+ghost use Rattle.key_inputs.specs.Views.{OpensTables, OpensSchema, ReadsFiles, ReadsTable, Tells, TellsRule, rule_in, rule_of, name_at, opening_at};
 ghost use Rattle.ghost_model.specs.refusals.LoadFaults as load;
 ghost use Rattle.tree_schema.specs.Faults.{fault_of};
 ghost use Rattle.ghost_model.specs.core.Schema as schemas;
@@ -17,7 +17,6 @@ ghost use Rattle.key_inputs.specs.declared.faults.OpenFault.TheVariants as open_
 
 use crate::broken_table::{BrokenTable, RecordNamed};
 use crate::faults::{InputFault, OpenFault, unread};
-use crate::line_again::line_again;
 use crate::names::table_file;
 use crate::naming::{fault_of_file, fault_of_keys, table_name};
 use crate::schema_names::broken_in;
@@ -63,7 +62,7 @@ pub fn open_tables<D: Depot>(
 {
     let schema = open_schema(alloc, schema, depot)?;
     let tables = open_files(alloc, &schema, folder, depot)?;
-    check_keys(alloc, &schema, &tables, folder, depot)?;
+    check_keys(&schema, &tables)?;
     let _tables = schema.tables();
     schemas_are_trees();
     files_spell_a_database();
@@ -184,12 +183,7 @@ fn too_long(schema: &Schema, table: usize) -> InputFault
 }
 
 /// The name of the file of a table's rows.
-pub(crate) fn file_of(
-    alloc: Global,
-    schema: &Schema,
-    table: usize,
-    folder: &str,
-) -> Result<String, AllocError>
+fn file_of(alloc: Global, schema: &Schema, table: usize, folder: &str) -> Result<String, AllocError>
     requires within { table < length schema.now }
     ensures name { IfOk result (λ name. string_bytes name ≡ openings.table_file folder.now (name_at schema.now table)) }
 {
@@ -201,32 +195,17 @@ pub(crate) fn file_of(
     }
 }
 
-/// Judges the foreign keys. For the line of a key that leads to no row its file is read once more.
-fn check_keys<D: Depot>(
-    alloc: Global,
-    schema: &Schema,
-    tables: &Tables,
-    folder: &str,
-    depot: &mut D,
-) -> Result<(), OpenFault>
+/// Judges the foreign keys.
+fn check_keys(schema: &Schema, tables: &Tables) -> Result<(), OpenFault>
     ensures judged { MatchResult result (λ _. short.reference_faults schema.now tables.now ≡ []) (λ fault. TellsRule (rule_in fault) (short.reference_faults schema.now tables.now)) }
-    ensures tells { IfErr result (λ fault. (fault ≡ OpenFault.Depot → ⊥) → is_some (rule_in fault) ≡ true) }
+    ensures tells { IfErr result (λ fault. is_some (rule_in fault) ≡ true) }
+    ensures not_depot { result ≡ Err OpenFault.Depot → ⊥ }
     ensures names { IfErr result (OfTable (IsNamedBy schema.now)) }
     ensures keys { IfErr result (OfTable (OfKey (ShowsKey tables.now))) }
-    ensures line { (files : Files) → D.contents depot.old ≡ Some files → IfErr result (OfTable (OfRecord (IsLineOf files folder.now schema.now))) }
-    ensures never_falls { D.faults depot.old ≤ D.faults depot.new }
-    ensures failed { result ≡ Err OpenFault.Depot → Rose (D.faults depot.old) (D.faults depot.new) }
-    ensures other { (result ≡ Err OpenFault.Depot → ⊥) → D.faults depot.new ≡ D.faults depot.old }
-    ensures appends { D.append_faults depot.new ≡ D.append_faults depot.old }
-    ensures same { D.contents depot.new ≡ D.contents depot.old }
-    ensures stays_sure { (other : List ℕ) → D.sure depot.old other → D.sure depot.new other }
-    ensures goes_well { (files : Files) → D.contents depot.old ≡ Some files → AreSure files (D.sure depot.old) → (read : List (List ℕ)) → AreFiles files folder.now schema.now read → result ≡ Err OpenFault.Depot → ⊥ }
+    ensures line { IfErr result (OfTable HasNoLine) }
 {
     match check_references(schema, tables) {
         Ok(()) => Ok(()),
-        Err(fault) => {
-            let line = line_again(alloc, schema, folder, depot, &fault)?;
-            Err(fault_of_keys(schema, tables, fault, line))
-        }
+        Err(fault) => Err(fault_of_keys(schema, tables, fault)),
     }
 }

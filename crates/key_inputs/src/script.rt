@@ -4,6 +4,7 @@ ghost use Rattle.std.specs.Prelude.{◌≡◌, ◌≤◌, ◌<◌, ℕ, List, So
 ghost use Rattle.ghost_model.specs.core.Causes.{Rose};
 ghost use Rattle.ghost_model.specs.core.Texts.{most_script_bytes, most_texts, texts_of};
 ghost use Rattle.edge_traits.specs.Files.{Files, AreSure};
+ghost use Rattle.key_inputs.specs.Naming.{OfTable};
 ghost use Rattle.key_inputs.specs.Openings.{Spelled, Missing};
 ghost use Rattle.key_inputs.specs.Scripts.{script_opening};
 ghost use Rattle.key_inputs.specs.Views.{Tells};
@@ -24,6 +25,7 @@ pub const MAX_TEXTS: usize = 64;
 pub fn open_script<D: Depot>(alloc: Global, name: &str, depot: &mut D) -> Result<Vec<u8>, OpenFault>
     ensures spelled { (files : Files) → D.contents depot.old ≡ Some files → IfOk result (λ script. script_opening files name.now ≡ Spelled script.items) }
     ensures told { (files : Files) → D.contents depot.old ≡ Some files → IfErr result (λ fault. Tells (script_opening files name.now) fault) }
+    ensures no_table { IfErr result (OfTable (λ _. ⊥)) }
     ensures short { IfOk result (λ script. length script.items ≤ most_script_bytes) }
     ensures few { IfOk result (λ script. length (texts_of script.items) ≤ most_texts) }
     ensures never_falls { D.faults depot.old ≤ D.faults depot.new }

@@ -7,13 +7,13 @@ ghost use Rattle.key_inputs.specs.Naming.{front_of, shown};
 use std::fmt::{Display, Error as FormatError, Formatter, Write};
 
 /// The most bytes of a name or a value that are shown.
-pub const MOST_SHOWN: usize = 64;
+pub const MOST_SHOWN: usize = 100;
 
-/// At most 64 bytes, which lie in the value itself.
+/// At most 100 bytes, which lie in the value itself.
 #[derive(Clone, Copy, Debug, Drop)]
 pub struct Front {
     /// The bytes, and zeros in the places after them.
-    pub places: [u8; 64],
+    pub places: [u8; MOST_SHOWN],
 
     /// How many they are.
     pub len: usize,
@@ -22,7 +22,7 @@ pub struct Front {
 impl Front {
     /// These bytes.
     fn of(bytes: &[u8]) -> Front
-        requires { length bytes.now ≤ 64 }
+        requires { length bytes.now ≤ 100 }
         ensures { result ≡ front_of bytes.now }
     {
         let mut places = [0; MOST_SHOWN];
@@ -66,7 +66,7 @@ pub enum Shown {
     /// All its bytes.
     Whole(Front),
 
-    /// The first 64 bytes of more.
+    /// The first 100 bytes of more.
     Cut(Front),
 
     /// It was not read once more, for want of memory.

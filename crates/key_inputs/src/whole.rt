@@ -5,6 +5,7 @@ ghost use Rattle.ghost_model.specs.core.Causes.{Rose};
 ghost use Rattle.ghost_model.specs.core.Database as database;
 ghost use Rattle.ghost_model.specs.core.Texts.{most_script_bytes, most_texts, texts_of};
 ghost use Rattle.edge_traits.specs.Files.{Files, AreSure};
+ghost use Rattle.key_inputs.specs.Naming.{IsNamedIn};
 ghost use Rattle.key_inputs.specs.Openings.{Missing};
 ghost use Rattle.key_inputs.specs.Views.{Tells};
 ghost use Rattle.key_inputs.specs.Whole.{IsSpelled, whole_opening};
@@ -35,6 +36,7 @@ pub fn open_inputs<D: Depot>(
 ) -> Result<Opened, OpenFault>
     ensures spelled { (files : Files) → D.contents depot.old ≡ Some files → IfOk result (λ opened. IsSpelled (whole_opening files schema.now folder.now script.now) opened) }
     ensures told { (files : Files) → D.contents depot.old ≡ Some files → IfErr result (λ fault. Tells (whole_opening files schema.now folder.now script.now) fault) }
+    ensures names { (files : Files) → D.contents depot.old ≡ Some files → IfErr result (IsNamedIn files schema.now folder.now) }
     ensures database { IfOk result (λ opened. database.IsDatabase opened.tables.schema opened.tables.tables) }
     ensures short { IfOk result (λ opened. length opened.script.items ≤ most_script_bytes) }
     ensures few { IfOk result (λ opened. length (texts_of opened.script.items) ≤ most_texts) }

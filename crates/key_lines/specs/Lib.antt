@@ -1,3 +1,4 @@
 pub mod Fields
 pub mod Handing
 pub mod Faults
+pub mod Told

@@ -5,5 +5,7 @@
 
 pub mod line;
 pub mod printer;
+pub mod told;
 
 pub use printer::{Fault, Printer};
+pub use told::{ToldText, ToldTexts};

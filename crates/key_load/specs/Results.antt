@@ -8,7 +8,8 @@ use Rattle.ghost_model.specs.core.Schema.{Schema}
 use Rattle.ghost_model.specs.core.Split.{public_of, hidden_of, image}
 use Rattle.ghost_model.specs.core.Values.{Database}
 use Rattle.edge_traits.specs.Devices.{Device}
-use Rattle.edge_traits.specs.Files.{with_file}
+use Rattle.edge_traits.specs.Files.{Files, with_file}
+use Rattle.key_inputs.specs.Naming.{IsShownIn}
 use Rattle.edge_traits.specs.Written.{grown, GrowsByFront}
 use Rattle.flash_build.specs.Sealing.{SpellsNoCatalog}
 use Rattle.key_inputs.specs.Openings.{Opening, Spelled, Broken, TablesInput}
@@ -45,6 +46,11 @@ pub record IsTooSmall (cat : Catalog) (pages : ℕ) (needed had : ℕ) : Type 0 
   pub needs : needed ≡ need cat
   pub has : had ≡ pages
   pub less : had < needed
+
+-- the names and the value that a broken rule of a table's file shows are those of the files
+abbrev pub ShowsNames : {T : Type 0} → Files → (schema folder : List ℕ) → Result T LoadFailure → Type 0
+ShowsNames files schema folder (Err (failure.Input broken)) = IsShownIn files schema folder broken
+ShowsNames files schema folder _ = ⊤
 
 -- flash and files are as before
 pub record LeavesBoth (before after : Outside) : Type 0 where

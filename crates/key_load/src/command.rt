@@ -6,7 +6,7 @@ ghost use Rattle.edge_traits.specs.Files.{Files, AreSure, SameBut};
 ghost use Rattle.key_words.specs.Views.{load_view};
 ghost use Rattle.key_inputs.specs.Openings.{InputFault, Spelled, Broken, TablesInput, tables_opening};
 ghost use Rattle.key_inputs.specs.Outside.{HasCauses, outside};
-ghost use Rattle.key_load.specs.Results.{EndsLoadCall, EndsSomeLoad, IsUnsealed, HasBlankPage0, is_faultless, makes_nothing, leaves_file, leaves_page_0, told_by, writes_nothing};
+ghost use Rattle.key_load.specs.Results.{EndsLoadCall, EndsSomeLoad, IsUnsealed, HasBlankPage0, is_faultless, makes_nothing, leaves_file, leaves_page_0, ShowsNames, told_by, writes_nothing};
 ghost use Rattle.key_load.specs.declared.failures.LoadFailure.TheVariants as failure;
 
 use crate::failures::{LoadFailure, failure_of};
@@ -38,6 +38,7 @@ pub fn load<D: Depot, F: Flash, O: Sink>(
         → EndsLoadCall F.told (tables_opening files words.now.schema.now words.now.tables.now) (load_view words.now) result
         (outside (D.contents depot.old) (D.faults depot.old) (D.append_faults depot.old) (F.state flash.old) (O.written out.old) (O.faults out.old))
         (outside (D.contents depot.new) (D.faults depot.new) (D.append_faults depot.new) (F.state flash.new) (O.written out.new) (O.faults out.new)) }
+    ensures names { (files : Files) → D.contents depot.old ≡ Some files → ShowsNames files words.now.schema.now words.now.tables.now result }
     ensures loads { EndsSomeLoad F.told (load_view words.now) result
         (outside (D.contents depot.old) (D.faults depot.old) (D.append_faults depot.old) (F.state flash.old) (O.written out.old) (O.faults out.old))
         (outside (D.contents depot.new) (D.faults depot.new) (D.append_faults depot.new) (F.state flash.new) (O.written out.new) (O.faults out.new)) }

@@ -1,2 +1,3 @@
 pub mod HandingOn
 pub mod Results
+pub mod ToldTexts

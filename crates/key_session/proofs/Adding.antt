@@ -9,6 +9,9 @@ use Rattle.std.proofs.lemmas.List.Sums.{sum_by-append}
 use Rattle.ghost_model.specs.core.Causes.{Rose, last_count}
 use Rattle.ghost_model.specs.core.Channel.{Catalog, Journal}
 use Rattle.ghost_model.specs.core.Lines.{Reason}
+use Rattle.ghost_model.specs.core.Schema.{Schema}
+use Rattle.key_lines.specs.Told.{AreTold, IsToldAt}
+use Rattle.key_lines.specs.declared.told.ToldText.{ToldText}
 use Rattle.key_lines.specs.Handing.{Handed, Hands, PiecesJoin}
 use Rattle.leakless_plan.specs.declared.plan.Plan.{Plan}
 use Rattle.key_exec.specs.Rows.{PrintsSome}
@@ -193,21 +196,23 @@ damage_called_more since start before now old new result counted called stays st
 
 -- one more text has its lines
 pub one_lines : PiecesJoin → (Has : (place : ℕ) → Reason → (lines : List (List ℕ)) → Type 0) (reasons : List Reason) (reason : Reason) (since between now : Handed) (one : List (List ℕ))
-    → HaveLinesOf Has reasons since between → Has (length reasons) reason one → Hands (concat one) between now
-    → HaveLinesOf Has (reasons ++ reason ∷ []) since now
+    → (are : HaveLinesOf Has reasons since between) → Has (length reasons) reason one → Hands (concat one) between now
+    → (more : HaveLinesOf Has (reasons ++ reason ∷ []) since now) × (more.lines ≡ are.lines ++ one ∷ [])
 one_lines join Has reasons reason since between now one are is hands =
     let long : length are.lines ≡ length reasons = are.as_many in
     let longer : length (are.lines ++ one ∷ []) ≡ length are.lines + 1 = length-append are.lines (one ∷ []) in
     let more : length (reasons ++ reason ∷ []) ≡ length reasons + 1 = length-append reasons (reason ∷ []) in
     let bytes : flat_map concat (are.lines ++ one ∷ []) ≡ flat_map concat are.lines ++ concat one =
-    flat_map-append concat are.lines (one ∷ []) ∙ ap (λ (bs : List ℕ). flat_map concat are.lines ++ bs) (append-nil (concat one)) in
-    record {
-      lines = are.lines ++ one ∷ [];
-      as_many = omega (arith, long, longer, more);
-      each = λ place it mine e f.
-          by place it mine (last_or_before reasons reason place it e) (last_or_before are.lines one place mine f);
-      handed_on = subst (λ (bs : List ℕ). Hands bs since now) (sym bytes) (join.two (flat_map concat are.lines) (concat one) since between now are.handed_on hands);
-    }
+    flat_map-append concat are.lines (one ∷ []) ∙ ap (λ (bs : List ℕ). flat_map concat are.lines ++ bs) (append-nil (concat one)) in (
+      record {
+        lines = are.lines ++ one ∷ [];
+        as_many = omega (arith, long, longer, more);
+        each = λ place it mine e f.
+            by place it mine (last_or_before reasons reason place it e) (last_or_before are.lines one place mine f);
+        handed_on = subst (λ (bs : List ℕ). Hands bs since now) (sym bytes) (join.two (flat_map concat are.lines) (concat one) since between now are.handed_on hands);
+      },
+      refl,
+    )
   where
     by : (place : ℕ) (it : Reason) (mine : List (List ℕ)) → (slice_get reasons place ≡ Some it) ⊎ ((place ≡ length reasons) × (reason ≡ it))
         → (slice_get are.lines place ≡ Some mine) ⊎ ((place ≡ length are.lines) × (one ≡ mine)) → Has place it mine
@@ -225,6 +230,36 @@ one_lines join Has reasons reason since between now one are is hands =
         let within : place < length are.lines = slice_get_within are.lines place mine f in
         let at : place ≡ length reasons = e.0 in
         let many : length are.lines ≡ length reasons = are.as_many in
+        absurd (omega (arith, within, at, many))
+
+-- one more text is told
+pub told_more : (schema : Schema) (texts : List (List ℕ)) (lines : List (List (List ℕ))) (told : List ToldText) (own : List (List ℕ)) (one : ToldText)
+    → AreTold schema texts lines told → IsToldAt schema texts (length lines) own one → AreTold schema texts (lines ++ own ∷ []) (told ++ one ∷ [])
+told_more schema texts lines told own one are is =
+    let long : length told ≡ length lines = are.as_many in
+    let longer : length (lines ++ own ∷ []) ≡ length lines + 1 = length-append lines (own ∷ []) in
+    let more : length (told ++ one ∷ []) ≡ length told + 1 = length-append told (one ∷ []) in
+    record {
+      as_many = omega (arith, long, longer, more);
+      each = λ place mine it e f. by place mine it (last_or_before lines own place mine e) (last_or_before told one place it f);
+    }
+  where
+    by : (place : ℕ) (mine : List (List ℕ)) (it : ToldText) → (slice_get lines place ≡ Some mine) ⊎ ((place ≡ length lines) × (own ≡ mine))
+        → (slice_get told place ≡ Some it) ⊎ ((place ≡ length told) × (one ≡ it)) → IsToldAt schema texts place mine it
+    by place mine it (inl e) (inl f) = are.each place mine it e f
+    by place mine it (inr e) (inr f) =
+        subst (λ (t : ToldText). IsToldAt schema texts place mine t) f.1
+        (subst (λ (ls : List (List ℕ)). IsToldAt schema texts place ls one) e.1
+        (subst (λ (n : ℕ). IsToldAt schema texts n own one) (sym e.0) is))
+    by place mine it (inl e) (inr f) =
+        let within : place < length lines = slice_get_within lines place mine e in
+        let at : place ≡ length told = f.0 in
+        let many : length told ≡ length lines = are.as_many in
+        absurd (omega (arith, within, at, many))
+    by place mine it (inr e) (inl f) =
+        let within : place < length told = slice_get_within told place it f in
+        let at : place ≡ length lines = e.0 in
+        let many : length told ≡ length lines = are.as_many in
         absurd (omega (arith, within, at, many))
 
 -- the damage that is told of a text is that of a slot
@@ -294,11 +329,15 @@ module _ (plan : Plan) (pages_told : Bool) (page : ℕ → List ℕ) (catalog : 
       → (are : HaveSoFar catalog texts journal count (AreKeptSoFar plan pages_told page catalog texts old (one_if marked + marks) since before)) → HasReason catalog texts journal count (reason_of result)
       → ToldTells before now result → TellsMark marked result → IsCounted (reason_of result) old new
       → new.damage ≡ first_damage old.damage (damage_in result) → BlamedAt count result
-      → HaveLines catalog texts journal are.reasons first middle → HasLines catalog texts journal count (reason_of result) lines → Hands (concat lines) middle last
-      → (more : HaveSoFar catalog texts journal (count + 1) (AreKeptSoFar plan pages_told page catalog texts new marks since now)) × HaveLines catalog texts journal more.reasons first last × (more.reasons ≡ are.reasons ++ reason_of result ∷ [])
+      → (have : HaveLines catalog texts journal are.reasons first middle) → HasLines catalog texts journal count (reason_of result) lines → Hands (concat lines) middle last
+      → (more : HaveSoFar catalog texts journal (count + 1) (AreKeptSoFar plan pages_told page catalog texts new marks since now)) × (longer : HaveLines catalog texts journal more.reasons first last)
+      × (more.reasons ≡ are.reasons ++ reason_of result ∷ []) × (longer.lines ≡ have.lines ++ lines ∷ [])
   one_reason join journal count old new since before now marks marked result first middle last lines are is tells mark counted met blames have has hands =
       let long : length are.reasons ≡ count = are.as_many in
-      let longer : length (are.reasons ++ reason_of result ∷ []) ≡ length are.reasons + 1 = length-append are.reasons (reason_of result ∷ []) in (
+      let longer : length (are.reasons ++ reason_of result ∷ []) ≡ length are.reasons + 1 = length-append are.reasons (reason_of result ∷ []) in
+      let both =
+      one_lines join (HasLines catalog texts journal) are.reasons (reason_of result) first middle last lines have
+      (subst (λ (n : ℕ). HasLines catalog texts journal n (reason_of result) lines) (sym long) has) hands in (
         record {
           reasons = are.reasons ++ reason_of result ∷ [];
           as_many = omega (arith, long, longer);
@@ -315,9 +354,9 @@ module _ (plan : Plan) (pages_told : Bool) (page : ℕ → List ℕ) (catalog : 
             faults = blamed_more are.reasons since before now marks marked result tells mark are.counted.faults;
           };
         },
-        one_lines join (HasLines catalog texts journal) are.reasons (reason_of result) first middle last lines have
-            (subst (λ (n : ℕ). HasLines catalog texts journal n (reason_of result) lines) (sym long) has) hands,
+        both.0,
         refl,
+        both.1,
       )
 
 -- the first of the texts that are left

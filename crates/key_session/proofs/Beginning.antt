@@ -36,6 +36,7 @@ use Rattle.key_exec.specs.Reading.{KeepsBy}
 use Rattle.key_exec.specs.Laws.{WholeRepliesAreOfAsked, WholeRepliesAreOfAll}
 use Rattle.key_exec.specs.Texts.{IsAccepted, IsDone, ToldTells}
 use Rattle.key_exec.specs.Telling as lines
+use Rattle.key_lines.specs.declared.told.ToldText.{ToldText}
 use Rattle.key_exec.specs.Telling.{CanTell, IsUnderWay, HasTold, GoesOn, AreRepliesOf, AreRepliesTo}
 use Rattle.key_exec.specs.declared.telling.Telling.{Telling}
 use Rattle.key_exec.specs.declared.text.Told.{Told}
@@ -185,6 +186,8 @@ telling_spared plan pages_told catalog texts journal top since sink before now p
       };
       lines = telling.lines;
       answers = telling.answers;
+      same = telling.same;
+      are_told = telling.are_told;
     }
 
 -- the buffer of the replies is none of those that the text has
@@ -307,17 +310,17 @@ module _ (join : PiecesJoin) (decided : TextsAreDecided) (laws : PageLaws) (stay
       → IsRunning plan pages_told catalog texts journal old.count since.flash begun.first.sink now more store next
   still_runs goes = still_running plan pages_told catalog texts journal old.count begun.state begun.half since.flash begun.first before now pool more store text next has number goes.0 goes.1
 
-  pub was_told : IsTree catalog.schema → (new : Teller) (result : Told) → ToldTells before.flash.faults now.flash.faults result
-      → HasTold plan pages_told catalog ((old.count + 1) % 2) next.number has.written begun.state (is_lost store (old.count + 1)) begun.half begun.first.flash now.flash begun.first.sink now.sink result
-      → EndsText result old new → IsAmid plan pages_told catalog texts journal since now more pump new store
-  was_told tree new result tells ends ended = record {
+  pub was_told : IsTree catalog.schema → (new : Teller) (result : Told) (one : ToldText) → ToldTells before.flash.faults now.flash.faults result
+      → HasTold plan pages_told catalog ((old.count + 1) % 2) next.number has.written begun.state (is_lost store (old.count + 1)) begun.half begun.first.flash now.flash begun.first.sink now.sink result one
+      → EndsText result one old new → IsAmid plan pages_told catalog texts journal since now more pump new store
+  was_told tree new result one tells ends ended = record {
     plan = ended.plan ∙ begun.plan;
     sink = now.sink;
     going = record {
       top = begun.going.top;
-      telling = tell_one join decided laws later rises plan pages_told catalog tree texts journal begun.going.top since begun.first before now old new pool more store begun.state begun.half text result
+      telling = tell_one join decided laws later rises plan pages_told catalog tree texts journal begun.going.top since begun.first before now old new pool more store begun.state begun.half text result one
           begun.going.telling has
-          (subst (λ (n : ℕ). HasTold plan pages_told catalog ((old.count + 1) % 2) n has.written begun.state (is_lost store (old.count + 1)) begun.half begun.first.flash now.flash begun.first.sink now.sink result) (number ∙ has.number) ends)
+          (subst (λ (n : ℕ). HasTold plan pages_told catalog ((old.count + 1) % 2) n has.written begun.state (is_lost store (old.count + 1)) begun.half begun.first.flash now.flash begun.first.sink now.sink result one) (number ∙ has.number) ends)
           tells keeps kept_now ended;
       settled = λ opened other from upto.
           settled_by catalog texts journal other old.count (let count : new.count ≡ old.count + 1 = ended.count in omega (arith, count, upto))

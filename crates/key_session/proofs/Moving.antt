@@ -320,6 +320,8 @@ going_on stay reasons decided plan pages_told catalog texts journal more since s
               };
           handed_on = are.handed_on;
         };
+    same = λ database knows. going.telling.same database knows;
+    are_told = going.telling.are_told;
   };
   settled = λ still text from upto. (stay catalog texts journal more text (going.settled opened text from upto)).settled;
   onward = λ text un. onward text (unsettled_before stay catalog texts journal more text un);

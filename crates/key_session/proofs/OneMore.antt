@@ -25,6 +25,8 @@ use Rattle.key_session.specs.Kept.{IsKept, is_lost}
 use Rattle.key_session.specs.Laws.{LaterTextsAreUnmarked, LowRises}
 use Rattle.key_session.specs.declared.replies.Replies.{Replies}
 use Rattle.key_lines.specs.Handing.{PiecesJoin}
+use Rattle.key_lines.specs.Told.{AreTold, told_in}
+use Rattle.key_lines.specs.declared.told.ToldText.{ToldText}
 use Rattle.leakless_plan.specs.declared.plan.Plan.{Plan}
 use Rattle.leakless_plan.specs.declared.plan.Plan.TheVariants.{Scan, Linked}
 use Rattle.key_exec.specs.Laws.{KeepsStatic, PagesStayKnownBut, DamageStays}
@@ -42,7 +44,7 @@ use Rattle.key_session.specs.Telling.{SessionSide, AreMarked, AreKeptSoFar, AreL
 use Rattle.key_session.specs.Going.{IsTaken, EndsText}
 use Rattle.key_session.specs.declared.teller.Teller.{Teller}
 use Rattle.key_session.proofs.Coming.{answers_so, reason_so, lines_so}
-use Rattle.key_session.proofs.Adding.{TellsMark, one_lines, one_reason, one_damage, called_more, damage_called_more, still_no_fall, next_number, left_more, some_more}
+use Rattle.key_session.proofs.Adding.{TellsMark, one_lines, one_reason, one_damage, told_more, called_more, damage_called_more, still_no_fall, next_number, left_more, some_more}
 use Rattle.key_session.proofs.Readings.{read_later, first_read, told_earlier}
 use Rattle.key_session.proofs.Marking.{marks_next, marked_next, mark_told}
 
@@ -128,12 +130,12 @@ pub record PageLaws : Type 0 where
   pub damage : DamageStays
 
 module _ (join : PiecesJoin) (decided : TextsAreDecided) (laws : PageLaws) (later : LaterTextsAreUnmarked) (rises : LowRises) (plan : Plan) (pages_told : Bool) (catalog : Catalog) (tree : IsTree catalog.schema) (texts : List (List ℕ)) (journal : Journal) (top : ℕ) (since first before now : SessionSide)
-    (old new : Teller) (pool more : Pool) (store : Replies) (state : ReplyState) (half : Half) (text : Telling) (result : Told)
+    (old new : Teller) (pool more : Pool) (store : Replies) (state : ReplyState) (half : Half) (text : Telling) (result : Told) (one : ToldText)
     (telling : IsTelling plan pages_told catalog texts journal top since first.sink before.flash pool (texts_left old) old.count old.counts store)
     (taken : IsTaken plan pages_told catalog texts journal old.count state (is_lost store (old.count + 1)) half since.flash first before pool text)
-    (ends : HasTold plan pages_told catalog ((old.count + 1) % 2) (old.count + 1) taken.written state (is_lost store (old.count + 1)) half first.flash now.flash first.sink now.sink result)
+    (ends : HasTold plan pages_told catalog ((old.count + 1) % 2) (old.count + 1) taken.written state (is_lost store (old.count + 1)) half first.flash now.flash first.sink now.sink result one)
     (tells : ToldTells before.flash.faults now.flash.faults result) (kept_pages : ChangesOnly (spool_end catalog) (need catalog) before.flash now.flash)
-    (kept : IsKept pages_told now.flash more catalog (heard_in catalog texts journal) (old.count + 1) top store) (ended : EndsText result old new) where
+    (kept : IsKept pages_told now.flash more catalog (heard_in catalog texts journal) (old.count + 1) top store) (ended : EndsText result one old new) where
   abbrev marked : Bool
   marked = is_lost store (old.count + 1)
 
@@ -222,7 +224,8 @@ module _ (join : PiecesJoin) (decided : TextsAreDecided) (laws : PageLaws) (late
       state here_is ends.lines result (tells_why database knows)
 
   both_now : (more : HaveSoFar catalog texts journal (old.count + 1) (AreKeptSoFar plan pages_told since.flash.page catalog texts new.counts marks since.flash.faults now.flash.faults))
-      × HaveLines catalog texts journal more.reasons since.sink now.sink × (more.reasons ≡ telling.reasons.reasons ++ reason_of result ∷ [])
+      × (longer : HaveLines catalog texts journal more.reasons since.sink now.sink) × (more.reasons ≡ telling.reasons.reasons ++ reason_of result ∷ [])
+      × (longer.lines ≡ telling.lines.lines ++ ends.lines ∷ [])
   both_now =
       one_reason plan pages_told since.flash.page catalog texts join journal old.count old.counts new.counts since.flash.faults before.flash.faults now.flash.faults marks marked result
       since.sink first.sink now.sink ends.lines telling.reasons has_reason tells tells_mark counted ended.first blames_now telling.lines has_lines ends.handed_on
@@ -265,7 +268,20 @@ module _ (join : PiecesJoin) (decided : TextsAreDecided) (laws : PageLaws) (late
       counted = subst (λ (n : ℕ). AreKeptSoFar plan pages_told since.flash.page catalog texts new.counts n since.flash.faults now.flash.faults both_now.0.reasons) same_marks both_now.0.counted;
     };
     lines = both_now.1;
-    answers = λ database knows. subst (λ (rs : List Reason). HaveAnswerLines catalog (hidden_of catalog.schema database) texts journal rs since.sink now.sink) (sym both_now.2)
-        (one_lines join (HasAnswerLines catalog (hidden_of catalog.schema database) texts journal) telling.reasons.reasons (reason_of result) since.sink first.sink now.sink ends.lines
-        (telling.answers database knows) (subst (λ (n : ℕ). HasAnswerLines catalog (hidden_of catalog.schema database) texts journal n (reason_of result) ends.lines) (sym telling.reasons.as_many) (answers_now database knows)) ends.handed_on);
+    answers = λ database knows. (answers_more database knows).0;
+    same = λ database knows.
+        (answers_more database knows).1 ∙ ap (λ (lines : List (List (List ℕ))). lines ++ ends.lines ∷ []) (telling.same database knows) ∙ sym both_now.3;
+    are_told = subst (λ (lines : List (List (List ℕ))). AreTold catalog.schema texts lines (told_in new.counts.told)) (sym both_now.3)
+        (subst (λ (told : List ToldText). AreTold catalog.schema texts (telling.lines.lines ++ ends.lines ∷ []) told) (sym ended.told)
+        (told_more catalog.schema texts telling.lines.lines (told_in old.counts.told) ends.lines one telling.are_told
+        (record { written = written; stands = subst (λ (n : ℕ). slice_get texts n ≡ Some written) (sym (telling.lines.as_many ∙ telling.reasons.as_many)) here; is_told = ends.entry })));
   }
+    where
+      answers_more : (database : Database) → (knows : KnowsButBy plan pages_told since.flash.page catalog database)
+          → (more : HaveAnswerLines catalog (hidden_of catalog.schema database) texts journal both_now.0.reasons since.sink now.sink)
+          × (more.lines ≡ (telling.answers database knows).lines ++ ends.lines ∷ [])
+      answers_more database knows =
+          subst (λ (rs : List Reason). (more : HaveAnswerLines catalog (hidden_of catalog.schema database) texts journal rs since.sink now.sink)
+          × (more.lines ≡ (telling.answers database knows).lines ++ ends.lines ∷ [])) (sym both_now.2)
+          (one_lines join (HasAnswerLines catalog (hidden_of catalog.schema database) texts journal) telling.reasons.reasons (reason_of result) since.sink first.sink now.sink ends.lines
+          (telling.answers database knows) (subst (λ (n : ℕ). HasAnswerLines catalog (hidden_of catalog.schema database) texts journal n (reason_of result) ends.lines) (sym telling.reasons.as_many) (answers_now database knows)) ends.handed_on)

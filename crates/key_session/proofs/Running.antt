@@ -29,7 +29,7 @@ use Rattle.key_exec.specs.Laws.{DamageIsNeverMet}
 use Rattle.key_exec.specs.Reading.{KnowsBy}
 use Rattle.key_exec.specs.Rows.{PrintsSome}
 use Rattle.key_session.specs.Answering.{AnswersWhereSound, CallsAreFew}
-use Rattle.key_session.specs.Counting.{AreCounted, is_refusal, is_flash, is_broken, is_damage, one_if}
+use Rattle.key_session.specs.Counting.{AreNone, AreCounted, is_refusal, is_flash, is_broken, is_damage, one_if}
 use Rattle.key_session.specs.Reasons.{HaveReasons, AreBlamed, CameTo, IsReason, HasReason, is_refused_text}
 use Rattle.key_session.specs.Damages.{IsSlot}
 use Rattle.key_session.specs.Refusing.{code_of, first_code}
@@ -37,6 +37,9 @@ use Rattle.key_session.specs.Telling.{SessionSide, AreLeft, KeepsFiles, IsTellin
 use Rattle.key_session.specs.Going.{IsGoing}
 use Rattle.channel_pump.specs.declared.state.Pump.{Pump}
 use Rattle.key_session.specs.Running.{HasRun, IsTallied, status_with, protocol_or, host_or, blames_flash, is_damaged, spares_flash}
+use Rattle.key_lines.specs.Told.{AreTold, told_in}
+use Rattle.key_lines.specs.declared.told.ToldText.{ToldText}
+use Rattle.key_lines.specs.declared.told.ToldTexts.{ToldTexts}
 use Rattle.key_session.specs.declared.counts.Counts.{Counts}
 use Rattle.key_exec.specs.declared.damage.Damage.{Damage}
 use Rattle.key_session.specs.declared.tally.SessionStatus.{SessionStatus}
@@ -46,12 +49,9 @@ use Rattle.key_session.proofs.HonestRuns.{AreAnswered}
 use Rattle.key_session.proofs.Attending.{none_behind, true_is_not_false}
 use Rattle.key_session.proofs.Moving.{heard_none}
 
-abbrev no_counts : Counts
-no_counts = record { refused = 0; faulted = 0; by_flash = false; damage = None }
-
 -- before the first move
 pub at_first : PiecesJoin → (plan : Plan) (pages_told : Bool) (catalog : Catalog) (texts : List (List ℕ)) (since : SessionSide) (pool : Pool) (pump : Pump) (count : ℕ) (counts : Counts) (left : List (List ℕ)) (replies : Replies)
-    → left ≡ texts → count ≡ 0 → counts ≡ record { refused = 0; faulted = 0; by_flash = false; damage = None }
+    → left ≡ texts → count ≡ 0 → AreNone counts
     → IsKept pages_told since.flash pool catalog (none_heard catalog) 1 0 replies → ((text : ℕ) → 0 < text → is_lost replies text ≡ false)
     → IsGoing plan pages_told catalog texts [] since since.sink since.flash pool pump left count counts replies
 at_first join plan pages_told catalog texts since pool pump count counts left replies all none is_none kept unmarked = record {
@@ -63,16 +63,16 @@ at_first join plan pages_told catalog texts since pool pump count counts left re
     within = omega arith;
     pages = changes_kept (kept_same since.flash) _ _;
     calls = omega arith;
-    called = λ e. absurd (none_failed (sym (ap (λ (c : Counts). c.by_flash) is_none) ∙ e));
-    damage_called = λ e. absurd (none_failed (sym (ap (λ (c : Counts). is_some c.damage) is_none) ∙ e));
+    called = λ e. absurd (none_failed (sym is_none.by_flash ∙ e));
+    damage_called = λ e. absurd (none_failed (sym (ap (λ (met : Option Damage). is_some met) is_none.damage) ∙ e));
     faults = omega arith;
     marked = record {
       called = λ text from e. absurd (none_failed (sym (unmarked text (omega (arith, from))) ∙ e));
       accepted = λ place written from stands e. absurd (none_failed (sym (unmarked (suc place) (omega arith)) ∙ e));
     };
     prints = record { piece = []; handed = join.none since.sink };
-    damaged = λ damage e. absurd (none_some damage (sym (ap (λ (c : Counts). c.damage) is_none) ∙ e));
-    read = λ damage e. absurd (none_some damage (sym (ap (λ (c : Counts). c.damage) is_none) ∙ e));
+    damaged = λ damage e. absurd (none_some damage (sym is_none.damage ∙ e));
+    read = λ damage e. absurd (none_some damage (sym is_none.damage ∙ e));
     reasons = record {
       reasons = [];
       as_many = sym none;
@@ -80,13 +80,15 @@ at_first join plan pages_told catalog texts since pool pump count counts left re
       counted = record {
         kept = record {
           counted = none_counted;
-          met = record { damages = []; by_reason = refl; each = λ place damage e. cc; first_is = ap (λ (c : Counts). c.damage) is_none };
+          met = record { damages = []; by_reason = refl; each = λ place damage e. cc; first_is = is_none.damage };
         };
         faults = no_faults;
       };
     };
     lines = record { lines = []; as_many = refl; each = λ place reason one e f. cc; handed_on = join.none since.sink };
     answers = λ database knows. record { lines = []; as_many = refl; each = λ place reason one e f. cc; handed_on = join.none since.sink };
+    same = λ database knows. refl;
+    are_told = subst (λ (told : List ToldText). AreTold catalog.schema texts [] told) (sym is_none.told) (record { as_many = refl; each = λ place own one e f. cc });
   };
   settled = λ opened text from upto. (let bad : ⊥ = omega (arith, from, upto, none) in absurd bad);
   onward = λ text un. omega arith;
@@ -102,7 +104,12 @@ at_first join plan pages_told catalog texts since pool pump count counts left re
     none_some damage e = cc
 
     none_counted : AreCounted [] counts
-    none_counted = subst (λ (c : Counts). AreCounted [] c) (sym is_none) (record { refused = refl; faulted = refl; by_flash = refl; found = refl })
+    none_counted = record {
+      refused = is_none.refused;
+      faulted = is_none.faulted;
+      by_flash = is_none.by_flash;
+      found = ap (λ (met : Option Damage). is_some met) is_none.damage;
+    }
 
     no_marks : marks_behind replies count ≡ 0
     no_marks =
@@ -308,12 +315,12 @@ pub has_run : LaterTextsAreUnmarked → DamageIsNeverMet → (went : Journal →
     → IsTree catalog.schema → WentBy went link_before link_now journal → IsLive catalog at (asked_of catalog.schema texts) journal pump page → IsFinished journal
     → IsTelling plan pages_told catalog texts journal top since now.sink now.flash pool left count counts replies
     → left ≡ []
-    → tally.texts ≡ count → tally.refused ≡ counts.refused → tally.faulted ≡ counts.faulted
+    → tally.texts ≡ count → tally.refused ≡ counts.refused → tally.faulted ≡ counts.faulted → tally.told ≡ counts.told
     → tally.status ≡ status_with now.sink.failed (standing_after catalog (asked_of catalog.schema texts) journal) counts.by_flash counts.damage
     → (IsProper catalog at texts journal → IsFinished journal → AreAnswered plan pages_told catalog texts journal since now tally → AnswersWhereSound plan pages_told catalog texts journal since now tally)
     → (IsProper catalog at texts journal → IsFinished journal → count ≡ length texts → CallsAreFew plan pages_told catalog texts journal since now)
     → IsLast went link_before link_now plan pages_told catalog at texts since now tally
-has_run later never went link_before link_now plan pages_told catalog at texts since now pump page journal top pool left many_told counts replies tally tree went_by live is_finished last none many refused faulted status_is answers few =
+has_run later never went link_before link_now plan pages_told catalog at texts since now pump page journal top pool left many_told counts replies tally tree went_by live is_finished last none many refused faulted told_is status_is answers few =
     let have : HaveReasons catalog texts journal (length texts)
     (λ reasons. IsTallied plan pages_told since.flash.page catalog texts now.sink.failed (standing_after catalog (asked_of catalog.schema texts) journal) reasons tally) since.flash.faults now.flash.faults =
     record {
@@ -343,6 +350,8 @@ has_run later never went link_before link_now plan pages_told catalog at texts s
         reasons = have;
         lines = last.lines;
         answers = last.answers;
+        same = last.same;
+        are_told = subst (λ (told : ToldTexts). AreTold catalog.schema texts last.lines.lines (told_in told)) (sym told_is) last.are_told;
         damaged = λ damage e.
             last.damaged damage
             (damaged_so now.sink.failed (standing_after catalog (asked_of catalog.schema texts) journal).stopped (standing_after catalog (asked_of catalog.schema texts) journal).heard.broken _ _ _ counts.by_flash counts.damage damage

@@ -80,8 +80,8 @@ module _ (laws : SpendLaws) (pages_told : Bool) (catalog : Catalog) (tree : IsTr
   }
 
   -- no slot is damaged
-  pub undamaged : (side own : ℕ) (now : Device) (last : Handed) (damage : _) → HasTold by_pre pages_told catalog side own taken.written state marked half first.flash now first.sink last (told.Damaged damage) → ⊥
-  undamaged side own now last damage ends =
+  pub undamaged : (side own : ℕ) (now : Device) (last : Handed) (damage : _) (one : _) → HasTold by_pre pages_told catalog side own taken.written state marked half first.flash now first.sink last (told.Damaged damage) one → ⊥
+  undamaged side own now last damage one ends =
       let blamed = ends.blames (λ done is_told. record { replies = replies catalog (asked_of catalog.schema texts) journal (count + 1); are = taken.given done is_told }) in
       laws.never by_pre pages_told first.flash.page catalog blamed.query blamed.top side half database damage.page damage.slot damage.found tree pages_now blamed.is
 

@@ -151,18 +151,18 @@ pub last_of : StepsTakeFewCalls → LaterTextsAreUnmarked → KnowledgeIsEnough 
     → session.cat.now ≡ cat → session.at.now ≡ at
     → HasCome (WentBy went link_before link_now) plan told texts since (session_side session.teller.printer.failed faults written device) pool session
     → want_of session.pump ≡ want_is.Closed → is_some session.teller.ahead ≡ false
-    → tally.texts ≡ session.teller.count → tally.refused ≡ session.teller.counts.refused → tally.faulted ≡ session.teller.counts.faulted
+    → tally.texts ≡ session.teller.count → tally.refused ≡ session.teller.counts.refused → tally.faulted ≡ session.teller.counts.faulted → tally.told ≡ session.teller.counts.told
     → ((catalog : Catalog) (asks : List NumberedAsk) (journal : Journal) → IsAfter catalog asks journal session.pump → session.refusal ≡ first_code (standing_after catalog asks journal).heard.ended
     → tally.status ≡ status_with session.teller.printer.failed (standing_after catalog asks journal) session.teller.counts.by_flash session.teller.counts.damage)
     → IsLast went link_before link_now plan told cat at texts since (session_side session.teller.printer.failed faults written device) tally
-last_of ends later enough never smooth prints closed cat proper tree texts few went link_before link_now plan told at since faults written device pool session tally cat_is at_is come shut none many refused faulted status =
+last_of ends later enough never smooth prints closed cat proper tree texts few went link_before link_now plan told at since faults written device pool session tally cat_is at_is come shut none many refused faulted told_is status =
     let now = session_side session.teller.printer.failed faults written device in
     let live = live_at plan told cat at texts come.journal since now pool session cat_is at_is come.live in
     let finished = closed cat at (asked_of cat.schema texts) come.journal session.pump live.page live.channel shut in
     let kept = with_lease live.was.lease session.replies in
     let going = all_over plan told cat texts come.journal since now live.was.had session.pump session.teller kept none live.was.amid in
     has_run later never went link_before link_now plan told cat at texts since now session.pump live.page come.journal going.top live.was.had (texts_left session.teller) session.teller.count session.teller.counts kept tally
-    tree come.went live.channel finished going.telling (empty _ session.teller.ahead session.teller.texts none (session.teller.last none)) many refused faulted
+    tree come.went live.channel finished going.telling (empty _ session.teller.ahead session.teller.texts none (session.teller.last none)) many refused faulted told_is
     (status cat (asked_of cat.schema texts) come.journal live.channel.after live.refusal_is)
     (λ is_proper is_finished tells. answers_all smooth prints enough plan told cat at texts come.journal since now tally proper tree few is_proper is_finished tells)
     (λ is_proper is_finished count. ends.ended plan told cat at texts come.journal since now session.teller (setting cat texts proper few) is_proper is_finished count (running_none session.teller.running (none_running session.teller none))

@@ -2,6 +2,7 @@
 use Rattle.std.specs.Prelude.{◌≡◌, ℕ, ◌+◌, Bool, true, false, ◌||◌, List, [], ◌∷◌, count_by, if◌then◌else◌, Option, None, Some, is_some}
 use Rattle.std.specs.List.{list_any}
 use Rattle.ghost_model.specs.core.Lines.{Reason, WasRefused, WasBroken, WasAnswered, MetFault, Fault, OnFlash, OnDamage}
+use Rattle.key_lines.specs.Told.{told_in}
 use Rattle.key_exec.specs.declared.text.Told.{Told}
 use Rattle.key_exec.specs.declared.text.Told.TheVariants as told
 use Rattle.key_session.specs.declared.counts.Counts.{Counts}
@@ -64,6 +65,14 @@ first_damage (Some damage) later = Some damage
 abbrev pub first_of : List (Option Damage) → Option Damage
 first_of [] = None
 first_of (met ∷ later) = first_damage met (first_of later)
+
+-- no text was counted
+pub record AreNone (counts : Counts) : Type 0 where
+  pub refused : counts.refused ≡ 0
+  pub faulted : counts.faulted ≡ 0
+  pub by_flash : counts.by_flash ≡ false
+  pub damage : counts.damage ≡ None
+  pub told : told_in counts.told ≡ []
 
 -- one more text was counted
 pub record IsCounted (reason : Reason) (old new : Counts) : Type 0 where

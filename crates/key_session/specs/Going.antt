@@ -10,6 +10,8 @@ use Rattle.edge_traits.specs.Devices.{Device}
 use Rattle.page_pool.specs.Pools.{Pool, IsIdle, IsOut, bytes_at, others_out}
 use Rattle.visible_spool.specs.declared.half.Half.{Half}
 use Rattle.key_lines.specs.Handing.{Handed}
+use Rattle.key_lines.specs.Told.{told_in}
+use Rattle.key_lines.specs.declared.told.ToldText.{ToldText}
 use Rattle.session_laws.specs.TextEnds.{heard_in, is_settled_in}
 use Rattle.channel_pump.specs.Here.{moves_left}
 use Rattle.channel_pump.specs.Marks.{state_of}
@@ -162,14 +164,15 @@ unbegun teller = length teller.texts + (if is_some teller.ahead && not (is_some 
 abbrev pub left_of : Teller → ℕ
 left_of teller = most_left * unbegun teller + steps_of teller.running
 
--- the text ahead was told to its end
-pub record EndsText (result : Told) (old new : Teller) : Type 0 where
+-- the text ahead was told to its end, and this is told of it
+pub record EndsText (result : Told) (one : ToldText) (old new : Teller) : Type 0 where
   pub plan : new.plan ≡ old.plan
   pub texts : (written : List ℕ) × (texts_left old ≡ written ∷ texts_left new)
   pub count : new.count ≡ old.count + 1
   pub running : new.running ≡ None
   pub counted : IsCounted (reason_of result) old.counts new.counts
   pub first : new.counts.damage ≡ first_damage old.counts.damage (damage_in result)
+  pub told : told_in new.counts.told ≡ told_in old.counts.told ++ one ∷ []
 
 -- ---- the live session
 

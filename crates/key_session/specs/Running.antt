@@ -10,6 +10,7 @@ use Rattle.ghost_model.specs.core.Split.{hidden_of}
 use Rattle.ghost_model.specs.core.Lines.{Reason}
 use Rattle.channel_pump.specs.State.{counted}
 use Rattle.channel_pump.specs.Entries.{is_short_entry, FaultsTell}
+use Rattle.key_lines.specs.Told.{AreTold, told_in}
 use Rattle.leakless_plan.specs.declared.plan.Plan.{Plan}
 use Rattle.key_exec.specs.Reading.{KnowsBy, KnowsButBy}
 use Rattle.key_session.specs.Answering.{AnswersWhereSound, CallsAreFew}
@@ -95,6 +96,10 @@ pub record HasRun (goes : Journal → Type 0) (link_before link_now : ℕ) (by :
   -- and where the pages are those of a database, but for damaged slots, the rows are those of the answer over it
   pub answers : (database : Database) → KnowsButBy by pages_told since.flash.page catalog database
       → HaveAnswerLines catalog (hidden_of catalog.schema database) texts journal reasons.reasons since.sink now.sink
+  -- they are the same lines
+  pub same : (database : Database) → (knows : KnowsButBy by pages_told since.flash.page catalog database) → (answers database knows).lines ≡ lines.lines
+  -- each text is told by its lines: the rule by which it is refused, and the rows that were given
+  pub are_told : AreTold catalog.schema texts lines.lines (told_in tally.told)
   pub damaged : (damage : Damage) → tally.status ≡ status.Damaged damage → IsSlot by pages_told since.flash.page catalog texts damage
   pub damage_read : (damage : Damage) → tally.status ≡ status.Damaged damage → WasRead by pages_told since.flash.calls now.flash catalog texts reasons.reasons damage
   -- and where they are those of a database, no text met damage

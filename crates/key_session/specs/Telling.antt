@@ -15,6 +15,7 @@ use Rattle.page_pool.specs.Pools.{Pool}
 use Rattle.session_laws.specs.TextEnds.{heard_in}
 use Rattle.session_laws.specs.TextCases.{Outcome}
 use Rattle.key_lines.specs.Handing.{Handed, handed}
+use Rattle.key_lines.specs.Told.{AreTold, told_in}
 use Rattle.key_session.specs.Kept.{IsKept, is_lost}
 use Rattle.key_session.specs.declared.replies.Replies.{Replies}
 use Rattle.leakless_plan.specs.declared.plan.Plan.{Plan}
@@ -90,3 +91,6 @@ pub record IsTelling (by : Plan) (pages_told : Bool) (catalog : Catalog) (texts 
   pub lines : HaveLines catalog texts journal reasons.reasons since.sink sink
   pub answers : (database : Database) → KnowsButBy by pages_told since.flash.page catalog database
       → HaveAnswerLines catalog (hidden_of catalog.schema database) texts journal reasons.reasons since.sink sink
+  -- of these same lines, by which each text is told
+  pub same : (database : Database) → (knows : KnowsButBy by pages_told since.flash.page catalog database) → (answers database knows).lines ≡ lines.lines
+  pub are_told : AreTold catalog.schema texts lines.lines (told_in counts.told)

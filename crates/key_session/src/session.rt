@@ -337,6 +337,7 @@ impl<'a> Session<'a> {
         ensures texts { result.texts ≡ self.now.teller.count }
         ensures refused { result.refused ≡ self.now.teller.counts.refused }
         ensures faulted { result.faulted ≡ self.now.teller.counts.faulted }
+        ensures told { result.told ≡ self.now.teller.counts.told }
         ensures sink { is_sink result.status ≡ self.now.teller.printer.failed }
         ensures status { (catalog : channel.Catalog) (asks : List NumberedAsk) (journal : Journal) → IsAfter catalog asks journal self.now.pump
             → self.now.refusal ≡ first_code (standing_after catalog asks journal).heard.ended
@@ -346,6 +347,7 @@ impl<'a> Session<'a> {
             texts: self.teller.count,
             refused: self.teller.counts.refused,
             faulted: self.teller.counts.faulted,
+            told: self.teller.counts.told,
             status: status(
                 self.teller.printer.failed,
                 self.pump.cause(),

@@ -10,6 +10,7 @@ ghost use Rattle.key_session.specs.Running.{is_sink, status_with};
 use crate::counts::Counts;
 use channel_pump::state::Cause;
 use key_exec::Damage;
+use key_lines::ToldTexts;
 
 /// How a session ended: the first of these that is so, in the order `Sink`, `Link`, `Protocol`, `Host`, `Flash`, `Damaged`,
 /// `Ok`.
@@ -48,6 +49,8 @@ pub struct Tally {
     pub refused: u32,
     /// Those that a fault ended: of the host, the link, the protocol or the flash.
     pub faulted: u32,
+    /// Of each text the rule by which it is refused, and the rows that were given.
+    pub told: ToldTexts,
     /// How the session ended.
     pub status: SessionStatus,
 }

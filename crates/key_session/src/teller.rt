@@ -3,10 +3,12 @@
 ghost use Rattle.std.specs.Prelude.{◌≡◌, ◌≤◌, ◌+◌, ◌∷◌, [], true, false, None, length, is_some, option_map, if◌then◌else◌};
 ghost use Rattle.std.specs.List.{cons_option};
 ghost use Rattle.ghost_model.specs.core.Texts.{texts_of};
+ghost use Rattle.key_lines.specs.Told.{told_in};
+ghost use Rattle.key_session.specs.Counting.{AreNone};
 
 use crate::counts::Counts;
 use key_exec::Telling;
-use key_lines::Printer;
+use key_lines::{Printer, ToldTexts};
 use leakless_plan::Plan;
 use spj_parse::Texts;
 
@@ -32,6 +34,7 @@ pub struct Teller<'a> {
     ghost told_now: { is_some running ≡ true → is_some ahead ≡ true },
     ghost some_refused: { counts.refused ≤ count },
     ghost some_faulted: { counts.faulted ≤ count },
+    ghost some_told: { length (told_in counts.told) ≤ count },
 }
 
 /// The next text.
@@ -54,7 +57,7 @@ impl<'a> Teller<'a> {
         ensures count { result.count ≡ 0 }
         ensures plan { result.plan ≡ plan }
         ensures fresh { result.printer.failed ≡ false }
-        ensures counts { result.counts ≡ record { refused = 0; faulted = 0; by_flash = false; damage = None } }
+        ensures counts { AreNone result.counts }
         ensures running { result.running ≡ None }
     {
         let mut texts = Texts::new(script);
@@ -70,6 +73,7 @@ impl<'a> Teller<'a> {
                 faulted: 0,
                 by_flash: false,
                 damage: None,
+                told: ToldTexts::none(),
             },
             running: None,
         }

@@ -38,6 +38,7 @@ use key_exec::laws::{
     damage_is_never_met, knowledge_is_enough, knowledge_stays, whole_replies_are_of_asked,
 };
 use key_exec::{Telling, Told};
+use key_lines::ToldText;
 use key_lines::printer::pieces_join;
 use page_pool::PagePool;
 use session_laws::text_cases::texts_are_decided;
@@ -146,7 +147,10 @@ impl<'a> Teller<'a> {
         };
         match telling.step(&mut self.printer, out, pool, flash) {
             None => {}
-            Some(told) => self.end(told),
+            Some(told) => {
+                let one = telling.told();
+                self.end(told, one);
+            }
         }
     }
 
@@ -162,15 +166,15 @@ impl<'a> Teller<'a> {
 
     /// The text ahead was told to its end. It is no part of a slice's own code, which needs no room for a text then.
     #[inline(never)]
-    fn end(&mut self, told: Told)
+    fn end(&mut self, told: Told, one: ToldText)
         requires left { is_some self.old.ahead ≡ true }
-        ensures ended { EndsText told self.old self.new }
+        ensures ended { EndsText told one self.old self.new }
         ensures printer { self.new.printer ≡ self.old.printer }
         ensures unbegun { unbegun self.new ≡ length self.old.texts }
     {
         self.running = None;
         self.count += 1;
         self.ahead = next_text(&mut self.texts);
-        self.counts.add(told);
+        self.counts.add(told, one);
     }
 }

@@ -1,6 +1,7 @@
 -- How the command ended, from what its parts did.
 use Rattle.std.proofs.Common.{◌≡◌, ◌⊎◌, inl, inr, ◌≤◌, ◌<◌, ◌+◌, min, ℕ, Bool, true, false, List, [], length, Option, Some, Result, Ok, Err, refl, sym, ap, ◌∙◌, subst, arith}
-use Rattle.std.specs.Prelude.{count_by}
+use Rattle.std.specs.Prelude.{count_by, flat_map}
+use Rattle.std.specs.List.{concat}
 use Rattle.std.proofs.lemmas.Bool.{cases_lt}
 use Rattle.ghost_model.specs.core.Causes.{Rose, last_count}
 use Rattle.ghost_model.specs.core.Channel.{Catalog, Journal}
@@ -27,13 +28,16 @@ use Rattle.key_session.specs.Calls.{session_calls}
 use Rattle.key_words.specs.Words.{Local}
 use Rattle.key_inputs.specs.Whole.{WholeInput}
 use Rattle.key_lines.specs.Handing.{Hands, handed}
+use Rattle.key_lines.specs.Told.{AreTold}
+use Rattle.key_lines.specs.declared.told.ToldText.{ToldText}
 use Rattle.key_commands.specs.local.Lines.{Gives, bytes_given, is_cut}
-use Rattle.key_commands.specs.local.Sessions.{Subject, subject, catalog_for, Ran, HasLines, TellsReasons, session_side_in, is_sink}
-use Rattle.key_commands.specs.local.Results.{EndsLocal, EndsLocalCall, EndsSomeLocal, IsMade, subject_of, is_faultless, told_by}
+use Rattle.key_commands.specs.local.Sessions.{Subject, subject, catalog_for, Ran, HasLines, TellsReasons, session_side_in, is_sink, is_damaged, told_by_end}
+use Rattle.key_commands.specs.local.Results.{EndsLocal, EndsLocalCall, EndsSomeLocal, IsMade, subject_of, is_faultless, is_faultless_end, told_by}
 use Rattle.key_commands.specs.local.Making.{IsOfMaking}
 use Rattle.key_inputs.specs.Whole.{IsSpelled}
 use Rattle.key_commands.specs.local.Running.{RanOver}
 use Rattle.key_commands.specs.declared.local.ends.LocalEnd.{LocalEnd}
+use Rattle.key_commands.specs.declared.local.ends.LocalRun.{LocalRun}
 use Rattle.key_commands.specs.declared.local.ends.LocalEnd.TheVariants as ends
 use Rattle.key_commands.specs.declared.local.ends.LocalFailure.{LocalFailure}
 use Rattle.key_commands.specs.declared.local.ends.LocalFailure.TheVariants as failure
@@ -92,24 +96,32 @@ reasons_since catalog texts journal Counted before middle after faults have = re
 }
 
 lines_since : (catalog : Catalog) (texts : List (List ℕ)) (journal : Journal) (reasons : List Reason) (failed : Bool) (before middle after : Outside) → middle.sink_faults ≡ before.sink_faults → middle.written ≡ before.written
-    → HaveLines catalog texts journal reasons (handed false middle.sink_faults middle.written) (handed failed after.sink_faults after.written)
-    → HaveLines catalog texts journal reasons (handed false before.sink_faults before.written) (handed failed after.sink_faults after.written)
-lines_since catalog texts journal reasons failed before middle after sink written lines =
-    subst (λ (faults : ℕ). HaveLines catalog texts journal reasons (handed false faults before.written) (handed failed after.sink_faults after.written)) sink
-    (subst (λ (held : Option (List ℕ)). HaveLines catalog texts journal reasons (handed false middle.sink_faults held) (handed failed after.sink_faults after.written)) written lines)
+    → (lines : HaveLines catalog texts journal reasons (handed false middle.sink_faults middle.written) (handed failed after.sink_faults after.written))
+    → (same : HaveLines catalog texts journal reasons (handed false before.sink_faults before.written) (handed failed after.sink_faults after.written)) × (same.lines ≡ lines.lines)
+lines_since catalog texts journal reasons failed before middle after sink written lines = (
+  record {
+    lines = lines.lines;
+    as_many = lines.as_many;
+    each = lines.each;
+    handed_on = subst (λ (faults : ℕ). Hands (flat_map concat lines.lines) (handed false faults before.written) (handed failed after.sink_faults after.written)) sink
+        (subst (λ (held : Option (List ℕ)). Hands (flat_map concat lines.lines) (handed false middle.sink_faults held) (handed failed after.sink_faults after.written)) written lines.handed_on);
+  },
+  refl,
+)
 
 -- the session ran over what was made for it
-pub ran_of : (told : Bool) (schema : Schema) (database : Database) (texts : List (List ℕ)) (words : Local) (end : LocalEnd) (catalog : Catalog) (before middle after : Outside)
-    → catalog ≡ catalog_for schema database → RanOver words.plan told catalog database texts words.journal end middle after
+pub ran_of : (told : Bool) (schema : Schema) (database : Database) (texts : List (List ℕ)) (words : Local) (end : LocalEnd) (entries : List ToldText) (catalog : Catalog) (before middle after : Outside)
+    → catalog ≡ catalog_for schema database → RanOver words.plan told catalog database texts words.journal end middle after entries
     → middle.device.faults ≡ before.device.faults → middle.append_faults ≡ before.append_faults → middle.sink_faults ≡ before.sink_faults → middle.written ≡ before.written
     → HasLines middle.files words.journal []
     → middle.device.name ≡ Some words.flash → Counts (load_calls catalog (hidden_of schema database)) before.device.calls middle.device.calls
     → (told ≡ true → Holds middle.device.page catalog (hidden_of schema database))
     → middle.device.page_count ≡ need catalog → ChangesOnly (static_end catalog) (need catalog) middle.device after.device
     → HoldingsAreKept → IsTree catalog.schema → LieInOrder catalog
-    → Ran told (subject schema database texts words) end before after
-ran_of told schema database texts words end catalog before middle after same ran faults appends sink written empty named counts there pages kept laws tree order =
-    let mine : RanOver words.plan told (catalog_for schema database) database texts words.journal end middle after = subst (λ (c : Catalog). RanOver words.plan told c database texts words.journal end middle after) same ran in
+    → Ran told (subject schema database texts words) end before after entries
+ran_of told schema database texts words end entries catalog before middle after same ran faults appends sink written empty named counts there pages kept laws tree order =
+    let mine : RanOver words.plan told (catalog_for schema database) database texts words.journal end middle after entries = subst (λ (c : Catalog). RanOver words.plan told c database texts words.journal end middle after entries) same ran in
+    let given = lines_since (catalog_for schema database) texts mine.journal mine.reasons.reasons (is_sink end) before middle after sink written mine.lines in
     record {
       journal = mine.journal;
       is_local = mine.is_local;
@@ -121,7 +133,9 @@ ran_of told schema database texts words end catalog before middle after same ran
           (mine.kept (λ rose. calm (subst (λ (count : ℕ). Rose count after.append_faults) appends rose)));
       all_kept = λ fine. lines_there words.journal mine.journal middle.files after.files mine.finished empty (mine.all_kept fine);
       reasons = reasons_since (catalog_for schema database) texts mine.journal (λ reasons. TellsReasons end reasons) before middle after faults mine.reasons;
-      lines = lines_since (catalog_for schema database) texts mine.journal mine.reasons.reasons (is_sink end) before middle after sink written mine.lines;
+      lines = given.0;
+      are_told = subst (λ (lines : List (List (List ℕ))). AreTold schema texts lines entries) (sym given.1) mine.are_told;
+      same = λ t. mine.same t ∙ sym given.1;
       gives = λ t. gives_since schema database texts (is_sink end) before middle after faults sink written (mine.gives t);
       printed_all = λ t whole. mine.printed_all t whole ∙ ap (λ (held : Option (List ℕ)). grown held (printed schema texts database)) written;
       few_calls = λ t is_pre unfailed.
@@ -182,12 +196,12 @@ same_subject opened opening words are =
     ap (λ (database : Database). subject opened.tables.schema database (texts_of opened.script.items) words) are.tables
 
 -- the call ended so over what the files spell
-pub ends_spelled : (told : Bool) (opening : Opening WholeInput) (opened : Opened) (words : Local) (result : Result LocalEnd LocalFailure) (before after : Outside)
+pub ends_spelled : (told : Bool) (opening : Opening WholeInput) (opened : Opened) (words : Local) (result : Result LocalRun LocalFailure) (before after : Outside)
     → IsSpelled opening opened → EndsLocal told (subject_read opened words) result before after → EndsLocalCall told opening words result before after
-ends_spelled told opening opened words (Ok end) before after are ended = record {
+ends_spelled told opening opened words (Ok run) before after are ended = record {
   input = inputs_of opened are.files;
   spelled = are.spelled;
-  ended = subst (λ (one : Subject). EndsLocal told one (Ok end) before after) (same_subject opened opening words are) ended;
+  ended = subst (λ (one : Subject). EndsLocal told one (Ok run) before after) (same_subject opened opening words are) ended;
 }
 ends_spelled told opening opened words (Err failure.NoMemory) before after are ended = inr (record {
   input = inputs_of opened are.files;
@@ -207,9 +221,9 @@ ends_spelled told opening opened words (Err failure.Flash) before after are ende
 }
 
 -- it ended so over what was read
-pub ends_some : (told : Bool) (opened : Opened) (words : Local) (result : Result LocalEnd LocalFailure) (before after : Outside)
+pub ends_some : (told : Bool) (opened : Opened) (words : Local) (result : Result LocalRun LocalFailure) (before after : Outside)
     → IsDatabase opened.tables.schema opened.tables.tables → EndsLocal told (subject_read opened words) result before after → EndsSomeLocal told words result before after
-ends_some told opened words (Ok end) before after are ended = record {
+ends_some told opened words (Ok run) before after are ended = record {
   schema = opened.tables.schema;
   database = opened.tables.tables;
   texts = texts_of opened.script.items;
@@ -239,15 +253,20 @@ ends_some told opened words (Err failure.Flash) before after are ended = record 
   ended = ended;
 }
 
+-- no end that is to be faultless is another
+by_end : (told : Bool) (end : LocalEnd) → (told ≡ true → is_damaged end ≡ false)
+    → ((told_by_end end).depot ≡ Risen → ⊥) → ((told_by_end end).flash ≡ Risen → ⊥) → ((told_by_end end).sink ≡ Risen → ⊥) → is_faultless_end told end ≡ true
+by_end told ends.Ok undamaged depot flash sink = refl
+by_end told ends.Sink undamaged depot flash sink = absurd (sink refl)
+by_end told ends.Depot undamaged depot flash sink = absurd (depot refl)
+by_end told ends.Flash undamaged depot flash sink = absurd (flash refl)
+by_end true (ends.Damaged damage) undamaged depot flash sink = let none = undamaged refl in cc
+by_end false (ends.Damaged damage) undamaged depot flash sink = refl
+
 -- nothing that was to be unbroken ended otherwise
-pub faultless : (told : Bool) (one : Subject) (result : Result LocalEnd LocalFailure) (before after : Outside) → EndsLocal told one result before after
+pub faultless : (told : Bool) (one : Subject) (result : Result LocalRun LocalFailure) (before after : Outside) → EndsLocal told one result before after
     → ((told_by result).depot ≡ Risen → ⊥) → ((told_by result).flash ≡ Risen → ⊥) → ((told_by result).sink ≡ Risen → ⊥) → is_faultless told result ≡ true
-faultless told one (Ok ends.Ok) before after ended depot flash sink = refl
-faultless told one (Ok ends.Sink) before after ended depot flash sink = absurd (sink refl)
-faultless told one (Ok ends.Depot) before after ended depot flash sink = absurd (depot refl)
-faultless told one (Ok ends.Flash) before after ended depot flash sink = absurd (flash refl)
-faultless true one (Ok (ends.Damaged damage)) before after ended depot flash sink = let none = ended.undamaged refl in cc
-faultless false one (Ok (ends.Damaged damage)) before after ended depot flash sink = refl
+faultless told one (Ok run) before after ended depot flash sink = by_end told run.end ended.undamaged depot flash sink
 faultless told one (Err failure.NoMemory) before after ended depot flash sink = refl
 faultless told one (Err failure.Depot) before after ended depot flash sink = absurd (depot refl)
 faultless told one (Err (failure.Input broken)) before after ended depot flash sink = absurd ended

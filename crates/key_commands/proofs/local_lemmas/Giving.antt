@@ -1,7 +1,7 @@
 -- What a session ran over, from what the key, the link and the journal's file tell.
 use Rattle.std.proofs.Common.{◌≡◌, ◌+◌, ◌≤◌, ℕ, Bool, true, false, List, [], ◌∷◌, length, Option, None, refl, sym, ap, ◌∙◌, subst}
-use Rattle.std.specs.Prelude.{take}
-use Rattle.std.specs.List.{list_any}
+use Rattle.std.specs.Prelude.{take, flat_map}
+use Rattle.std.specs.List.{concat, list_any}
 use Rattle.ghost_model.specs.core.Asks.{asked_of}
 use Rattle.ghost_model.specs.core.Causes.{Rose}
 use Rattle.ghost_model.specs.core.Channel.{Catalog, Journal}
@@ -30,6 +30,8 @@ use Rattle.key_exec.specs.declared.damage.Damage.{Damage}
 use Rattle.key_session.specs.declared.tally.SessionStatus.TheVariants as status
 use Rattle.key_session.specs.declared.tally.Tally.{Tally}
 use Rattle.key_lines.specs.Handing.{Hands, handed}
+use Rattle.key_lines.specs.Told.{AreTold, told_in}
+use Rattle.key_lines.specs.declared.told.ToldText.{ToldText}
 use Rattle.key_commands.specs.local.Lines.{AreAnswered, Gives, GivesByTally, ToldTextsAreGiven, is_cut, bytes_given}
 use Rattle.key_commands.specs.local.Running.{RanOver, KeepsLines}
 use Rattle.key_inputs.specs.Outside.{Outside, outside}
@@ -76,10 +78,11 @@ pub ran_over : (by : Plan) (told : Bool) (catalog : Catalog) (database : Databas
     → IsLocal catalog database [] texts journal → IsFinished journal
     → ((Rose before.append_faults after.append_faults → ⊥) → KeepsLines before.files after.files name journal)
     → (end ≡ ends.Ok → KeepsLines before.files after.files name journal)
-    → (told ≡ true → AreAnswered by told before.device.page catalog database texts journal (wrote_none tally.status) (standing_after catalog (asked_of catalog.schema texts) journal) tally (session_side_in false before) (session_side_in (wrote_none tally.status) after))
+    → (answered : told ≡ true → AreAnswered by told before.device.page catalog database texts journal (wrote_none tally.status) (standing_after catalog (asked_of catalog.schema texts) journal) tally (session_side_in false before) (session_side_in (wrote_none tally.status) after))
     → (reasons : HaveReasons catalog texts journal (length texts)
     (λ reasons. IsTallied by told before.device.page catalog texts (wrote_none tally.status) (standing_after catalog (asked_of catalog.schema texts) journal) reasons tally) before.device.faults after.device.faults)
-    → HaveLines catalog texts journal reasons.reasons (handed false before.sink_faults before.written) (handed (wrote_none tally.status) after.sink_faults after.written)
+    → (lines : HaveLines catalog texts journal reasons.reasons (handed false before.sink_faults before.written) (handed (wrote_none tally.status) after.sink_faults after.written))
+    → AreTold catalog.schema texts lines.lines (told_in tally.told) → ((t : told ≡ true) → (answered t).answers.lines ≡ lines.lines)
     → ((damage : Damage) → tally.status ≡ status.Damaged damage → IsFirstSlot by told before.device.page catalog texts reasons.reasons damage)
     → ((damage : Damage) → tally.status ≡ status.Damaged damage → WasRead by told before.device.calls after.device catalog texts reasons.reasons damage) → ChangesOnly (static_end catalog) (need catalog) before.device after.device
     → is_sink end ≡ wrote_none tally.status → (end ≡ ends.Ok → tally.status ≡ status.Ok) → (end ≡ ends.Flash → blames_flash tally.status ≡ true)
@@ -87,14 +90,14 @@ pub ran_over : (by : Plan) (told : Bool) (catalog : Catalog) (database : Databas
     → ((damage : Damage) → end ≡ ends.Damaged damage → tally.status ≡ status.Damaged damage)
     → (told ≡ true → by ≡ by_pre → (Rose before.device.faults after.device.faults → ⊥)
     → after.device.calls ≤ before.device.calls + session_calls catalog.schema database texts)
-    → RanOver by told catalog database texts name end before after
-ran_over by told catalog database texts name end tally before after journal served given stays_damaged tree is_local finished kept all_kept are_told reasons lines blamed was_read pages sink whole flash called read damaged few =
+    → RanOver by told catalog database texts name end before after (told_in tally.told)
+ran_over by told catalog database texts name end tally before after journal served given stays_damaged tree is_local finished kept all_kept answered reasons lines entries same blamed was_read pages sink whole flash called read damaged few =
     let unbroken = served catalog database [] texts journal is_local in
     let stays = going catalog database texts journal unbroken in
     let right = valid catalog database texts journal unbroken in
     let none = granted catalog database texts journal unbroken in
-    let by_tally : told ≡ true → GivesByTally (wrote_none tally.status) (standing_after catalog (asked_of catalog.schema texts) journal) tally catalog.schema database texts (session_side_in false before) (session_side_in (wrote_none tally.status) after) =
-    (λ t. given by told before.device.page catalog database texts journal (wrote_none tally.status) (standing_after catalog (asked_of catalog.schema texts) journal) tally (session_side_in false before) (session_side_in (wrote_none tally.status) after) is_local finished (are_told t)) in
+    let by_tally : (t : told ≡ true) → GivesByTally (wrote_none tally.status) (standing_after catalog (asked_of catalog.schema texts) journal) tally catalog.schema database texts (session_side_in false before) (session_side_in (wrote_none tally.status) after) (answered t).answers.lines =
+    (λ t. given by told before.device.page catalog database texts journal (wrote_none tally.status) (standing_after catalog (asked_of catalog.schema texts) journal) tally (session_side_in false before) (session_side_in (wrote_none tally.status) after) is_local finished (answered t)) in
     record {
       journal = journal;
       is_local = is_local;
@@ -110,7 +113,14 @@ ran_over by told catalog database texts name end tally before after journal serv
         counted = tells_reasons end tally.status (wrote_none tally.status) (standing_after catalog (asked_of catalog.schema texts) journal) reasons.reasons reasons.counted.damage stays right none
             reasons.counted.status_is reasons.counted.found whole flash damaged;
       };
-      lines = subst (λ (failed : Bool). HaveLines catalog texts journal reasons.reasons (handed false before.sink_faults before.written) (handed failed after.sink_faults after.written)) (sym sink) lines;
+      lines = record {
+        lines = lines.lines;
+        as_many = lines.as_many;
+        each = lines.each;
+        handed_on = subst (λ (failed : Bool). Hands (flat_map concat lines.lines) (handed false before.sink_faults before.written) (handed failed after.sink_faults after.written)) (sym sink) lines.handed_on;
+      };
+      are_told = entries;
+      same = λ t. (by_tally t).same ∙ same t;
       gives = λ t. gives_as catalog.schema database texts (wrote_none tally.status) (is_sink end) before after (sym sink) (by_tally t).gives;
       printed_all = λ t is.
           let all = by_tally t in
@@ -136,15 +146,15 @@ ran_over by told catalog database texts name end tally before after journal serv
     }
 
 -- and so over what the files and their counts are known to be
-pub ran_as : {D : Type 0} (contents : D → Option Files) (failed appends : D → ℕ) (by : Plan) (told : Bool) (catalog : Catalog) (database : Database) (texts : List (List ℕ)) (name called : Option (List ℕ)) (end : LocalEnd)
+pub ran_as : {D : Type 0} (contents : D → Option Files) (failed appends : D → ℕ) (by : Plan) (told : Bool) (catalog : Catalog) (database : Database) (texts : List (List ℕ)) (name called : Option (List ℕ)) (end : LocalEnd) (entries : List ToldText)
     (device device_now : Device) (before earlier after later : D) (written written_now : Option (List ℕ)) (faults faults_now : ℕ)
     → name ≡ called → before ≡ earlier → after ≡ later
-    → RanOver by told catalog database texts name end (outside (contents before) (failed before) (appends before) device written faults) (outside (contents after) (failed after) (appends after) device_now written_now faults_now)
-    → RanOver by told catalog database texts called end (outside (contents earlier) (failed earlier) (appends earlier) device written faults) (outside (contents later) (failed later) (appends later) device_now written_now faults_now)
-ran_as {D} contents failed appends by told catalog database texts name called end device device_now before earlier after later written written_now faults faults_now names starts comes ran =
-    subst (λ (one : Option (List ℕ)). RanOver by told catalog database texts one end (outside (contents earlier) (failed earlier) (appends earlier) device written faults) (outside (contents later) (failed later) (appends later) device_now written_now faults_now)) names
-    (subst (λ (d : D). RanOver by told catalog database texts name end (outside (contents d) (failed d) (appends d) device written faults) (outside (contents later) (failed later) (appends later) device_now written_now faults_now)) starts
-    (subst (λ (d : D). RanOver by told catalog database texts name end (outside (contents before) (failed before) (appends before) device written faults) (outside (contents d) (failed d) (appends d) device_now written_now faults_now)) comes ran))
+    → RanOver by told catalog database texts name end (outside (contents before) (failed before) (appends before) device written faults) (outside (contents after) (failed after) (appends after) device_now written_now faults_now) entries
+    → RanOver by told catalog database texts called end (outside (contents earlier) (failed earlier) (appends earlier) device written faults) (outside (contents later) (failed later) (appends later) device_now written_now faults_now) entries
+ran_as {D} contents failed appends by told catalog database texts name called end entries device device_now before earlier after later written written_now faults faults_now names starts comes ran =
+    subst (λ (one : Option (List ℕ)). RanOver by told catalog database texts one end (outside (contents earlier) (failed earlier) (appends earlier) device written faults) (outside (contents later) (failed later) (appends later) device_now written_now faults_now) entries) names
+    (subst (λ (d : D). RanOver by told catalog database texts name end (outside (contents d) (failed d) (appends d) device written faults) (outside (contents later) (failed later) (appends later) device_now written_now faults_now) entries) starts
+    (subst (λ (d : D). RanOver by told catalog database texts name end (outside (contents before) (failed before) (appends before) device written faults) (outside (contents d) (failed d) (appends d) device_now written_now faults_now) entries) comes ran))
 
 take_all : {X : Type 0} (some : List X) → take (length some) some ≡ some
 take_all [] = refl

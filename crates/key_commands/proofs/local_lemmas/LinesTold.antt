@@ -23,7 +23,7 @@ use Rattle.key_exec.specs.declared.damage.Damage.{Damage}
 use Rattle.key_session.specs.Running.{status_of, status_with}
 use Rattle.key_session.specs.declared.tally.Tally.{Tally}
 use Rattle.leakless_plan.specs.declared.plan.Plan.{Plan}
-use Rattle.key_commands.specs.local.Lines.{TextLines, AreAnswered, AreLinesBy, AreTextLines, GivesByTally, is_cut, bytes_given}
+use Rattle.key_commands.specs.local.Lines.{TextLines, AreAnswered, AreLinesBy, AreTextLines, GivesByTally, is_cut, bytes_given, lines_in}
 use Rattle.ghost_model.specs.core.Asks.{asked_of}
 
 or_false : (first second : Bool) → (first || second) ≡ false → (first ≡ false) × (second ≡ false)
@@ -44,6 +44,12 @@ same_bytes [] [] many = refl
 same_bytes [] (one ∷ lines) many = absurd (omega (arith, many))
 same_bytes (reason ∷ reasons) [] many = absurd (omega (arith, many))
 same_bytes (reason ∷ reasons) (one ∷ lines) many = ap (λ (bytes : List ℕ). concat one ++ bytes) (same_bytes reasons lines (omega (arith, many)))
+
+same_lines : (reasons : List Reason) (lines : List (List (List ℕ))) → length lines ≡ length reasons → lines_in (all_told reasons lines) ≡ lines
+same_lines [] [] many = refl
+same_lines [] (one ∷ lines) many = absurd (omega (arith, many))
+same_lines (reason ∷ reasons) [] many = absurd (omega (arith, many))
+same_lines (reason ∷ reasons) (one ∷ lines) many = ap (λ (rest : List (List (List ℕ))). one ∷ rest) (same_lines reasons lines (omega (arith, many)))
 
 -- the counts go on from a number
 same_count_from : (before : ℕ) (reasons : List Reason) (lines : List (List (List ℕ))) → length lines ≡ length reasons
@@ -233,8 +239,8 @@ module _ (catalog : Catalog) (database : Database) (texts : List (List ℕ)) (jo
 
   pub gives :
       (by : Plan) (pages_told : Bool) (page : ℕ → List ℕ) (failed : Bool) (session : Standing) (tally : Tally) (since now : SessionSide)
-      → AreAnswered by pages_told page catalog database texts journal failed session tally since now
-      → GivesByTally failed session tally catalog.schema database texts since now
+      → (are : AreAnswered by pages_told page catalog database texts journal failed session tally since now)
+      → GivesByTally failed session tally catalog.schema database texts since now are.answers.lines
   gives by pages_told page failed session tally since now are =
       let reasons = are.reasons.reasons in
       let lines = are.answers.lines in
@@ -248,6 +254,7 @@ module _ (catalog : Catalog) (database : Database) (texts : List (List ℕ)) (jo
           unblamed = λ none. are.reasons.unblamed (sym (same_any reasons lines many) ∙ none)
               (unbroken_all reasons lines many are.reasons.as_many are.undamaged are.answers.each);
         };
+        same = same_lines reasons lines many;
         status_is = are.reasons.counted.status_is
             ∙ ap (λ (damage : Option Damage). status_with failed session (list_any is_flash reasons) damage) (no_damage are.reasons.counted.damage (are.reasons.counted.found ∙ are.undamaged))
             ∙ ap (status_of failed session) (sym (same_any reasons lines many));

@@ -46,6 +46,10 @@ is_cut one = one.cut
 abbrev pub line_bytes : TextLines → List ℕ
 line_bytes one = concat one.lines
 
+-- the lines of each text
+abbrev pub lines_in : List TextLines → List (List (List ℕ))
+lines_in given = map (λ (one : TextLines). one.lines) given
+
 -- the bytes of all lines
 abbrev pub bytes_given : List TextLines → List ℕ
 bytes_given given = flat_map line_bytes given
@@ -68,8 +72,9 @@ pub record Gives (schema : Schema) (database : Database) (texts : List (List ℕ
   pub unblamed : list_any is_cut given ≡ false → now.flash.faults ≡ since.flash.faults
 
 -- the session's tally has the status of such lines: that of the flash, where it failed a text and no other cause comes first
-pub record GivesByTally (failed : Bool) (session : Standing) (tally : Tally) (schema : Schema) (database : Database) (texts : List (List ℕ)) (since now : SessionSide) : Type 0 where
+pub record GivesByTally (failed : Bool) (session : Standing) (tally : Tally) (schema : Schema) (database : Database) (texts : List (List ℕ)) (since now : SessionSide) (lines : List (List (List ℕ))) : Type 0 where
   pub gives : Gives schema database texts since now
+  pub same : lines_in gives.given ≡ lines
   pub status_is : tally.status ≡ status_of failed session (list_any is_cut gives.given)
 
 -- a session has reasons for the lines of its texts, none of them damage, and the rows are those of the database
@@ -84,5 +89,5 @@ ToldTextsAreGiven =
     (by : Plan) (pages_told : Bool) (page : ℕ → List ℕ) (catalog : Catalog) (database : Database) (texts : List (List ℕ)) (journal : Journal)
     (failed : Bool) (session : Standing) (tally : Tally) (since now : SessionSide)
     → IsLocal catalog database [] texts journal → IsFinished journal
-    → AreAnswered by pages_told page catalog database texts journal failed session tally since now
-    → GivesByTally failed session tally catalog.schema database texts since now
+    → (are : AreAnswered by pages_told page catalog database texts journal failed session tally since now)
+    → GivesByTally failed session tally catalog.schema database texts since now are.answers.lines

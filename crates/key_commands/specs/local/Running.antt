@@ -22,7 +22,9 @@ use Rattle.key_exec.specs.declared.damage.Damage.{Damage}
 use Rattle.key_session.specs.declared.tally.SessionStatus.{SessionStatus}
 use Rattle.key_session.specs.declared.tally.SessionStatus.TheVariants as status
 use Rattle.key_lines.specs.Handing.{handed}
-use Rattle.key_commands.specs.local.Lines.{Gives, is_cut}
+use Rattle.key_lines.specs.Told.{AreTold}
+use Rattle.key_lines.specs.declared.told.ToldText.{ToldText}
+use Rattle.key_commands.specs.local.Lines.{Gives, is_cut, lines_in}
 use Rattle.key_inputs.specs.Outside.{Outside}
 use Rattle.key_commands.specs.local.Sessions.{IsFirstSlot, TellsReasons, session_side_in, is_sink, is_damaged}
 use Rattle.key_commands.specs.local.Preparing.{IsHosted}
@@ -48,7 +50,7 @@ KeepsLines before after None journal = ⊤
 KeepsLines before after (Some name) journal = told_file after name ≡ grown (told_file before name) (lines journal)
 
 -- a session by a plan with a host that holds the public part of a database was held to its end
-pub record RanOver (by : Plan) (told : Bool) (catalog : Catalog) (database : Database) (texts : List (List ℕ)) (name : Option (List ℕ)) (end : LocalEnd) (before after : Outside) : Type 0 where
+pub record RanOver (by : Plan) (told : Bool) (catalog : Catalog) (database : Database) (texts : List (List ℕ)) (name : Option (List ℕ)) (end : LocalEnd) (before after : Outside) (entries : List ToldText) : Type 0 where
   pub journal : Journal
   pub is_local : IsLocal catalog database [] texts journal
   pub finished : IsFinished journal
@@ -56,7 +58,9 @@ pub record RanOver (by : Plan) (told : Bool) (catalog : Catalog) (database : Dat
   pub all_kept : end ≡ ends.Ok → KeepsLines before.files after.files name journal
   pub reasons : HaveReasons catalog texts journal (length texts) (λ reasons. TellsReasons end reasons) before.device.faults after.device.faults
   pub lines : HaveLines catalog texts journal reasons.reasons (handed false before.sink_faults before.written) (handed (is_sink end) after.sink_faults after.written)
+  pub are_told : AreTold catalog.schema texts lines.lines entries
   pub gives : told ≡ true → Gives catalog.schema database texts (session_side_in false before) (session_side_in (is_sink end) after)
+  pub same : (t : told ≡ true) → lines_in (gives t).given ≡ lines.lines
   pub printed_all : told ≡ true → end ≡ ends.Ok → after.written ≡ grown before.written (printed catalog.schema texts database)
   -- by the plan `pre`, where the flash does not fail, it is called no more often than the texts take
   pub few_calls : told ≡ true → by ≡ by_pre → (Rose before.device.faults after.device.faults → ⊥)

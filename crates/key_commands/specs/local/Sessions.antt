@@ -25,12 +25,14 @@ use Rattle.key_session.specs.Damages.{IsFirstDamaged, IsSlotOf, WasRead}
 use Rattle.key_exec.specs.declared.damage.Damage.{Damage}
 use Rattle.ghost_model.specs.core.Lines.{Reason}
 use Rattle.key_lines.specs.Handing.{handed}
+use Rattle.key_lines.specs.Told.{AreTold}
+use Rattle.key_lines.specs.declared.told.ToldText.{ToldText}
 use Rattle.key_session.specs.Counting.{is_flash, is_damage}
 use Rattle.key_session.specs.Reasons.{HaveReasons, HaveLines}
 use Rattle.key_session.specs.Telling.{SessionSide, session_side}
 use Rattle.key_inputs.specs.Outside.{Outside, Verdicts, Risen, Same, Untold, verdicts}
 use Rattle.key_words.specs.Words.{Local}
-use Rattle.key_commands.specs.local.Lines.{Gives, is_cut}
+use Rattle.key_commands.specs.local.Lines.{Gives, is_cut, lines_in}
 use Rattle.key_commands.specs.declared.local.ends.LocalEnd.{LocalEnd}
 use Rattle.key_commands.specs.declared.local.ends.LocalEnd.TheVariants as ends
 
@@ -98,7 +100,7 @@ pub record IsFirstSlot (by : Plan) (told : Bool) (page : ℕ → List ℕ) (cata
   pub slot : IsSlotOf by told page catalog texts place damage
 
 -- a session was held to its end
-pub record Ran (told : Bool) (one : Subject) (end : LocalEnd) (before after : Outside) : Type 0 where
+pub record Ran (told : Bool) (one : Subject) (end : LocalEnd) (before after : Outside) (entries : List ToldText) : Type 0 where
   pub journal : Journal
   pub is_local : IsLocal (catalog_in one) one.database [] one.texts journal
   pub finished : IsFinished journal
@@ -114,8 +116,12 @@ pub record Ran (told : Bool) (one : Subject) (end : LocalEnd) (before after : Ou
   -- each text has a reason that the journal allows, whatever the pages of the flash hold, and the lines of it, which were handed to the sink
   pub reasons : HaveReasons (catalog_in one) one.texts journal (length one.texts) (λ reasons. TellsReasons end reasons) before.device.faults after.device.faults
   pub lines : HaveLines (catalog_in one) one.texts journal reasons.reasons (handed false before.sink_faults before.written) (handed (is_sink end) after.sink_faults after.written)
+  -- each text is told by these lines
+  pub are_told : AreTold one.schema one.texts lines.lines entries
   -- each text has its lines, or a front of them where the flash failed
   pub gives : told ≡ true → Gives one.schema one.database one.texts (session_side_in false before) (session_side_in (is_sink end) after)
+  -- they are the same lines
+  pub same : (t : told ≡ true) → lines_in (gives t).given ≡ lines.lines
   pub printed_all : told ≡ true → end ≡ ends.Ok → after.written ≡ grown before.written (printed one.schema one.texts one.database)
   -- by the plan `pre`, where the flash does not fail, it is called no more often than the making and the texts take
   pub few_calls : told ≡ true → one.words.plan ≡ by_pre → (Rose before.device.faults after.device.faults → ⊥)

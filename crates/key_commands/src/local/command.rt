@@ -9,10 +9,10 @@ ghost use Rattle.key_inputs.specs.Outside.{HasCauses, outside};
 ghost use Rattle.key_inputs.specs.Whole.{WholeInput};
 ghost use Rattle.key_commands.specs.local.Openings.{local_opening};
 ghost use Rattle.key_commands.specs.local.Sessions.{SameBesides};
-ghost use Rattle.key_commands.specs.local.Results.{EndsLocalCall, EndsSomeLocal, is_failure, is_faultless, leaves_files, leaves_flash, told_by};
+ghost use Rattle.key_commands.specs.local.Results.{EndsLocalCall, EndsSomeLocal, is_failure, is_faultless, leaves_files, leaves_flash, ShowsNames, told_by};
 ghost use Rattle.key_commands.specs.declared.local.ends.LocalFailure.TheVariants as failure;
 
-use crate::local::ends::{LocalEnd, LocalFailure, failure_of};
+use crate::local::ends::{LocalFailure, LocalRun, failure_of};
 use crate::local::making::{begin_journal, make_flash};
 use crate::local::preparing::{Prepared, prepare};
 use crate::local::running::run;
@@ -39,11 +39,12 @@ pub fn local<D: Depot, F: Flash, O: Sink>(
     depot: &mut D,
     flash: &mut F,
     out: &mut O,
-) -> Result<LocalEnd, LocalFailure>
+) -> Result<LocalRun, LocalFailure>
     ensures ends { (files : Files) → D.contents depot.old ≡ Some files
         → EndsLocalCall F.told (local_opening files (local_view words.now)) (local_view words.now) result
         (outside (D.contents depot.old) (D.faults depot.old) (D.append_faults depot.old) (F.state flash.old) (O.written out.old) (O.faults out.old))
         (outside (D.contents depot.new) (D.faults depot.new) (D.append_faults depot.new) (F.state flash.new) (O.written out.new) (O.faults out.new)) }
+    ensures names { (files : Files) → D.contents depot.old ≡ Some files → ShowsNames files words.now.schema.now words.now.tables.now result }
     ensures ran { EndsSomeLocal F.told (local_view words.now) result
         (outside (D.contents depot.old) (D.faults depot.old) (D.append_faults depot.old) (F.state flash.old) (O.written out.old) (O.faults out.old))
         (outside (D.contents depot.new) (D.faults depot.new) (D.append_faults depot.new) (F.state flash.new) (O.written out.new) (O.faults out.new)) }

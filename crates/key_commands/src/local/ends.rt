@@ -4,6 +4,7 @@ ghost use Rattle.std.specs.Prelude.{◌≡◌};
 ghost use Rattle.key_commands.specs.local.Renaming.{as_failure};
 
 use key_inputs::{InputFault, OpenFault};
+use key_lines::ToldTexts;
 use key_session::Damage;
 use thiserror::Error;
 
@@ -29,6 +30,16 @@ pub enum LocalEnd {
     /// A slot of the flash has no value which may stand there.
     #[error("the flash is damaged: {0}")]
     Damaged(Damage),
+}
+
+/// A session that was held.
+#[derive(Clone, Copy, Drop)]
+pub struct LocalRun {
+    /// How it ended.
+    pub end: LocalEnd,
+
+    /// Of each text the rule by which it is refused, and the rows that were given.
+    pub told: ToldTexts,
 }
 
 /// Why there was no session: nothing was printed, and no move was made.

@@ -9,6 +9,7 @@ ghost use Rattle.ghost_model.specs.forms.Layout as layout;
 ghost use Rattle.edge_traits.specs.Devices.{ChangesOnly};
 ghost use Rattle.flash_layout.specs.Ranges.{Suffices};
 ghost use Rattle.key_exec.specs.Reading.{KnowsBy};
+ghost use Rattle.key_lines.specs.Told.{told_in};
 ghost use Rattle.page_pool.specs.Pools.{IsIdle};
 ghost use Rattle.key_inputs.specs.Outside.{HasCauses, Risen, Same, outside};
 ghost use Rattle.local_links.specs.Keeping.{named};
@@ -20,7 +21,7 @@ ghost use Rattle.key_exec.specs.declared.damage.Damage.{Damage};
 ghost use Rattle.key_commands.specs.declared.local.ends.LocalEnd.TheVariants as ends;
 ghost use Rattle.key_commands.specs.local.Sessions.{SameBesides, is_sink, told_by_end};
 
-use crate::local::ends::LocalEnd;
+use crate::local::ends::{LocalEnd, LocalRun};
 use crate::local::laws::told_texts_are_given;
 use edge_traits::depot::Depot;
 use edge_traits::flash::Flash;
@@ -76,7 +77,7 @@ fn hold<D: Depot, F: Flash, O: Sink>(
     flash: &mut F,
     link: &mut Journaled<'_, HostLink<MemDepot>, D>,
     out: &mut O,
-) -> LocalEnd
+) -> LocalRun
     requires few { length (texts_of script.now) ≤ 64 }
     requires suffices { Suffices cat.now (F.state flash.old) }
     requires idle { IsIdle pool.old }
@@ -87,12 +88,12 @@ fn hold<D: Depot, F: Flash, O: Sink>(
     ensures ran { (database : Database) → IsCatalogOf cat.now database
         → IsHosted ⟦<MemDepot as Depot>⟧.contents ⟦<MemDepot as Depot>⟧.sure (holding_of cat.now database) link.old.link.now
         → (F.told ≡ true → KnowsBy words.now.plan F.told (F.state flash.old).page cat.now database)
-        → RanOver words.now.plan F.told cat.now database (texts_of script.now) (named link.old) result
+        → RanOver words.now.plan F.told cat.now database (texts_of script.now) (named link.old) result.end
         (outside (D.contents link.old.depot.now) (D.faults link.old.depot.now) (D.append_faults link.old.depot.now) (F.state flash.old) (O.written out.old) (O.faults out.old))
-        (outside (D.contents link.new.depot.now) (D.faults link.new.depot.now) (D.append_faults link.new.depot.now) (F.state flash.new) (O.written out.new) (O.faults out.new)) }
+        (outside (D.contents link.new.depot.now) (D.faults link.new.depot.now) (D.append_faults link.new.depot.now) (F.state flash.new) (O.written out.new) (O.faults out.new)) (told_in result.told) }
     ensures pages { ChangesOnly (layout.static_end cat.now) (layout.need cat.now) (F.state flash.old) (F.state flash.new) }
     ensures others { SameBesides (named link.old) (D.contents link.old.depot.now) (D.contents link.new.depot.now) }
-    ensures causes { HasCauses (told_by_end result)
+    ensures causes { HasCauses (told_by_end result.end)
         (outside (D.contents link.old.depot.now) (D.faults link.old.depot.now) (D.append_faults link.old.depot.now) (F.state flash.old) (O.written out.old) (O.faults out.old))
         (outside (D.contents link.new.depot.now) (D.faults link.new.depot.now) (D.append_faults link.new.depot.now) (F.state flash.new) (O.written out.new) (O.faults out.new)) }
 {
@@ -111,7 +112,10 @@ fn hold<D: Depot, F: Flash, O: Sink>(
         pace: words.pace.as_slice(),
     };
     let tally = run_session(cat, script, &options, pool, flash, link, out);
-    end_of(tally.status, link.failed())
+    LocalRun {
+        end: end_of(tally.status, link.failed()),
+        told: tally.told,
+    }
 }
 
 /// Runs that session, and keeps its journal where a file is named for it.
@@ -124,7 +128,7 @@ pub(crate) fn run<D: Depot, F: Flash, O: Sink>(
     depot: &mut D,
     flash: &mut F,
     out: &mut O,
-) -> LocalEnd
+) -> LocalRun
     requires few { length (texts_of script.now) ≤ 64 }
     requires suffices { Suffices cat.now (F.state flash.old) }
     requires idle { IsIdle pool.old }
@@ -132,12 +136,12 @@ pub(crate) fn run<D: Depot, F: Flash, O: Sink>(
     ensures ran { (database : Database) → IsCatalogOf cat.now database
         → IsHosted ⟦<MemDepot as Depot>⟧.contents ⟦<MemDepot as Depot>⟧.sure (holding_of cat.now database) link.old
         → (F.told ≡ true → KnowsBy words.now.plan F.told (F.state flash.old).page cat.now database)
-        → RanOver words.now.plan F.told cat.now database (texts_of script.now) (local_view words.now).journal result
+        → RanOver words.now.plan F.told cat.now database (texts_of script.now) (local_view words.now).journal result.end
         (outside (D.contents depot.old) (D.faults depot.old) (D.append_faults depot.old) (F.state flash.old) (O.written out.old) (O.faults out.old))
-        (outside (D.contents depot.new) (D.faults depot.new) (D.append_faults depot.new) (F.state flash.new) (O.written out.new) (O.faults out.new)) }
+        (outside (D.contents depot.new) (D.faults depot.new) (D.append_faults depot.new) (F.state flash.new) (O.written out.new) (O.faults out.new)) (told_in result.told) }
     ensures pages { ChangesOnly (layout.static_end cat.now) (layout.need cat.now) (F.state flash.old) (F.state flash.new) }
     ensures others { SameBesides (local_view words.now).journal (D.contents depot.old) (D.contents depot.new) }
-    ensures causes { HasCauses (told_by_end result)
+    ensures causes { HasCauses (told_by_end result.end)
         (outside (D.contents depot.old) (D.faults depot.old) (D.append_faults depot.old) (F.state flash.old) (O.written out.old) (O.faults out.old))
         (outside (D.contents depot.new) (D.faults depot.new) (D.append_faults depot.new) (F.state flash.new) (O.written out.new) (O.faults out.new)) }
 {

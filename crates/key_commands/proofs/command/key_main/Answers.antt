@@ -4,12 +4,13 @@ use Rattle.key_commands.proofs.command.key_main.Goals as goal
 
 pub returns-in-Ok-Plain-clause-plain : goal.returns-in-Ok-Plain-clause-plain
 returns-in-Ok-Plain-clause-plain g c =
-    let did = c.plain.ensures in
+    let did = c.plain-outcome.ensures in
     record {
       words = plain_view c.in-Ok-Plain.words;
       said = search rules;
       did = record {
         ends = did.ends;
+        names = did.names;
         complete = did.complete;
         prints = did.prints;
         nothing_written = did.nothing_written;

@@ -10,7 +10,7 @@ use Rattle.edge_traits.specs.Files.{Files}
 use Rattle.key_inputs.specs.Openings.{Opening, TablesInput, tables_opening}
 use Rattle.key_inputs.specs.Views.{Tells, rule_in}
 use Rattle.key_inputs.specs.Naming.{IsShownBy, IsSpelledIn, OfTable}
-use Rattle.key_inputs.proofs.Showing.{one_schema, shown_of_keys}
+use Rattle.key_inputs.proofs.Showing.{one_schema, shown_of_keys, unlined}
 use Rattle.key_inputs.proofs.Telling.{keys_are_good, keys_are_told, never_missing, same_fault}
 use Rattle.key_inputs.specs.declared.faults.OpenFault.TheVariants as open_fault
 use Rattle.key_inputs.proofs.opening.open_tables.Goals as goal
@@ -78,17 +78,11 @@ returns-in_err-check_keys-clause-names g c =
     (shown_of_keys files c.args.folder.now c.in_ok-schema.schema read.read c.in_ok-tables.tables c.in_err-check_keys.field-0.0
     (read.files_read files (c.open_schema.ensures.same ∙ h)) read.spelled c.in_err-check_keys.ensures.judged
     c.in_err-check_keys.ensures.names c.in_err-check_keys.ensures.keys
-    (c.in_err-check_keys.ensures.line files (c.open_files.ensures.same ∙ (c.open_schema.ensures.same ∙ h)))) in
+    (unlined files c.args.folder.now c.in_ok-schema.schema c.in_err-check_keys.field-0.0 c.in_err-check_keys.ensures.line)) in
     rw (p.1, p.2) told
 
 pub returns-in_err-check_keys-clause-missing : goal.returns-in_err-check_keys-clause-missing
 returns-in_err-check_keys-clause-missing g c files h sure is =
     let p = err_from_is_err_and c.from_residual-in_err-check_keys.result c.from_residual-in_err-check_keys.ensures.1 in
-    let read = c.in_ok-tables.ensures.read in
     let failed = same_fault p.0 open_fault.Depot (sym p.1 ∙ is) in
-    let still = λ (name bytes : List ℕ) (there : map.get files name ≡ Some bytes).
-    c.open_files.ensures.stays_sure name (c.open_schema.ensures.stays_sure name (sure name bytes there)) in
-    never_missing (tables_opening files c.args.schema.now c.args.folder.now)
-    (c.in_err-check_keys.ensures.goes_well files (c.open_files.ensures.same ∙ (c.open_schema.ensures.same ∙ h)) still read.read
-    (read.files_read files (c.open_schema.ensures.same ∙ h))
-    (rw (← p.2) failed))
+    never_missing (tables_opening files c.args.schema.now c.args.folder.now) (c.in_err-check_keys.ensures.not_depot (rw (← p.2) failed))

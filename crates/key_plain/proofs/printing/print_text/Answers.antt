@@ -1,4 +1,7 @@
+use Rattle.std.proofs.Common.{ap, sym, refl}
 use Rattle.key_lines.specs.Handing.{Handed, handed}
+use Rattle.key_lines.specs.Told.{refusal_in}
+use Rattle.key_plain.proofs.ToldTexts.{answered, unfailed}
 use Rattle.plain_eval.specs.Answers.{IsMeantBySome}
 use Rattle.key_plain.proofs.HandingOn.{text_answered}
 use Rattle.key_plain.proofs.printing.print_text.Goals as goal
@@ -14,4 +17,7 @@ returns-in-Ok g c =
       handed = text_answered c.pieces_join.ensures c.args.schema.now c.args.tables.now c.args.number c.args.text.now meant.meant meant.reads
           c.begin-answer.result (c.begin-answer.ensures.answer some c.requires.database) c.print_rows-rows.result before between now
           c.print_rows-rows.ensures.count c.print_rows-rows.ensures.handed c.count.ensures.handed;
+      rule = sym (ap refusal_in meant.reads);
+      told = λ fine. answered c.args.schema.now c.args.tables.now c.args.number c.args.text.now meant.meant meant.reads
+          c.begin-answer.result (c.begin-answer.ensures.answer some c.requires.database) c.print_rows-rows.result (c.print_rows-rows.ensures.count (unfailed between now c.count.ensures.handed fine)) _ refl refl;
     }

@@ -57,7 +57,7 @@ returns-in-Ended-clause-prints g c =
     let last = last_of c.steps_take_few_calls.ensures c.later_texts_are_unmarked.ensures.unmarked c.knowledge_is_enough.ensures.enough c.damage_is_never_met.ensures.never c.honest_sessions_are_smooth.ensures c.honest_lines_are_printed.ensures c.closed_is_finished.ensures.finished c.args.cat.now c.a_catalog_is_short.ensures.catalog c.a_catalog_has_a_layout.ensures.layout.tree (texts_of c.args.script.now) c.requires.few
     (λ journal. g.L.Link.went c.args.link.now journal c.steps.link) (g.L.Link.faults c.args.link.now) (g.L.Link.faults c.steps.link) c.args.options.now.plan g.F.Flash.told c.args.options.now.at.now
     (session_side false (g.O.Sink.faults c.args.out.now) (g.O.Sink.written c.args.out.now) (g.F.Flash.state c.args.flash.now)) (g.O.Sink.faults c.steps.out) (g.O.Sink.written c.steps.out) (g.F.Flash.state c.steps.flash) c.steps.pool c.steps.session c.tally.result
-    c.steps.invariant.1 c.steps.invariant.2 c.steps.invariant.4 (c.due.ensures.closed c.in-Ended.is) (c.due.ensures.none c.in-Ended.is) c.tally.ensures.texts c.tally.ensures.refused c.tally.ensures.faulted c.tally.ensures.status in
+    c.steps.invariant.1 c.steps.invariant.2 c.steps.invariant.4 (c.due.ensures.closed c.in-Ended.is) (c.due.ensures.none c.in-Ended.is) c.tally.ensures.texts c.tally.ensures.refused c.tally.ensures.faulted c.tally.ensures.told c.tally.ensures.status in
     subst (λ (failed : Bool). PrintsSome (handed false (g.O.Sink.faults c.args.out.now) (g.O.Sink.written c.args.out.now)) (handed failed (g.O.Sink.faults c.steps.out) (g.O.Sink.written c.steps.out))) (sym c.tally.ensures.sink) last.prints
 
 pub returns-in-Ended-clause-idle : goal.returns-in-Ended-clause-idle
@@ -72,7 +72,7 @@ returns-in-Ended-clause-texts g c =
     let last = last_of c.steps_take_few_calls.ensures c.later_texts_are_unmarked.ensures.unmarked c.knowledge_is_enough.ensures.enough c.damage_is_never_met.ensures.never c.honest_sessions_are_smooth.ensures c.honest_lines_are_printed.ensures c.closed_is_finished.ensures.finished c.args.cat.now c.a_catalog_is_short.ensures.catalog c.a_catalog_has_a_layout.ensures.layout.tree (texts_of c.args.script.now) c.requires.few
     (λ journal. g.L.Link.went c.args.link.now journal c.steps.link) (g.L.Link.faults c.args.link.now) (g.L.Link.faults c.steps.link) c.args.options.now.plan g.F.Flash.told c.args.options.now.at.now
     (session_side false (g.O.Sink.faults c.args.out.now) (g.O.Sink.written c.args.out.now) (g.F.Flash.state c.args.flash.now)) (g.O.Sink.faults c.steps.out) (g.O.Sink.written c.steps.out) (g.F.Flash.state c.steps.flash) c.steps.pool c.steps.session c.tally.result
-    c.steps.invariant.1 c.steps.invariant.2 c.steps.invariant.4 (c.due.ensures.closed c.in-Ended.is) (c.due.ensures.none c.in-Ended.is) c.tally.ensures.texts c.tally.ensures.refused c.tally.ensures.faulted c.tally.ensures.status in
+    c.steps.invariant.1 c.steps.invariant.2 c.steps.invariant.4 (c.due.ensures.closed c.in-Ended.is) (c.due.ensures.none c.in-Ended.is) c.tally.ensures.texts c.tally.ensures.refused c.tally.ensures.faulted c.tally.ensures.told c.tally.ensures.status in
     last.many
 
 pub returns-in-Ended-clause-sink_same : goal.returns-in-Ended-clause-sink_same
@@ -80,7 +80,7 @@ returns-in-Ended-clause-sink_same g c =
     let last = last_of c.steps_take_few_calls.ensures c.later_texts_are_unmarked.ensures.unmarked c.knowledge_is_enough.ensures.enough c.damage_is_never_met.ensures.never c.honest_sessions_are_smooth.ensures c.honest_lines_are_printed.ensures c.closed_is_finished.ensures.finished c.args.cat.now c.a_catalog_is_short.ensures.catalog c.a_catalog_has_a_layout.ensures.layout.tree (texts_of c.args.script.now) c.requires.few
     (λ journal. g.L.Link.went c.args.link.now journal c.steps.link) (g.L.Link.faults c.args.link.now) (g.L.Link.faults c.steps.link) c.args.options.now.plan g.F.Flash.told c.args.options.now.at.now
     (session_side false (g.O.Sink.faults c.args.out.now) (g.O.Sink.written c.args.out.now) (g.F.Flash.state c.args.flash.now)) (g.O.Sink.faults c.steps.out) (g.O.Sink.written c.steps.out) (g.F.Flash.state c.steps.flash) c.steps.pool c.steps.session c.tally.result
-    c.steps.invariant.1 c.steps.invariant.2 c.steps.invariant.4 (c.due.ensures.closed c.in-Ended.is) (c.due.ensures.none c.in-Ended.is) c.tally.ensures.texts c.tally.ensures.refused c.tally.ensures.faulted c.tally.ensures.status in
+    c.steps.invariant.1 c.steps.invariant.2 c.steps.invariant.4 (c.due.ensures.closed c.in-Ended.is) (c.due.ensures.none c.in-Ended.is) c.tally.ensures.texts c.tally.ensures.refused c.tally.ensures.faulted c.tally.ensures.told c.tally.ensures.status in
     λ e. (last.prints.handed.whole (sym c.tally.ensures.sink ∙ e)).faults
 
 pub returns-in-Ended-clause-flash_called : goal.returns-in-Ended-clause-flash_called
@@ -88,7 +88,7 @@ returns-in-Ended-clause-flash_called g c =
     let last = last_of c.steps_take_few_calls.ensures c.later_texts_are_unmarked.ensures.unmarked c.knowledge_is_enough.ensures.enough c.damage_is_never_met.ensures.never c.honest_sessions_are_smooth.ensures c.honest_lines_are_printed.ensures c.closed_is_finished.ensures.finished c.args.cat.now c.a_catalog_is_short.ensures.catalog c.a_catalog_has_a_layout.ensures.layout.tree (texts_of c.args.script.now) c.requires.few
     (λ journal. g.L.Link.went c.args.link.now journal c.steps.link) (g.L.Link.faults c.args.link.now) (g.L.Link.faults c.steps.link) c.args.options.now.plan g.F.Flash.told c.args.options.now.at.now
     (session_side false (g.O.Sink.faults c.args.out.now) (g.O.Sink.written c.args.out.now) (g.F.Flash.state c.args.flash.now)) (g.O.Sink.faults c.steps.out) (g.O.Sink.written c.steps.out) (g.F.Flash.state c.steps.flash) c.steps.pool c.steps.session c.tally.result
-    c.steps.invariant.1 c.steps.invariant.2 c.steps.invariant.4 (c.due.ensures.closed c.in-Ended.is) (c.due.ensures.none c.in-Ended.is) c.tally.ensures.texts c.tally.ensures.refused c.tally.ensures.faulted c.tally.ensures.status in
+    c.steps.invariant.1 c.steps.invariant.2 c.steps.invariant.4 (c.due.ensures.closed c.in-Ended.is) (c.due.ensures.none c.in-Ended.is) c.tally.ensures.texts c.tally.ensures.refused c.tally.ensures.faulted c.tally.ensures.told c.tally.ensures.status in
     last.called
 
 pub returns-in-Ended-clause-damage_called : goal.returns-in-Ended-clause-damage_called
@@ -96,7 +96,7 @@ returns-in-Ended-clause-damage_called g c =
     let last = last_of c.steps_take_few_calls.ensures c.later_texts_are_unmarked.ensures.unmarked c.knowledge_is_enough.ensures.enough c.damage_is_never_met.ensures.never c.honest_sessions_are_smooth.ensures c.honest_lines_are_printed.ensures c.closed_is_finished.ensures.finished c.args.cat.now c.a_catalog_is_short.ensures.catalog c.a_catalog_has_a_layout.ensures.layout.tree (texts_of c.args.script.now) c.requires.few
     (λ journal. g.L.Link.went c.args.link.now journal c.steps.link) (g.L.Link.faults c.args.link.now) (g.L.Link.faults c.steps.link) c.args.options.now.plan g.F.Flash.told c.args.options.now.at.now
     (session_side false (g.O.Sink.faults c.args.out.now) (g.O.Sink.written c.args.out.now) (g.F.Flash.state c.args.flash.now)) (g.O.Sink.faults c.steps.out) (g.O.Sink.written c.steps.out) (g.F.Flash.state c.steps.flash) c.steps.pool c.steps.session c.tally.result
-    c.steps.invariant.1 c.steps.invariant.2 c.steps.invariant.4 (c.due.ensures.closed c.in-Ended.is) (c.due.ensures.none c.in-Ended.is) c.tally.ensures.texts c.tally.ensures.refused c.tally.ensures.faulted c.tally.ensures.status in
+    c.steps.invariant.1 c.steps.invariant.2 c.steps.invariant.4 (c.due.ensures.closed c.in-Ended.is) (c.due.ensures.none c.in-Ended.is) c.tally.ensures.texts c.tally.ensures.refused c.tally.ensures.faulted c.tally.ensures.told c.tally.ensures.status in
     last.damage_called
 
 pub returns-in-Ended-clause-flash_rose : goal.returns-in-Ended-clause-flash_rose
@@ -104,7 +104,7 @@ returns-in-Ended-clause-flash_rose g c =
     let last = last_of c.steps_take_few_calls.ensures c.later_texts_are_unmarked.ensures.unmarked c.knowledge_is_enough.ensures.enough c.damage_is_never_met.ensures.never c.honest_sessions_are_smooth.ensures c.honest_lines_are_printed.ensures c.closed_is_finished.ensures.finished c.args.cat.now c.a_catalog_is_short.ensures.catalog c.a_catalog_has_a_layout.ensures.layout.tree (texts_of c.args.script.now) c.requires.few
     (λ journal. g.L.Link.went c.args.link.now journal c.steps.link) (g.L.Link.faults c.args.link.now) (g.L.Link.faults c.steps.link) c.args.options.now.plan g.F.Flash.told c.args.options.now.at.now
     (session_side false (g.O.Sink.faults c.args.out.now) (g.O.Sink.written c.args.out.now) (g.F.Flash.state c.args.flash.now)) (g.O.Sink.faults c.steps.out) (g.O.Sink.written c.steps.out) (g.F.Flash.state c.steps.flash) c.steps.pool c.steps.session c.tally.result
-    c.steps.invariant.1 c.steps.invariant.2 c.steps.invariant.4 (c.due.ensures.closed c.in-Ended.is) (c.due.ensures.none c.in-Ended.is) c.tally.ensures.texts c.tally.ensures.refused c.tally.ensures.faulted c.tally.ensures.status in
+    c.steps.invariant.1 c.steps.invariant.2 c.steps.invariant.4 (c.due.ensures.closed c.in-Ended.is) (c.due.ensures.none c.in-Ended.is) c.tally.ensures.texts c.tally.ensures.refused c.tally.ensures.faulted c.tally.ensures.told c.tally.ensures.status in
     λ e. flash_rose last.ran e
 
 pub returns-in-Ended-clause-flash_same : goal.returns-in-Ended-clause-flash_same
@@ -112,7 +112,7 @@ returns-in-Ended-clause-flash_same g c =
     let last = last_of c.steps_take_few_calls.ensures c.later_texts_are_unmarked.ensures.unmarked c.knowledge_is_enough.ensures.enough c.damage_is_never_met.ensures.never c.honest_sessions_are_smooth.ensures c.honest_lines_are_printed.ensures c.closed_is_finished.ensures.finished c.args.cat.now c.a_catalog_is_short.ensures.catalog c.a_catalog_has_a_layout.ensures.layout.tree (texts_of c.args.script.now) c.requires.few
     (λ journal. g.L.Link.went c.args.link.now journal c.steps.link) (g.L.Link.faults c.args.link.now) (g.L.Link.faults c.steps.link) c.args.options.now.plan g.F.Flash.told c.args.options.now.at.now
     (session_side false (g.O.Sink.faults c.args.out.now) (g.O.Sink.written c.args.out.now) (g.F.Flash.state c.args.flash.now)) (g.O.Sink.faults c.steps.out) (g.O.Sink.written c.steps.out) (g.F.Flash.state c.steps.flash) c.steps.pool c.steps.session c.tally.result
-    c.steps.invariant.1 c.steps.invariant.2 c.steps.invariant.4 (c.due.ensures.closed c.in-Ended.is) (c.due.ensures.none c.in-Ended.is) c.tally.ensures.texts c.tally.ensures.refused c.tally.ensures.faulted c.tally.ensures.status in
+    c.steps.invariant.1 c.steps.invariant.2 c.steps.invariant.4 (c.due.ensures.closed c.in-Ended.is) (c.due.ensures.none c.in-Ended.is) c.tally.ensures.texts c.tally.ensures.refused c.tally.ensures.faulted c.tally.ensures.told c.tally.ensures.status in
     λ e. flash_same last.ran c.texts_have_outcomes.ensures e
 
 pub returns-in-Ended-clause-sink_rose : goal.returns-in-Ended-clause-sink_rose
@@ -120,7 +120,7 @@ returns-in-Ended-clause-sink_rose g c =
     let last = last_of c.steps_take_few_calls.ensures c.later_texts_are_unmarked.ensures.unmarked c.knowledge_is_enough.ensures.enough c.damage_is_never_met.ensures.never c.honest_sessions_are_smooth.ensures c.honest_lines_are_printed.ensures c.closed_is_finished.ensures.finished c.args.cat.now c.a_catalog_is_short.ensures.catalog c.a_catalog_has_a_layout.ensures.layout.tree (texts_of c.args.script.now) c.requires.few
     (λ journal. g.L.Link.went c.args.link.now journal c.steps.link) (g.L.Link.faults c.args.link.now) (g.L.Link.faults c.steps.link) c.args.options.now.plan g.F.Flash.told c.args.options.now.at.now
     (session_side false (g.O.Sink.faults c.args.out.now) (g.O.Sink.written c.args.out.now) (g.F.Flash.state c.args.flash.now)) (g.O.Sink.faults c.steps.out) (g.O.Sink.written c.steps.out) (g.F.Flash.state c.steps.flash) c.steps.pool c.steps.session c.tally.result
-    c.steps.invariant.1 c.steps.invariant.2 c.steps.invariant.4 (c.due.ensures.closed c.in-Ended.is) (c.due.ensures.none c.in-Ended.is) c.tally.ensures.texts c.tally.ensures.refused c.tally.ensures.faulted c.tally.ensures.status in
+    c.steps.invariant.1 c.steps.invariant.2 c.steps.invariant.4 (c.due.ensures.closed c.in-Ended.is) (c.due.ensures.none c.in-Ended.is) c.tally.ensures.texts c.tally.ensures.refused c.tally.ensures.faulted c.tally.ensures.told c.tally.ensures.status in
     λ e. last.prints.handed.rose refl (sym c.tally.ensures.sink ∙ e)
 
 pub returns-in-Ended-clause-pages : goal.returns-in-Ended-clause-pages
@@ -128,7 +128,7 @@ returns-in-Ended-clause-pages g c =
     let last = last_of c.steps_take_few_calls.ensures c.later_texts_are_unmarked.ensures.unmarked c.knowledge_is_enough.ensures.enough c.damage_is_never_met.ensures.never c.honest_sessions_are_smooth.ensures c.honest_lines_are_printed.ensures c.closed_is_finished.ensures.finished c.args.cat.now c.a_catalog_is_short.ensures.catalog c.a_catalog_has_a_layout.ensures.layout.tree (texts_of c.args.script.now) c.requires.few
     (λ journal. g.L.Link.went c.args.link.now journal c.steps.link) (g.L.Link.faults c.args.link.now) (g.L.Link.faults c.steps.link) c.args.options.now.plan g.F.Flash.told c.args.options.now.at.now
     (session_side false (g.O.Sink.faults c.args.out.now) (g.O.Sink.written c.args.out.now) (g.F.Flash.state c.args.flash.now)) (g.O.Sink.faults c.steps.out) (g.O.Sink.written c.steps.out) (g.F.Flash.state c.steps.flash) c.steps.pool c.steps.session c.tally.result
-    c.steps.invariant.1 c.steps.invariant.2 c.steps.invariant.4 (c.due.ensures.closed c.in-Ended.is) (c.due.ensures.none c.in-Ended.is) c.tally.ensures.texts c.tally.ensures.refused c.tally.ensures.faulted c.tally.ensures.status in
+    c.steps.invariant.1 c.steps.invariant.2 c.steps.invariant.4 (c.due.ensures.closed c.in-Ended.is) (c.due.ensures.none c.in-Ended.is) c.tally.ensures.texts c.tally.ensures.refused c.tally.ensures.faulted c.tally.ensures.told c.tally.ensures.status in
     last.pages
 
 pub returns-in-Ended-clause-flash_calls : goal.returns-in-Ended-clause-flash_calls
@@ -136,7 +136,7 @@ returns-in-Ended-clause-flash_calls g c =
     let last = last_of c.steps_take_few_calls.ensures c.later_texts_are_unmarked.ensures.unmarked c.knowledge_is_enough.ensures.enough c.damage_is_never_met.ensures.never c.honest_sessions_are_smooth.ensures c.honest_lines_are_printed.ensures c.closed_is_finished.ensures.finished c.args.cat.now c.a_catalog_is_short.ensures.catalog c.a_catalog_has_a_layout.ensures.layout.tree (texts_of c.args.script.now) c.requires.few
     (λ journal. g.L.Link.went c.args.link.now journal c.steps.link) (g.L.Link.faults c.args.link.now) (g.L.Link.faults c.steps.link) c.args.options.now.plan g.F.Flash.told c.args.options.now.at.now
     (session_side false (g.O.Sink.faults c.args.out.now) (g.O.Sink.written c.args.out.now) (g.F.Flash.state c.args.flash.now)) (g.O.Sink.faults c.steps.out) (g.O.Sink.written c.steps.out) (g.F.Flash.state c.steps.flash) c.steps.pool c.steps.session c.tally.result
-    c.steps.invariant.1 c.steps.invariant.2 c.steps.invariant.4 (c.due.ensures.closed c.in-Ended.is) (c.due.ensures.none c.in-Ended.is) c.tally.ensures.texts c.tally.ensures.refused c.tally.ensures.faulted c.tally.ensures.status in
+    c.steps.invariant.1 c.steps.invariant.2 c.steps.invariant.4 (c.due.ensures.closed c.in-Ended.is) (c.due.ensures.none c.in-Ended.is) c.tally.ensures.texts c.tally.ensures.refused c.tally.ensures.faulted c.tally.ensures.told c.tally.ensures.status in
     last.calls
 
 pub returns-in-Ended-clause-flash_faults : goal.returns-in-Ended-clause-flash_faults
@@ -144,7 +144,7 @@ returns-in-Ended-clause-flash_faults g c =
     let last = last_of c.steps_take_few_calls.ensures c.later_texts_are_unmarked.ensures.unmarked c.knowledge_is_enough.ensures.enough c.damage_is_never_met.ensures.never c.honest_sessions_are_smooth.ensures c.honest_lines_are_printed.ensures c.closed_is_finished.ensures.finished c.args.cat.now c.a_catalog_is_short.ensures.catalog c.a_catalog_has_a_layout.ensures.layout.tree (texts_of c.args.script.now) c.requires.few
     (λ journal. g.L.Link.went c.args.link.now journal c.steps.link) (g.L.Link.faults c.args.link.now) (g.L.Link.faults c.steps.link) c.args.options.now.plan g.F.Flash.told c.args.options.now.at.now
     (session_side false (g.O.Sink.faults c.args.out.now) (g.O.Sink.written c.args.out.now) (g.F.Flash.state c.args.flash.now)) (g.O.Sink.faults c.steps.out) (g.O.Sink.written c.steps.out) (g.F.Flash.state c.steps.flash) c.steps.pool c.steps.session c.tally.result
-    c.steps.invariant.1 c.steps.invariant.2 c.steps.invariant.4 (c.due.ensures.closed c.in-Ended.is) (c.due.ensures.none c.in-Ended.is) c.tally.ensures.texts c.tally.ensures.refused c.tally.ensures.faulted c.tally.ensures.status in
+    c.steps.invariant.1 c.steps.invariant.2 c.steps.invariant.4 (c.due.ensures.closed c.in-Ended.is) (c.due.ensures.none c.in-Ended.is) c.tally.ensures.texts c.tally.ensures.refused c.tally.ensures.faulted c.tally.ensures.told c.tally.ensures.status in
     last.faults
 
 pub returns-in-Ended-clause-ran : goal.returns-in-Ended-clause-ran
@@ -152,7 +152,7 @@ returns-in-Ended-clause-ran g c =
     let last = last_of c.steps_take_few_calls.ensures c.later_texts_are_unmarked.ensures.unmarked c.knowledge_is_enough.ensures.enough c.damage_is_never_met.ensures.never c.honest_sessions_are_smooth.ensures c.honest_lines_are_printed.ensures c.closed_is_finished.ensures.finished c.args.cat.now c.a_catalog_is_short.ensures.catalog c.a_catalog_has_a_layout.ensures.layout.tree (texts_of c.args.script.now) c.requires.few
     (λ journal. g.L.Link.went c.args.link.now journal c.steps.link) (g.L.Link.faults c.args.link.now) (g.L.Link.faults c.steps.link) c.args.options.now.plan g.F.Flash.told c.args.options.now.at.now
     (session_side false (g.O.Sink.faults c.args.out.now) (g.O.Sink.written c.args.out.now) (g.F.Flash.state c.args.flash.now)) (g.O.Sink.faults c.steps.out) (g.O.Sink.written c.steps.out) (g.F.Flash.state c.steps.flash) c.steps.pool c.steps.session c.tally.result
-    c.steps.invariant.1 c.steps.invariant.2 c.steps.invariant.4 (c.due.ensures.closed c.in-Ended.is) (c.due.ensures.none c.in-Ended.is) c.tally.ensures.texts c.tally.ensures.refused c.tally.ensures.faulted c.tally.ensures.status in
+    c.steps.invariant.1 c.steps.invariant.2 c.steps.invariant.4 (c.due.ensures.closed c.in-Ended.is) (c.due.ensures.none c.in-Ended.is) c.tally.ensures.texts c.tally.ensures.refused c.tally.ensures.faulted c.tally.ensures.told c.tally.ensures.status in
     subst (λ (failed : Bool). HasRun (λ journal. g.L.Link.went c.args.link.now journal c.steps.link) (g.L.Link.faults c.args.link.now) (g.L.Link.faults c.steps.link) c.args.options.now.plan g.F.Flash.told c.args.cat.now c.args.options.now.at.now (texts_of c.args.script.now)
     (session_side false (g.O.Sink.faults c.args.out.now) (g.O.Sink.written c.args.out.now) (g.F.Flash.state c.args.flash.now)) (session_side failed (g.O.Sink.faults c.steps.out) (g.O.Sink.written c.steps.out) (g.F.Flash.state c.steps.flash)) c.tally.result) (sym c.tally.ensures.sink)
     last.ran

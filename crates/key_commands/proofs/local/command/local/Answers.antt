@@ -10,6 +10,7 @@ use Rattle.edge_traits.specs.Files.{Files}
 use Rattle.key_words.specs.Views.{local_view}
 use Rattle.key_inputs.specs.Outside.{HasCauses, outside}
 use Rattle.key_inputs.proofs.Causes.{stays, rises, causes_since}
+use Rattle.key_lines.specs.Told.{told_in}
 use Rattle.key_commands.specs.local.Openings.{local_opening}
 use Rattle.key_commands.specs.local.Results.{EndsLocal, told_by}
 use Rattle.key_commands.specs.local.Sessions.{SameBesides, subject, told_by_end}
@@ -17,7 +18,7 @@ use Rattle.key_commands.specs.declared.local.ends.LocalFailure.TheVariants as fa
 use Rattle.key_commands.proofs.local_lemmas.Causing.{same_fault, unmade_causes}
 use Rattle.key_commands.proofs.local_lemmas.Endings.{part_stands, made_of, ran_of, unmade, ends_spelled, ends_some, faultless}
 use Rattle.key_commands.proofs.local_lemmas.Keeping.{besides_joined}
-use Rattle.key_commands.proofs.local_lemmas.Renamed.{unread, unread_some}
+use Rattle.key_commands.proofs.local_lemmas.Renamed.{unread, unread_some, names_shown}
 use Rattle.key_commands.proofs.local.command.local.Goals as goal
 
 pub returns-in-Err-clause-ends : goal.returns-in-Err-clause-ends
@@ -28,6 +29,10 @@ returns-in-Err-clause-ends g c = λ files held.
     (unread g.F.Flash.told (local_opening files words) words before
     (outside (g.D.Depot.contents c.open_inputs.new.depot) (g.D.Depot.faults c.open_inputs.new.depot) (g.D.Depot.append_faults c.open_inputs.new.depot) (g.F.Flash.state c.args.flash.now) (g.O.Sink.written c.args.out.now) (g.O.Sink.faults c.args.out.now))
     c.in-Err.fault (record { device = refl; files = c.in-Err.ensures.same }) (c.in-Err.ensures.told files held))
+
+pub returns-in-Err-clause-names : goal.returns-in-Err-clause-names
+returns-in-Err-clause-names g c = λ files held.
+    rw c.failure_of.ensures (names_shown files c.args.words.now.schema.now c.args.words.now.tables.now c.in-Err.fault (c.in-Err.ensures.names files held))
 
 pub returns-in-Err-clause-ran : goal.returns-in-Err-clause-ran
 returns-in-Err-clause-ran g c =
@@ -144,7 +149,7 @@ returns-clause-ends g c = λ files told.
     let limited = c.catalogs_are_limited.ensures cat was.stored.proper in
     let ended : EndsLocal g.F.Flash.told (subject schema database (texts_of opened.script.items) words) (Ok c.run.result) before after =
     subst (λ (script : List ℕ). EndsLocal g.F.Flash.told (subject schema database (texts_of script) words) (Ok c.run.result) before after) c.deref.ensures.value
-    (ran_of g.F.Flash.told schema database (texts_of c.deref.result.now) words c.run.result cat before middle after was.cat
+    (ran_of g.F.Flash.told schema database (texts_of c.deref.result.now) words c.run.result.end (told_in c.run.result.told) cat before middle after was.cat
     (c.run.ensures.ran database was.stored was.hosted (λ t.
     c.held_pages_are_known.ensures.known c.args.words.now.plan g.F.Flash.told page cat database t was.stored.is_database was.stored.counts_are limited
     (part_stands page cat schema database prepared.hidden was.cat was.hidden (made.holds t)).files))
@@ -171,7 +176,7 @@ returns-clause-ran g c =
     let limited = c.catalogs_are_limited.ensures cat was.stored.proper in
     let ended : EndsLocal g.F.Flash.told (subject schema database (texts_of opened.script.items) words) (Ok c.run.result) before after =
     subst (λ (script : List ℕ). EndsLocal g.F.Flash.told (subject schema database (texts_of script) words) (Ok c.run.result) before after) c.deref.ensures.value
-    (ran_of g.F.Flash.told schema database (texts_of c.deref.result.now) words c.run.result cat before middle after was.cat
+    (ran_of g.F.Flash.told schema database (texts_of c.deref.result.now) words c.run.result.end (told_in c.run.result.told) cat before middle after was.cat
     (c.run.ensures.ran database was.stored was.hosted (λ t.
     c.held_pages_are_known.ensures.known c.args.words.now.plan g.F.Flash.told page cat database t was.stored.is_database was.stored.counts_are limited
     (part_stands page cat schema database prepared.hidden was.cat was.hidden (made.holds t)).files))
@@ -198,7 +203,7 @@ returns-clause-complete g c = λ files input held no_depot no_flash no_sink spel
     let limited = c.catalogs_are_limited.ensures cat was.stored.proper in
     let ended : EndsLocal g.F.Flash.told (subject schema database (texts_of opened.script.items) words) (Ok c.run.result) before after =
     subst (λ (script : List ℕ). EndsLocal g.F.Flash.told (subject schema database (texts_of script) words) (Ok c.run.result) before after) c.deref.ensures.value
-    (ran_of g.F.Flash.told schema database (texts_of c.deref.result.now) words c.run.result cat before middle after was.cat
+    (ran_of g.F.Flash.told schema database (texts_of c.deref.result.now) words c.run.result.end (told_in c.run.result.told) cat before middle after was.cat
     (c.run.ensures.ran database was.stored was.hosted (λ t.
     c.held_pages_are_known.ensures.known c.args.words.now.plan g.F.Flash.told page cat database t was.stored.is_database was.stored.counts_are limited
     (part_stands page cat schema database prepared.hidden was.cat was.hidden (made.holds t)).files))
@@ -207,7 +212,7 @@ returns-clause-complete g c = λ files input held no_depot no_flash no_sink spel
     (λ t. subst (Holds page cat) was.hidden (made.holds t)) made.pages c.run.ensures.pages
     c.holdings_are_kept.ensures limited.tree (c.files_lie_in_order.ensures cat)) in
     let causes : HasCauses (told_by (Ok c.run.result)) before after =
-    causes_since (told_by_end c.run.result) before middle after refl (c.in-Ok-begin_journal.ensures.cause.other ∙ c.in-Ok.ensures.other (λ e. let bad : ⊥ = cc in bad))
+    causes_since (told_by_end c.run.result.end) before middle after refl (c.in-Ok-begin_journal.ensures.cause.other ∙ c.in-Ok.ensures.other (λ e. let bad : ⊥ = cc in bad))
     (c.begin_journal.ensures.appends ∙ c.in-Ok.ensures.appends) (c.in_ok-make_flash.ensures.no_flash (λ e. let bad : ⊥ = cc in bad)) c.run.ensures.causes in
     faultless g.F.Flash.told (subject schema database (texts_of opened.script.items) words) (Ok c.run.result) before after ended
     (λ e. no_depot (causes.depot.rose e)) (λ e. no_flash (causes.flash.rose e)) (λ e. no_sink (causes.sink.rose e))
@@ -218,7 +223,7 @@ returns-clause-causes g c =
     let middle = outside (g.D.Depot.contents c.begin_journal.new.depot) (g.D.Depot.faults c.begin_journal.new.depot) (g.D.Depot.append_faults c.begin_journal.new.depot) (g.F.Flash.state c.make_flash.new.flash) (g.O.Sink.written c.args.out.now) (g.O.Sink.faults c.args.out.now) in
     let after = outside (g.D.Depot.contents c.run.new.depot) (g.D.Depot.faults c.run.new.depot) (g.D.Depot.append_faults c.run.new.depot) (g.F.Flash.state c.run.new.flash) (g.O.Sink.written c.run.new.out) (g.O.Sink.faults c.run.new.out) in
     let causes : HasCauses (told_by (Ok c.run.result)) before after =
-    causes_since (told_by_end c.run.result) before middle after refl (c.in-Ok-begin_journal.ensures.cause.other ∙ c.in-Ok.ensures.other (λ e. let bad : ⊥ = cc in bad))
+    causes_since (told_by_end c.run.result.end) before middle after refl (c.in-Ok-begin_journal.ensures.cause.other ∙ c.in-Ok.ensures.other (λ e. let bad : ⊥ = cc in bad))
     (c.begin_journal.ensures.appends ∙ c.in-Ok.ensures.appends) (c.in_ok-make_flash.ensures.no_flash (λ e. let bad : ⊥ = cc in bad)) c.run.ensures.causes in
     causes
 

@@ -51,7 +51,8 @@ returns-clause-ran g c = λ database stored hosted known.
       answers = ran.answers database (c.knowledge_is_enough.ensures.enough c.args.words.now.plan g.F.Flash.told (g.F.Flash.state c.args.flash.now).page cat database (c.catalogs_are_limited.ensures cat is).tree knows);
       undamaged = ran.undamaged database knows;
     })
-    ran.reasons ran.lines
+    ran.reasons ran.lines ran.are_told
+    (λ t. ran.same database (c.knowledge_is_enough.ensures.enough c.args.words.now.plan g.F.Flash.told (g.F.Flash.state c.args.flash.now).page cat database (c.catalogs_are_limited.ensures cat is).tree (known t)))
     (λ damage is.
     first_slot c.args.words.now.plan g.F.Flash.told (g.F.Flash.state c.args.flash.now).page cat texts ran.reasons.reasons ran.reasons.counted.damage damage ran.reasons.counted.first
     (damage_is (is_sink c.run_session-tally.result.status) (standing_after cat (asked_of cat.schema texts) ran.journal) (list_any is_flash ran.reasons.reasons) ran.reasons.counted.damage damage

@@ -12,6 +12,7 @@ returns-clause-ended c =
       running = refl;
       counted = c.add.ensures.counted;
       first = c.add.ensures.first;
+      told = c.add.ensures.told;
     }
 
 pub returns-clause-unbegun : goal.returns-clause-unbegun

@@ -9,6 +9,7 @@ use Rattle.key_lines.specs.Handing.{handed}
 use Rattle.key_lines.specs.declared.printer.Printer.{Printer}
 use Rattle.key_session.specs.Kept.{is_lost, lease_of}
 use Rattle.key_exec.specs.Telling as lines
+use Rattle.key_lines.specs.declared.told.ToldText.{ToldText}
 use Rattle.key_exec.specs.Telling.{HasTold}
 use Rattle.key_exec.specs.Rows.{TakesTurn}
 use Rattle.key_session.specs.Telling.{session_side}
@@ -47,11 +48,13 @@ returns-in-Some-step-clause-told g c = λ plan cat texts journal since pump repl
     c.in-Some.telling c.step.new.self c.in-Some.is begun keeps c.step.ensures.number c.step.ensures.others c.step.ensures.kept_others run.1 in
     was_told c.pieces_join.ensures c.texts_are_decided.ensures laws c.replies_stay_kept.ensures.kept c.later_texts_are_unmarked.ensures.unmarked c.low_rises.ensures.kept plan g.F.Flash.told cat texts journal since before now c.args.pool.now c.step.new.pool pump c.args.self.now replies
     c.in-Some.telling c.step.new.self c.in-Some.is begun keeps c.step.ensures.number c.step.ensures.others c.step.ensures.kept_others run.1
-    tree c.end.new.self c.in-Some-step.told c.in-Some-step.ensures.faults
+    tree c.end.new.self c.in-Some-step.told c.told-one.result c.in-Some-step.ensures.faults
     (subst (λ (printer : Printer). HasTold plan g.F.Flash.told cat ((c.args.self.now.count + 1) % 2) c.step.new.self.number taken.written begun.state (is_lost replies (c.args.self.now.count + 1)) begun.half begun.first.flash (g.F.Flash.state c.step.new.flash) begun.first.sink
-    (handed printer.failed (g.O.Sink.faults c.step.new.out) (g.O.Sink.written c.step.new.out)) c.in-Some-step.told) (sym c.end.ensures.printer)
-    (c.in-Some-step.ensures.goes plan cat ((c.args.self.now.count + 1) % 2) taken.written begun.state (is_lost replies (c.args.self.now.count + 1)) begun.half begun.first.flash begun.first.sink taken.under_way))
-    (record { plan = c.end.ensures.ended.plan; texts = c.end.ensures.ended.texts; count = c.end.ensures.ended.count; running = c.end.ensures.ended.running; counted = c.end.ensures.ended.counted; first = c.end.ensures.ended.first })
+    (handed printer.failed (g.O.Sink.faults c.step.new.out) (g.O.Sink.written c.step.new.out)) c.in-Some-step.told c.told-one.result) (sym c.end.ensures.printer)
+    (subst (λ (one : ToldText). HasTold plan g.F.Flash.told cat ((c.args.self.now.count + 1) % 2) c.step.new.self.number taken.written begun.state (is_lost replies (c.args.self.now.count + 1)) begun.half begun.first.flash (g.F.Flash.state c.step.new.flash) begun.first.sink
+    (handed c.step.new.printer.failed (g.O.Sink.faults c.step.new.out) (g.O.Sink.written c.step.new.out)) c.in-Some-step.told one) (sym c.told-one.ensures.told)
+    (c.in-Some-step.ensures.goes plan cat ((c.args.self.now.count + 1) % 2) taken.written begun.state (is_lost replies (c.args.self.now.count + 1)) begun.half begun.first.flash begun.first.sink taken.under_way)))
+    (record { plan = c.end.ensures.ended.plan; texts = c.end.ensures.ended.texts; count = c.end.ensures.ended.count; running = c.end.ensures.ended.running; counted = c.end.ensures.ended.counted; first = c.end.ensures.ended.first; told = c.end.ensures.ended.told })
 
 pub returns-in-Some-step-clause-turn : goal.returns-in-Some-step-clause-turn
 returns-in-Some-step-clause-turn g c =
@@ -110,8 +113,8 @@ returns-in-Some-step-clause-spends g c = λ cat texts journal since pump replies
     (g.F.Flash.state c.args.flash.now).faults (g.F.Flash.state c.step.new.flash).faults c.in-Some-step.told
     c.step.ensures.spent c.step.ensures.rises within c.in-Some-step.ensures.faults unfailed
     (λ damage e. undamaged laws g.F.Flash.told cat tree texts journal since begun.first before c.args.self.now.count (is_lost replies (c.args.self.now.count + 1)) begun.state begun.half c.args.pool.now c.in-Some.telling taken database served_is
-    ((c.args.self.now.count + 1) % 2) c.step.new.self.number (g.F.Flash.state c.step.new.flash) now.sink damage
-    (subst (λ (result : Told). HasTold by_pre g.F.Flash.told cat ((c.args.self.now.count + 1) % 2) c.step.new.self.number taken.written begun.state (is_lost replies (c.args.self.now.count + 1)) begun.half begun.first.flash (g.F.Flash.state c.step.new.flash) begun.first.sink now.sink result) e goes)) in
+    ((c.args.self.now.count + 1) % 2) c.step.new.self.number (g.F.Flash.state c.step.new.flash) now.sink damage (lines.told_of c.step.new.self)
+    (subst (λ (result : Told). HasTold by_pre g.F.Flash.told cat ((c.args.self.now.count + 1) % 2) c.step.new.self.number taken.written begun.state (is_lost replies (c.args.self.now.count + 1)) begun.half begun.first.flash (g.F.Flash.state c.step.new.flash) begun.first.sink now.sink result (lines.told_of c.step.new.self)) e goes)) in
     let sums = ended_spent (text_work cat.schema database) texts c.args.self.now.count c.end.new.self.count (lines.spent_of c.in-Some.telling) (g.F.Flash.state c.args.flash.now).calls (g.F.Flash.state c.step.new.flash).calls taken.written
     taken.stands c.end.ensures.ended.count calls in
     subst (λ (later : Option Telling). (g.F.Flash.state c.step.new.flash).calls + (sum_by (text_work cat.schema database) (take c.args.self.now.count texts) + spent_by c.args.self.now.running)
