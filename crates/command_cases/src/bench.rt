@@ -254,7 +254,7 @@ impl Bench {
         self.order = (link.before, writes.get());
         Ok(Came {
             code: ended.exit_code(),
-            line: key_commands::line_of(self.alloc, words, &ended)?,
+            line: key_messages::line_of(self.alloc, words, &ended)?,
         })
     }
 

@@ -15,6 +15,15 @@ pub fn terminal(rt: &HostRuntime) -> Option<&HostRuntime> {
     }
 }
 
+/// The standard error, where it is a terminal to which the rows do not go too.
+pub fn terminal_apart(rt: &HostRuntime) -> Option<&HostRuntime> {
+    if rt.stdout().is_terminal() {
+        None
+    } else {
+        terminal(rt)
+    }
+}
+
 /// How far the work on the pages of a device came, in tenths of them.
 #[derive(Clone, Copy, Drop)]
 pub(crate) struct Tenths {
@@ -57,8 +66,8 @@ pub(crate) fn tell_file<E: Eprint>(to: &Option<E>, deed: &str, name: &str) {
 }
 
 /// Tells how many tenths of a device's pages are done, where there is a terminal.
-pub(crate) fn tell_tenths<E: Eprint>(to: &Option<E>, deed: &str, tenths: u64) {
+pub(crate) fn tell_tenths<E: Eprint>(to: &Option<E>, tenths: u64) {
     if let Some(to) = to {
-        let _told = eprintln!(to; "{deed} {tenths}0 percent of the device's pages");
+        let _told = eprintln!(to; "written: {tenths}0 percent of the device's pages");
     }
 }

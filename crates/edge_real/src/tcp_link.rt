@@ -8,16 +8,21 @@ use edge_traits::Failed;
 use edge_traits::link::Link;
 use std::fmt::{Display, Error as FormatError, Formatter, Write as FormatWrite};
 use std::io;
-use std::io::{Read, Write};
+use std::io::{Eprint, Read, Write};
 use std::net::{Net, OpenListener, OpenStream, TcpListener, TcpStream};
+use std::time::Duration;
 
 /// One end of a TCP connection. An address is a host's name or IP address, a colon and a port.
 ///
 /// It holds no bytes back: each send is one write, as far as the system takes it whole, and each take one read. Of its moves
 /// it tells only which of them failed.
+///
+/// It may tell on standard error that an answer is awaited, once a second went by. A take then goes on: it waits as long as the other
+/// end takes.
 #[derive(Drop)]
 pub struct TcpLink<R: Net> {
     net: R,
+    tells: bool,
     listener: Option<R::Listener>,
     stream: Option<R::Stream>,
     first: Option<Cause>,
@@ -99,8 +104,16 @@ impl<R: Net + Drop> TcpLink<R> {
     pub fn new(net: R) -> TcpLink<R>
         ensures faults { result.faults ≡ 0 }
     {
+        TcpLink::telling(net, false)
+    }
+
+    /// A link that is not connected, over the network that `net` reaches, which may tell there that an answer is awaited.
+    pub fn telling(net: R, tells: bool) -> TcpLink<R>
+        ensures faults { result.faults ≡ 0 }
+    {
         TcpLink {
             net,
+            tells,
             listener: None,
             stream: None,
             first: None,
@@ -148,10 +161,13 @@ impl<R: Net + Drop> TcpLink<R> {
     }
 }
 
-/// Connects to an address. What is sent leaves at once.
-fn connect<R: Net>(net: &R, at: &str) -> io::Result<R::Stream> {
+/// Connects to an address. What is sent leaves at once. A read ends after a second where that is told.
+fn connect<R: Net>(net: &R, at: &str, tells: bool) -> io::Result<R::Stream> {
     let stream = TcpStream::connect(net, at)?;
     stream.set_nodelay(true)?;
+    if tells {
+        stream.set_read_timeout(Some(Duration::from_secs(1)))?;
+    }
     Ok(stream)
 }
 
@@ -180,6 +196,34 @@ fn write_whole<S: Write>(stream: &mut Option<S>, bytes: &[u8]) -> io::Result<()>
     }
 }
 
+/// Reads the next bytes. A read that ended after a second is made again, and the first of these is told on `to`.
+fn read_patiently<R: Eprint, S: Read>(
+    to: &R,
+    stream: &mut Option<S>,
+    buf: &mut [u8],
+) -> io::Result<usize>
+    ensures within { IfOk result (λ count. count ≤ length buf.old) }
+{
+    let mut is_first = true;
+    for _ in 0..u64::MAX {
+        match read_some(stream, buf) {
+            Err(error) if is_pause(&error) => {
+                if is_first {
+                    let _told = eprintln!(to; "connected, and waiting for an answer");
+                }
+                is_first = false;
+            }
+            read => return read,
+        }
+    }
+    Err(io::Error::from(io::ErrorKind::TimedOut))
+}
+
+/// Whether a read ended because nothing came within a second.
+fn is_pause(error: &io::Error) -> bool {
+    matches!(error.kind(), io::ErrorKind::WouldBlock)
+}
+
 /// Reads the next bytes.
 fn read_some<S: Read>(stream: &mut Option<S>, buf: &mut [u8]) -> io::Result<usize>
     ensures within { IfOk result (λ count. count ≤ length buf.old) }
@@ -190,7 +234,7 @@ fn read_some<S: Read>(stream: &mut Option<S>, buf: &mut [u8]) -> io::Result<usiz
     }
 }
 
-impl<R: Net + Drop> Link for TcpLink<R> {
+impl<R: Net + Eprint + Drop> Link for TcpLink<R> {
     ghost went = { Steps (λ old made new. new.faults ≡ faults_after made.answer old.faults) };
 
     ghost faults = { λ link. link.faults };
@@ -200,7 +244,7 @@ impl<R: Net + Drop> Link for TcpLink<R> {
     ghost joins = { steps_join (λ old made new. new.faults ≡ faults_after made.answer old.faults) };
 
     fn dial(&mut self, at: &str) -> Result<(), Failed> {
-        match connect(&self.net, at) {
+        match connect(&self.net, at, self.tells) {
             Ok(stream) => {
                 self.hold(Some(stream));
                 Ok(())
@@ -238,7 +282,7 @@ impl<R: Net + Drop> Link for TcpLink<R> {
     }
 
     fn take(&mut self, buf: &mut [u8]) -> Result<usize, Failed> {
-        match read_some(&mut self.stream, buf) {
+        match read_patiently(&self.net, &mut self.stream, buf) {
             Ok(count) => Ok(count),
             Err(error) => Err(self.fault(&error)),
         }

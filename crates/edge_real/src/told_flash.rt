@@ -1,4 +1,4 @@
-//! A flash device that tells how far its pages are written and read.
+//! A flash device that tells how far it is made.
 
 ghost use Rattle.std.specs.Prelude.{◌≡◌};
 
@@ -8,8 +8,8 @@ use edge_traits::flash::{AttachFault, Flash};
 use std::alloc::Global;
 use std::io::Eprint;
 
-/// A device, and a terminal, where there is one, on which a line tells that it is made or opened, and one each tenth of its
-/// pages that is written, and that is read.
+/// A device, and a terminal, where there is one, on which a line tells that it is made or opened, and while it is made each tenth of
+/// its pages that is written. Its first page is written last, and no line tells of pages behind that.
 #[derive(Drop)]
 pub struct ToldFlash<F, E> {
     /// The device.
@@ -17,7 +17,7 @@ pub struct ToldFlash<F, E> {
 
     to: Option<E>,
     written: Tenths,
-    read: Tenths,
+    making: bool,
 }
 
 impl<F: Flash + Drop, E: Eprint + Drop> ToldFlash<F, E> {
@@ -29,31 +29,29 @@ impl<F: Flash + Drop, E: Eprint + Drop> ToldFlash<F, E> {
             flash,
             to,
             written: Tenths::none(),
-            read: Tenths::none(),
+            making: false,
         }
     }
 
-    /// Tells that a page is to be written, where that completes a tenth.
+    /// It is made from now on, or was made.
+    fn set_making(&mut self, making: bool)
+        ensures flash { self.new.flash ≡ self.old.flash }
+    {
+        self.making = making;
+    }
+
+    /// Tells that a page is to be written of a device that is made, where that completes a tenth.
     fn tell_written(&mut self, page: u32)
         ensures flash { self.new.flash ≡ self.old.flash }
     {
-        if self.to.is_none() {
+        if self.to.is_none() || !self.making {
             return;
+        }
+        if page == 0 {
+            self.making = false;
         }
         if let Some(tenths) = self.written.next(page, self.flash.pages()) {
-            tell_tenths(&self.to, "written:", tenths);
-        }
-    }
-
-    /// Tells that a page is to be read, where that completes a tenth.
-    fn tell_read(&mut self, page: u32)
-        ensures flash { self.new.flash ≡ self.old.flash }
-    {
-        if self.to.is_none() {
-            return;
-        }
-        if let Some(tenths) = self.read.next(page, self.flash.pages()) {
-            tell_tenths(&self.to, "read:", tenths);
+            tell_tenths(&self.to, tenths);
         }
     }
 }
@@ -67,6 +65,7 @@ impl<F: Flash + Drop, E: Eprint + Drop> Flash for ToldFlash<F, E> {
 
     fn make(&mut self, alloc: Global, name: &str, blocks: u32) -> Result<(), AttachFault> {
         tell_file(&self.to, "making", name);
+        self.set_making(true);
         self.flash.make(alloc, name, blocks)
     }
 
@@ -76,7 +75,6 @@ impl<F: Flash + Drop, E: Eprint + Drop> Flash for ToldFlash<F, E> {
     }
 
     fn read_page(&mut self, page: u32, buf: &mut [u8; 2048]) -> Result<(), Failed> {
-        self.tell_read(page);
         self.flash.read_page(page, buf)
     }
 

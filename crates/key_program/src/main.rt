@@ -1,34 +1,31 @@
-//! The program of the key. What its commands do lies in `key_commands` and the crates below; here are the real files, the
-//! real device, the network and the real output, and what is told on standard error.
+//! The program of the key. What its commands do lies in `key_commands` and the crates below, what is told on standard error in
+//! `key_messages`, `text_messages` and `file_messages`; here are the real files, the real device, the network and the real output.
 #![tactic(auto)]
 
-mod heard_sink;
-mod kept_depot;
-mod kept_flash;
-mod refusals;
-mod table_line;
+mod named;
 mod telling;
 
-use crate::heard_sink::HeardSink;
-use crate::kept_depot::{KeptDepot, KeptText};
-use crate::kept_flash::KeptFlash;
-use crate::refusals::tell_refusals;
-use crate::telling::{
-    Inputs, inputs_of, replaced_of, schema_of, tell, tell_file, tell_input, tell_move,
-};
+use crate::named::{Named, named_by};
+use crate::telling::{schema_of, tell, tell_cause};
 use edge_real::dir_depot::DirDepot;
 use edge_real::file_flash::FileFlash;
-use edge_real::progress::terminal;
+use edge_real::kept_depot::KeptDepot;
+use edge_real::kept_flash::KeptFlash;
+use edge_real::progress::{terminal, terminal_apart};
 use edge_real::std_sink::StdSink;
 use edge_real::tcp_link::TcpLink;
 use edge_real::told_depot::ToldDepot;
 use edge_real::told_flash::ToldFlash;
+use edge_real::told_sink::ToldSink;
+use file_messages::{FilesRead, broken_lines};
 use key_commands::{Ended, key_main};
+use key_messages::{broken_rule, ended_lines};
 use key_words::UsageFault;
 use std::io::ErrorKind;
 use std::process::ExitCode;
 use std::{env, io};
-use tree_schema::read_schema;
+use text_messages::{ScriptRead, script_lines};
+use tree_schema::{read_catalog, read_schema};
 
 /// Does what the words of the command line say, prints on standard error what did not go well, and ends with the status.
 fn main(rt: HostRuntime) -> ExitCode {
@@ -37,7 +34,7 @@ fn main(rt: HostRuntime) -> ExitCode {
         Ok(ended) => ended,
         Err(error) => {
             let ended = not_read(&error);
-            tell(&rt, &words, &ended);
+            tell(&rt, ended_lines(rt.alloc(), &words, &ended));
             ended
         }
     };
@@ -56,41 +53,48 @@ fn not_read(error: &io::Error) -> Ended {
 /// Reads the words of the command line, does what they say, and prints on standard error which texts were refused and what
 /// did not go well. An error tells that they could not be read, and nothing was printed.
 fn run(rt: &HostRuntime, words: &mut Vec<String>) -> io::Result<Ended> {
+    let alloc = rt.alloc();
     for word in env::args(rt)? {
         words.push(word)?;
     }
-    let Inputs {
+    let Named {
         schema,
         tables,
         script,
-    } = inputs_of(rt.alloc(), words);
-    let files = DirDepot::replacing(rt.alloc(), rt, replaced_of(rt.alloc(), words));
-    let mut depot = KeptDepot {
-        depot: ToldDepot::new(files, terminal(rt)),
-        schema: KeptText::of(rt.alloc(), schema),
-        script: KeptText::of(rt.alloc(), script),
-    };
-    let told = ToldFlash::new(FileFlash::new(rt.alloc(), rt), terminal(rt));
-    let mut flash = KeptFlash::new(rt.alloc(), told);
-    let mut link = TcpLink::new(rt);
-    let mut out = HeardSink::new(rt.alloc(), StdSink::new(rt.alloc(), rt)?)?;
-    let ended = key_main(
-        rt.alloc(),
-        words,
-        &mut depot,
-        &mut flash,
-        &mut link,
-        &mut out,
+        replaced,
+    } = named_by(alloc, words);
+    let files = ToldDepot::new(DirDepot::replacing(alloc, rt, replaced), terminal(rt));
+    let mut depot = KeptDepot::new(alloc, files, schema, script);
+    let device = ToldFlash::new(FileFlash::new(alloc, rt), terminal(rt));
+    let mut flash = KeptFlash::new(alloc, device);
+    let mut link = TcpLink::telling(rt, terminal(rt).is_some());
+    let mut out = ToldSink::new(StdSink::new(alloc, rt)?, terminal_apart(rt));
+    let ended = key_main(alloc, words, &mut depot, &mut flash, &mut link, &mut out);
+    let (read, catalog) = (
+        read_schema(depot.schema_read()).ok(),
+        read_catalog(flash.front()),
     );
-    let (read, catalog) = (read_schema(depot.schema.bytes()).ok(), flash.catalog());
-    let schema = schema_of(&read, &catalog);
-    tell_refusals(rt, script, depot.script.bytes(), schema, out.refused());
+    let read_with = schema_of(&read, &catalog);
+    let texts = ScriptRead {
+        file: script,
+        script: depot.script_read(),
+        schema: read_with,
+    };
+    tell(rt, script_lines(alloc, &texts, ended.told().as_slice()));
     if ended.exit_code() != 0 {
-        tell(rt, words, &ended);
-        tell_file(rt, depot.depot.depot.first_fault());
-        tell_file(rt, flash.flash.flash.first_fault());
-        tell_move(rt, link.first_cause());
-        tell_input(rt, &mut depot, tables, schema, &ended);
+        tell(rt, ended_lines(alloc, words, &ended));
+        tell_cause(rt, depot.depot.depot.first_fault());
+        tell_cause(rt, flash.flash.flash.first_fault());
+        tell_cause(rt, link.first_cause());
+    }
+    if let Some(fault) = broken_rule(&ended) {
+        let inputs = FilesRead {
+            schema_file: schema,
+            folder: tables,
+            schema_read: depot.schema_read(),
+            front: depot.front(),
+        };
+        tell(rt, broken_lines(alloc, &inputs, read_with, &fault));
     }
     Ok(ended)
 }

@@ -6,7 +6,8 @@ use arrayvec::ArrayVec;
 use edge_traits::mem_depot::{MemDepot, Room};
 use edge_traits::mem_flash::MemFlash;
 use edge_traits::mem_sink::MemSink;
-use key_commands::local::{LocalEnd, local};
+use key_commands::local::{LocalEnd, LocalRun, local};
+use key_lines::ToldTexts;
 use key_plain::plain;
 use key_words::{LocalWords, PlainWords};
 use leakless_plan::{Form, Plan};
@@ -89,7 +90,12 @@ pub fn calls_of(
     let mut out = MemSink::new(alloc, 300_000, 300_000, &[])?;
     let words = local_words(plan, buffers);
     match local(alloc, &words, depot, &mut flash, &mut out) {
-        Ok(LocalEnd::Ok) if out.bytes() == lines.as_bytes() => Ok(Some(flash.script.calls)),
+        Ok(
+            LocalRun {
+                end: LocalEnd::Ok,
+                ..
+            },
+        ) if out.bytes() == lines.as_bytes() => Ok(Some(flash.script.calls)),
         _ => Ok(None),
     }
 }
@@ -153,7 +159,8 @@ fn columns_and_replies_of_many_pages_are_answered_in_order(
         assert!(rt; calls.is_some());
     }
     let mut out = MemSink::new(rt.alloc(), 300_000, 300_000, &[])?;
-    assert!(rt; plain(rt.alloc(), &PLAIN_WORDS, &mut depot, &mut out).is_ok());
+    let mut told = ToldTexts::none();
+    assert!(rt; plain(rt.alloc(), &PLAIN_WORDS, &mut depot, &mut out, &mut told).is_ok());
     assert!(rt; out.bytes() == lines.as_bytes());
     Ok(())
 }

@@ -1,10 +1,12 @@
 //! What is told where no case brings it about: of ends of the key's program, of words, and of files that are too long.
 
 use csv_split::Place;
-use key_commands::local::{LocalEnd, LocalFailure};
-use key_commands::{Ended, line_of};
+use key_commands::Ended;
+use key_commands::local::{LocalEnd, LocalFailure, LocalRun};
 use key_exec::Damage;
 use key_inputs::{BrokenTable, RecordNamed, Shown};
+use key_lines::ToldTexts;
+use key_messages::{line_of, usage_lines};
 use key_words::UsageFault;
 use std::alloc::AllocError;
 
@@ -22,7 +24,8 @@ fn want_of_memory_and_damage_of_local_are_told(rt: HostRuntime) -> Result<(), Al
     for word in LOCAL.split(' ') {
         words.push(String::from_str(rt.alloc(), word)?)?;
     }
-    let damaged = LocalEnd::Damaged(Damage {
+    let told = ToldTexts::none();
+    let end = LocalEnd::Damaged(Damage {
         page: 79,
         slot: 1,
         found: 4,
@@ -30,7 +33,7 @@ fn want_of_memory_and_damage_of_local_are_told(rt: HostRuntime) -> Result<(), Al
     let cases = [
         (Ended::NoMemory, 3u8, NO_MEMORY),
         (Ended::Local(Err(LocalFailure::NoMemory)), 3, NO_MEMORY),
-        (Ended::Local(Ok(damaged)), 13, DAMAGED),
+        (Ended::Local(Ok(LocalRun { end, told })), 13, DAMAGED),
     ];
     for (ended, code, line) in cases.iter() {
         let told = line_of(rt.alloc(), &words, ended)?;
@@ -79,5 +82,32 @@ fn limits_of_a_file_are_told(rt: HostRuntime) -> Result<(), AllocError> {
         let told = format!(in rt.alloc(); "{broken}")?;
         assert!(rt; told.as_str() == *line, "{line}");
     }
+    Ok(())
+}
+
+/// A line of refused words, and the usage.
+const USAGE: &str = "--help is no option here
+usage: key_program query
+    --flash FILE       the key's device, as load made it
+    [--plan PLAN]      how they are answered: auto, scan, pre, post, cross-pre or cross-post; else auto";
+
+/// The usage as it is told.
+const USAGE_TOLD: &str = "usage: key_program query
+    --flash FILE       the key's device, as load made it
+    [--plan PLAN]      how they are answered: auto, scan, pre, post, cross-pre
+                       or cross-post; else auto";
+
+#[test]
+fn the_usage_has_short_lines_and_help_is_no_fault(rt: HostRuntime) -> Result<(), AllocError> {
+    let mut words = Vec::new(rt.alloc());
+    for word in ["key_program", "query", "--help"] {
+        words.push(String::from_str(rt.alloc(), word)?)?;
+    }
+    assert_eq!(rt;
+        usage_lines(rt.alloc(), &words, USAGE)?.as_str(),
+        USAGE_TOLD
+    );
+    let told = usage_lines(rt.alloc(), words.get(..2).unwrap_or(&[]), USAGE)?;
+    assert!(rt; told.starts_with("--help is no option here\nusage: key_program query\n"));
     Ok(())
 }

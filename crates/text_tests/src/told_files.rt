@@ -1,10 +1,11 @@
-//! What is told of broken files of tables, broken schemas and refused words.
+//! What is told of broken files of tables and broken schemas, and of how many texts are refused.
 
 use crate::clinic::SCHEMA;
 use csv_split::Place;
+use file_messages::{BrokenFile, BrokenText, schema_lines, table_line};
 use key_inputs::{BrokenSchema, BrokenTable, FieldNamed, RecordNamed, Shown};
-use key_messages::{BrokenFile, BrokenText, RefusedCount, schema_lines, table_line, usage_lines};
 use std::test::Fail;
+use text_messages::RefusedCount;
 use tree_schema::read_schema;
 
 /// First lines of the doctors' file that do not name its columns in their order, and behind `|` what is told.
@@ -110,33 +111,6 @@ fn a_schema_is_told_by_the_word_at_which_it_stops(rt: HostRuntime) -> Result<(),
             "{written}"
         );
     }
-    Ok(())
-}
-
-/// A line of refused words, and the usage.
-const USAGE: &str = "--help is no option here
-usage: key_program query
-    --flash FILE       the key's device, as load made it
-    [--plan PLAN]      how they are answered: auto, scan, pre, post, cross-pre or cross-post; else auto";
-
-/// The usage as it is told.
-const USAGE_TOLD: &str = "usage: key_program query
-    --flash FILE       the key's device, as load made it
-    [--plan PLAN]      how they are answered: auto, scan, pre, post, cross-pre
-                       or cross-post; else auto";
-
-#[test]
-fn the_usage_has_short_lines_and_help_is_no_fault(rt: HostRuntime) -> Result<(), Fail> {
-    let mut words = Vec::new(rt.alloc());
-    for word in ["key_program", "query", "--help"] {
-        words.push(String::from_str(rt.alloc(), word)?)?;
-    }
-    assert_eq!(rt;
-        usage_lines(rt.alloc(), &words, USAGE)?.as_str(),
-        USAGE_TOLD
-    );
-    let told = usage_lines(rt.alloc(), words.get(..2).unwrap_or(&[]), USAGE)?;
-    assert!(rt; told.starts_with("--help is no option here\nusage: key_program query\n"));
     Ok(())
 }
 

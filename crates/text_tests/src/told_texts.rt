@@ -1,10 +1,11 @@
 //! What is told of refused texts over the clinic, line by line.
 
 use crate::clinic::SCHEMA;
-use key_messages::{RefusedText, refused_lines};
+use key_lines::ToldText;
 use spj_parse::{Refusal, read_query};
 use std::alloc::{AllocError, Global};
 use std::test::Fail;
+use text_messages::{RefusedText, ScriptRead, refused_lines, script_lines};
 use tree_schema::{Schema, read_schema};
 
 /// Texts, and behind `|` the column of the place and what is told there of the text.
@@ -137,5 +138,30 @@ fn a_refused_text_is_shown_in_its_line(rt: HostRuntime) -> Result<(), Fail> {
         refused_lines(rt.alloc(), &text)?.as_str(),
         "q.sql, line 1, column 1: text 1: the file begins with a byte order mark: save it without, as plain ASCII"
     );
+    Ok(())
+}
+
+#[test]
+fn the_refused_texts_of_a_script_are_told_one_after_another(rt: HostRuntime) -> Result<(), Fail> {
+    let schema = read_schema(SCHEMA.as_bytes())?;
+    let answered = ToldText {
+        refusal: None,
+        rows: 3,
+    };
+    let refused = ToldText {
+        refusal: Some(Refusal::UnknownTable),
+        rows: 0,
+    };
+    let read = ScriptRead {
+        file: "q.sql",
+        script: b"SELECT day FROM visit;\nSELECT age FROM patients",
+        schema: Some(&schema),
+    };
+    let lines = script_lines(rt.alloc(), &read, &[answered, refused])?;
+    assert_eq!(rt;
+        lines.as_str(),
+        "q.sql, line 2, column 17: text 2: there is no table patients: the tables are doctor, patient, visit\n    SELECT age FROM patients\n                    ^\n1 of 2 texts was refused"
+    );
+    assert!(rt; script_lines(rt.alloc(), &read, &[answered, answered])?.is_empty());
     Ok(())
 }
