@@ -10,4 +10,4 @@ pub mod ways;
 pub mod whole;
 
 pub use answer::{Answer, Row};
-pub use whole::answer_plain;
+pub use whole::{answer_plain, count_plain};
