@@ -1,20 +1,14 @@
-#!/usr/bin/env python3
-"""Runs `load`, `local` and `plain` over the largest tables, files and texts that the rules allow, with a stack of 8 MiB.
+"""The largest tables, files and texts that the rules allow, with a stack of 8 MiB.
 
-    largest.py PROGRAM [FOLDER]
-
-PROGRAM is the built key's program. FOLDER (a temporary one, where none is named) gets some five gigabytes. Each command has
-to end with 0, and `plain` and `local` have to print the same. README.md says what is run.
+*Twelve tables* of 24 columns, a chain by foreign keys; all other columns are CHAR(64), every other one hidden, with five rows of
+full texts. 15 of the 64 texts have 4,096 bytes, all twelve tables, 32 selected columns and 16 conditions. *Two tables* of 1,000,000
+rows in files of 67,108,864 bytes: one has 23 columns of CHAR(64), 12 of them hidden, the other a scattered foreign key to it.
 """
-import filecmp
 import os
 import resource
 import shutil
-import subprocess
-import sys
-import tempfile
 
-from beside import figures, into_file, run
+from running import Place, lines_of, rows_of, say, table, title
 
 TEXT_BYTES = 4096
 SCHEMA_BYTES = SCRIPT_BYTES = 65536
@@ -150,44 +144,30 @@ def write_long(folder):
     write_script(folder, [long_text(), 'SELECT * FROM %s' % TOP, 'SELECT * FROM %s WHERE id > %d' % (LEAF, ROWS - 10)])
 
 
-def measure(program, what, write_case, folder):
-    """Runs the three commands, and answers whether `plain` and `local` printed the same."""
-    of = lambda file: os.path.join(folder, file)
-    shutil.rmtree(of('tables'), ignore_errors=True)
-    os.makedirs(of('tables'))
-    write_case(folder)
-    tables = [os.path.getsize(os.path.join(of('tables'), table)) for table in os.listdir(of('tables'))]
-    print('%s: %d bytes in %d tables, the largest of %d' % (what, sum(tables), len(tables), max(tables)), flush=True)
-    inputs = ['--schema', of('schema.sql'), '--data', of('tables')]
-    load = [program, 'load'] + inputs + ['--flash', of('flash'), '--visible', of('visible')]
-    print('load   %s' % figures(run(load, subprocess.DEVNULL)), flush=True)
-    print('flash %d bytes, visible %d bytes' % (os.path.getsize(of('flash')), os.path.getsize(of('visible'))), flush=True)
-    os.remove(of('visible'))
-    script = ['--script', of('script.sql')]
-    local = [program, 'local'] + inputs + ['--flash', of('flash')] + script
-    print('local  %s' % figures(into_file(local, of('local.out'))), flush=True)
-    print('plain  %s' % figures(into_file([program, 'plain'] + inputs + script, of('plain.out'))), flush=True)
-    same = filecmp.cmp(of('local.out'), of('plain.out'), shallow=False)
-    with open(of('plain.out'), 'rb') as out:
-        ends = [line for line in out if not line.startswith(b'> ')]
-    answered = [line for line in ends if line.startswith(b'= ')]
-    print('%d of %d texts answered, %d rows; local and plain %s' % (
-        len(answered), len(ends), sum(int(line.split()[2]) for line in answered), 'print the same' if same else 'DIFFER'), flush=True)
-    return same and len(answered) == len(ends)
+def one_case(bench, what, write_case):
+    """The three commands over a case; each has to end with 0, and `local` and `plain` have to print the same."""
+    place = Place(bench.key, bench.host, os.path.join(bench.folder, 'largest'))
+    os.makedirs(place.name('tables'), exist_ok=True)
+    write_case(place.folder)
+    say(what)
+    load = place.load()
+    sizes = [os.path.getsize(place.name(of)) for of in ('flash', 'visible')]
+    os.remove(place.name('flash'))
+    local = place.local('script.sql', 'out.local')
+    plain = place.plain('script.sql', 'out.plain')
+    if lines_of(place.name('out.local')) != lines_of(place.name('out.plain')):
+        bench.differs('`local` and `plain` printed different lines')
+    rows = rows_of(place.name('out.plain'))[0]
+    shutil.rmtree(place.folder)
+    return [what, rows, *(one.cpu for one in (load, local, plain)), *(one.peak / 1024 for one in (load, local, plain)),
+            *(size / 2 ** 20 for size in sizes)]
 
 
-def main():
-    resource.setrlimit(resource.RLIMIT_STACK, (STACK_BYTES, STACK_BYTES))
-    program = os.path.abspath(sys.argv[1])
-    folder = sys.argv[2] if len(sys.argv) > 2 else tempfile.mkdtemp(prefix='largest')
-    try:
-        print('stack of %d KiB' % (resource.getrlimit(resource.RLIMIT_STACK)[0] >> 10), flush=True)
-        wide = measure(program, 'twelve tables of 24 columns', write_wide, folder)
-        sys.exit(0 if measure(program, 'two tables of 1,000,000 rows', write_long, folder) and wide else 1)
-    finally:
-        if len(sys.argv) <= 2:
-            shutil.rmtree(folder)
-
-
-if __name__ == '__main__':
-    main()
+def tell(bench):
+    """A line for each case, of one run each."""
+    _, most = resource.getrlimit(resource.RLIMIT_STACK)
+    resource.setrlimit(resource.RLIMIT_STACK, (STACK_BYTES, most))
+    rows = [one_case(bench, 'twelve tables of 24 columns', write_wide), one_case(bench, 'two tables of 1,000,000 rows', write_long)]
+    title('The largest tables, with a stack of %d MiB' % (STACK_BYTES >> 20))
+    table(['', 'rows', *('`%s`, %s' % (name, unit) for unit in ('CPU s', 'peak MiB') for name in ('load', 'local', 'plain')),
+           'flash, MiB', "host's file, MiB"], rows)
