@@ -263,6 +263,8 @@ class Column:
         if empties and options.empty is not None:
             self.notes.append('%s became %d' % (counted(empties, 'empty field'), options.empty))
             self.fitted.update((it, str(options.empty)) for it in self.counts if not it.strip())
+            self.fault([it for it, number in made.items() if number == options.empty], 'with the number that is to stand for empty ones',
+                       'choose another one by --empty')
         else:
             self.fault([it for it in self.counts if not it.strip()], 'empty, in a column of numbers', 'there is no NULL: choose what stands for them, as --empty -1')
         if told:
@@ -603,6 +605,9 @@ def report_of(tables, faults):
                 lines.append('  %d of %d rows are alone with their visible values: whoever knows these knows the row, and the host sees them' % (alone, table.rows))
                 lines += ['      without %s: %d' % it for it in rest]
         lines.append('')
+    links = ['%s.%s = %s.id' % (table.name, it.name, it.child.name) for table in tables for it in table.columns if it.child is not None]
+    if links and not faults:
+        lines += ['a query that takes rows of two tables links them, by AND:', *('  ' + it for it in links), '']
     return lines + ['FAULT: ' + it for it in faults]
 
 
