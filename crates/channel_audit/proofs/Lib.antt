@@ -3,3 +3,4 @@ pub mod Numbers
 pub mod Told
 pub mod Moving
 pub mod Steps
+pub mod Deciding

@@ -11,7 +11,7 @@ use Rattle.channel_audit.specs.declared.audit.Due.{Due}
 use Rattle.ghost_model.proofs.RecordedLemmas.Texts.{cut_once, lacks_none}
 use Rattle.ghost_model.proofs.RecordedLemmas.Ends.{told_lacks, lines_more, ended_rest}
 
-each_more : (texts : List (List ℕ)) (journal : Journal) (text : List ℕ) (made : Entry) → EachTells texts journal → Tells text made
+pub each_more : (texts : List (List ℕ)) (journal : Journal) (text : List ℕ) (made : Entry) → EachTells texts journal → Tells text made
     → EachTells (texts ++ text ∷ []) (journal ++ made ∷ [])
 each_more [] [] text made each tells = (tells, tt)
 each_more [] (_ ∷ _) text made each tells = absurd each

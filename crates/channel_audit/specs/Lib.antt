@@ -1,3 +1,4 @@
 pub mod Lines
 pub mod Replays
 pub mod Audited
+pub mod Laws

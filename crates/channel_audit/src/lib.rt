@@ -8,6 +8,7 @@
 pub mod audit;
 mod digits;
 mod hexadecimal;
+pub mod laws;
 pub mod line;
 mod replay;
 pub mod words;

@@ -1,0 +1,8 @@
+//! What holds of any file that is audited.
+
+ghost use Rattle.channel_audit.specs.Laws.{EachFileHasAFinding};
+
+/// Whatever a file holds, an audit finds something in it: it is proper, or its first bad line tells a wrong move or none.
+pub fn each_file_has_a_finding()
+    ensures each { EachFileHasAFinding }
+{}
