@@ -1,6 +1,7 @@
 pub mod Counts
 pub mod Unread
 pub mod ListReads
+pub mod Numbers
 pub mod SinceLaws
 pub mod Holding
 pub mod Setting

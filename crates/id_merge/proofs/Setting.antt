@@ -21,7 +21,7 @@ use Rattle.id_merge.specs.declared.cursor.Cursor.TheVariants.{List as OfList, Ra
 use Rattle.id_merge.specs.Since.{Since, IsSince, MayBlame, FaultIsBlamed}
 use Rattle.id_merge.specs.Cursors.{cursor_at, nothing, leases_of, page_last, unread_list, unread_of, unread_in, at_hand_of, CursorRight, IsAtMost, CursorReady, AllReady, ListAscends, ListGiven, CursorGiven, AllGiven, Passed, GoesOn, SameSource, FaultBlames, BlamesLists, DamagesLists}
 use Rattle.id_merge.specs.Merges.{FailTells}
-use Rattle.id_merge.specs.Moving.{Advances, RunMoves, Reaches, CallIf, DamagesRun}
+use Rattle.id_merge.specs.Moving.{Advances, RunMoves, Reaches, CallIf, DamagesRun, Stands, IsAtEndOrFrom}
 use Rattle.id_merge.proofs.SinceLaws.{may_then, may_of, list_blamed, none_damaged}
 use Rattle.id_merge.proofs.ListReads.{id_same, count_same, ascends_on, before_is}
 use Rattle.id_merge.proofs.Holding.{leases_apart, beside_leases, leases_set, sum_set}
@@ -307,3 +307,16 @@ fails_set before now u v a b (Err (Damaged number slot found)) same tells = reco
 
 pub at_place : (cursors : List Cursor) (i : ℕ) (d cursor : Cursor) → i < length cursors → get_or cursors i d ≡ cursor → cursor_at cursors i ≡ cursor
 at_place cursors i d cursor within is = sym (get_or_default cursors i d nothing within) ∙ is
+
+still : (told : Bool) (device : Device) (pool : Pool) (low : ℕ) (cursor : Cursor) → CursorReady told device pool cursor → IsAtEndOrFrom low cursor → Stands low cursor
+still told device pool low (OfList run) ready stays =
+    λ below. elim stays [ inl from ↦ absurd (omega (arith, from, below)) | inr end ↦ omega (arith, end, ready.place) ]
+still told device pool low (Range first last) ready stays = tt
+
+-- a cursor that is not behind stands where it is
+pub stands_still :
+    {told : Bool} {device : Device} {pool : Pool} (cursors : List Cursor) (i low : ℕ) (d : Cursor) → i < length cursors → AllReady told device pool cursors
+    → IsAtEndOrFrom low (get_or cursors i d) → Stands low (cursor_at cursors i)
+stands_still {told = told} {device = device} {pool = pool} cursors i low d within ready stays =
+    let P : Cursor → Type 0 = IsAtEndOrFrom low in
+    still told device pool low (cursor_at cursors i) (ready.each i) (subst P (get_or_default cursors i d nothing within) stays)
