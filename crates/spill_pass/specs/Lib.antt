@@ -19,4 +19,9 @@ pub mod Sparing
 pub mod ListCalls
 pub mod FewPages
 pub mod Works
+pub mod Examples
 pub mod ReduceWork
+pub mod MergeSteps
+pub mod GroupSteps
+pub mod PassSteps
+pub mod ReduceTurns

@@ -1,11 +1,10 @@
 //! How many calls of the flash a step of a merge makes, and how many pages lists take.
 
-ghost use Rattle.std.specs.Prelude.{◌≡◌, ◌+◌, ◌-◌, ◌<◌, ◌≤◌, ◌^◌, true, ℕ, List};
-ghost use Rattle.edge_traits.specs.Devices.{Counts};
-ghost use Rattle.id_merge.specs.Since.{Since, IsSince, Blames};
-ghost use Rattle.id_merge.specs.Cursors.{Moves, AreRight, AllGiven, BlamesLists, BlamesOutOfRows};
+ghost use Rattle.std.specs.Prelude.{◌≡◌, ◌+◌, ◌-◌, ◌<◌, ◌^◌, true, ℕ, List};
+ghost use Rattle.id_merge.specs.Cursors.{Moves, AreRight};
 ghost use Rattle.id_merge.specs.Merges.{CanMerge, GivesStep, LastAfterStep, StepTells, HandAfterStep, unread};
 ghost use Rattle.spill_pass.specs.FewPages.{FreshListIsShort, FreshRecordsAreShort, WritesFewPages};
+ghost use Rattle.spill_pass.specs.MergeSteps.{CountsStep, ReadsLists};
 ghost use Rattle.spill_pass.specs.Merging.{step_calls};
 
 use edge_traits::flash::Flash;
@@ -44,22 +43,14 @@ pub fn step_and_count<F: Flash>(
     requires counts { spent.old + 1 < 2 ^ 64 }
     ensures gives { F.told ≡ true → (right : ℕ → List ℕ) → AreRight (F.state flash.old).page right merge.old.cursors.items → GivesStep right merge.old merge.new result }
     ensures right { F.told ≡ true → (right : ℕ → List ℕ) → AreRight (F.state flash.old).page right merge.old.cursors.items → AreRight (F.state flash.new).page right merge.new.cursors.items }
-    ensures sound { F.told ≡ true → (right : ℕ → List ℕ) → AreRight (F.state flash.old).page right merge.old.cursors.items → BlamesOutOfRows (F.state flash.new).page merge.new.cursors.items result }
-    ensures blames { (since : Since) → IsSince F.told (F.state flash.old) since → AllGiven since (F.state flash.old) pool.old merge.old.cursors.items → Blames since (F.state flash.new) result }
-    ensures slot { (since : Since) → IsSince F.told (F.state flash.old) since → AllGiven since (F.state flash.old) pool.old merge.old.cursors.items → BlamesLists since (F.state flash.new) merge.new.cursors.items result }
+    ensures reads { ReadsLists F.told (F.state flash.old) (F.state flash.new) pool.old merge.old.cursors.items merge.new.cursors.items result }
     ensures last { LastAfterStep merge.old merge.new result }
     ensures tells { StepTells (F.state flash.old) (F.state flash.new) (unread pool.old merge.old) (unread pool.new merge.new) result }
-    ensures at_most { (F.state flash.new).calls ≤ (F.state flash.old).calls + 1 }
-    ensures deep_reads { (F.state flash.new).deep_reads ≤ (F.state flash.old).deep_reads + 1 }
     ensures hand { HandAfterStep merge.old merge.new result }
     ensures unions { merge.new.unions ≡ merge.old.unions }
     ensures moves { Moves F.told (F.state flash.old) (F.state flash.new) pool.old pool.new merge.old.cursors.items merge.new.cursors.items }
     ensures ready { CanMerge F.told (F.state flash.new) pool.new merge.new }
-    ensures counted { Counts (spent.new - spent.old) (F.state flash.old).calls (F.state flash.new).calls }
-    ensures few_reads { (F.state flash.new).deep_reads ≤ (F.state flash.old).deep_reads + (spent.new - spent.old) }
-    ensures added { spent.new ≡ spent.old + step_calls result }
-    ensures rises { spent.old ≤ spent.new }
-    ensures most { spent.new ≤ spent.old + 1 }
+    ensures counts { CountsStep (F.state flash.old) (F.state flash.new) spent.old spent.new result }
 {
     let step = merge.step(flash, pool);
     *spent += step_calls(&step);

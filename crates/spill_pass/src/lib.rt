@@ -14,6 +14,7 @@
 #![tactic(auto)]
 
 pub mod counting;
+pub mod examples;
 pub mod groups;
 pub mod lists;
 pub mod merging;
