@@ -3,3 +3,4 @@ pub mod Sifts
 pub mod Outside
 pub mod Given
 pub mod Laws
+pub mod Steps

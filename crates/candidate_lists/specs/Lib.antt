@@ -14,3 +14,4 @@ pub mod Staying
 pub mod Given
 pub mod JoiningWork
 pub mod ReducingWork
+pub mod Steps
