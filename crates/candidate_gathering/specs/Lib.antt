@@ -8,4 +8,7 @@ pub mod Contents
 pub mod Turns
 pub mod Laws
 pub mod Costs
+pub mod Steps
+pub mod Begins
+pub mod Ends
 pub mod cross_forms

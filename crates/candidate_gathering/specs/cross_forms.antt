@@ -3,3 +3,4 @@ pub mod Contents
 pub mod Given
 pub mod Turns
 pub mod Laws
+pub mod Steps

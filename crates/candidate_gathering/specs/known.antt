@@ -3,3 +3,4 @@ pub mod Reading
 pub mod Found
 pub mod May
 pub mod Laws
+pub mod Examples

@@ -9,3 +9,5 @@ pub mod Sets
 pub mod Given
 pub mod Costs
 pub mod Passes
+pub mod Steps
+pub mod Ends

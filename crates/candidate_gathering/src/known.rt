@@ -6,4 +6,5 @@
 //! has `IsReadByForms`, which files a plan reads; `specs/known/Found.antt`, where a slot lies that is blamed; `specs/known/May.antt`, of which
 //! runs a slot may be blamed.
 
+pub mod examples;
 pub mod laws;
