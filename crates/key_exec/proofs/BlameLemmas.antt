@@ -97,6 +97,7 @@ slot_read told since now cat asked top side half slot (Damaged number place foun
         slot_is = blames.slot_is ∙ ap (λ (r : Run). slot_of r (identifier - 1)) run;
         bytes = blames.bytes;
         read = subst (λ (r : Run). WasRead since now r (identifier - 1) blames.bytes) run blames.read;
+        wide = blames.wide ∙ ap (λ (r : Run). r.width) run;
         may_not = may_not_stand cat is.table is.column file blames.bytes is.file.file_is blames.no_value;
         found_is = blames.found_is;
       };
@@ -137,6 +138,7 @@ row_blamed told since before now cat asked top side half look (Damaged number pl
         page_is = blames.page_is;
         slot_is = blames.slot_is;
         bytes = blames.bytes;
+        wide = blames.wide;
         may_not = blames.wrong;
         found_is = blames.found_is;
       };
@@ -162,6 +164,7 @@ row_read told since before now cat asked top side half look (Damaged number plac
         slot_is = blames.slot_is;
         bytes = blames.bytes;
         read = blames.read;
+        wide = blames.wide;
         may_not = blames.wrong;
         found_is = blames.found_is;
       };
