@@ -1,12 +1,14 @@
-//! A session of a key with the host of the clinic in its own process, and its journal.
+//! A session of a key with the host of the clinic in its own process, its journal, and what is counted of it.
 
 use crate::clinic::{Bytes, CATALOG, add, bytes_of};
 use crate::host_sessions::depot_of;
 use edge_traits::Failed;
 use edge_traits::link::Link;
 use edge_traits::mem_depot::{MemDepot, Room};
+use edge_traits::mem_link::{MemLink, Room as LinkRoom};
+use edge_traits::peer::PeerScript;
 use host_exec::{BeginFault, Host};
-use local_links::{HostLink, Journaled};
+use local_links::{Counted, HostLink, Journaled};
 use std::alloc::Global;
 
 /// The moves of a session: each frame is sent, and then bytes are taken twice, at most so many.
@@ -70,6 +72,38 @@ fn a_session_in_one_process_is_written_down(rt: HostRuntime) -> Result<(), Begin
     for (fails, name, wanted) in rows {
         let told = journal_of(rt.alloc(), fails, name)?;
         assert!(rt; told.as_slice() == wanted);
+    }
+    Ok(())
+}
+
+/// Whether a session went well on a link, behind how many moves, sent bytes and taken bytes were counted.
+fn counted_on<L: Link>(link: &mut L) -> ([u64; 3], bool) {
+    let mut counted = Counted::new(link);
+    let went = talk(&mut counted).is_ok();
+    let counts = counted.counts();
+    ([counts.moves, counts.sent, counts.taken], went)
+}
+
+#[test]
+fn moves_and_bytes_are_counted(rt: HostRuntime) -> Result<(), BeginFault> {
+    let mut files = depot_of(rt.alloc(), &[])?;
+    let host = Host::begin(rt.alloc(), &mut files, "c")?;
+    let mut link = HostLink::new(host, files);
+    let (counts, went) = counted_on(&mut link);
+    assert!(rt; counts == [14, 50, 418] && went);
+    let room = LinkRoom {
+        moves: 8,
+        bytes: 100,
+    };
+    let peer = PeerScript {
+        bytes: b"abc",
+        pieces: &[2],
+        ports: &[],
+    };
+    for (fails, wanted) in [(2, [2, 12, 0]), (3, [3, 12, 0]), (4, [4, 12, 2])] {
+        let mut failing = MemLink::new(rt.alloc(), room, &peer, &[fails])?;
+        let (counts, went) = counted_on(&mut failing);
+        assert!(rt; counts == wanted && !went);
     }
     Ok(())
 }

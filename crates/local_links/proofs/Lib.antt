@@ -3,3 +3,4 @@ pub mod HandedOut
 pub mod Sessions
 pub mod Short
 pub mod Within
+pub mod Told

@@ -90,7 +90,7 @@ never_failed contents faults sure catalog at asks gone (made ∷ later) before a
     never_failed contents faults sure catalog at asks (gone ++ made ∷ []) later steps.between after goes.1 steps.later
     ∙ steps.moved.quiet (next_is_quiet catalog at (standing_after catalog asks gone) made.move goes.0)
 
-goes_more : (catalog : Catalog) (at : List ℕ) (asks : List NumberedAsk) (before journal : Journal) (entry : Entry) → GoesOn catalog at asks before journal → next_with catalog at asks (before ++ journal) ≡ Some entry.move
+pub goes_more : (catalog : Catalog) (at : List ℕ) (asks : List NumberedAsk) (before journal : Journal) (entry : Entry) → GoesOn catalog at asks before journal → next_with catalog at asks (before ++ journal) ≡ Some entry.move
     → GoesOn catalog at asks before (journal ++ entry ∷ [])
 goes_more catalog at asks before [] entry goes e = (ap (λ (j : Journal). next_with catalog at asks j) (sym (append-nil before)) ∙ e, tt)
 goes_more catalog at asks before (first ∷ journal) entry goes e =

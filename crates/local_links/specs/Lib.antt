@@ -5,3 +5,6 @@ pub mod Journaling
 pub mod Keeping
 pub mod Appending
 pub mod Kept
+pub mod Counting
+pub mod CountedMoves
+pub mod ClinicCounts

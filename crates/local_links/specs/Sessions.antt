@@ -1,10 +1,12 @@
 -- Whole sessions of a key over a link to a host in its own process that holds the public part of a database.
-use Rattle.std.specs.Prelude.{◌≡◌, ℕ, true, List, Option}
+use Rattle.std.specs.Prelude.{◌≡◌, ◌≤◌, ℕ, true, List, [], Option, length}
 use Rattle.std.specs.List.{list_all}
 use Rattle.ghost_model.specs.core.Values.{Database}
 use Rattle.ghost_model.specs.core.Channel.{Catalog, Journal}
 use Rattle.ghost_model.specs.core.Moves.{lines}
-use Rattle.ghost_model.specs.core.NextMove.{IsProper}
+use Rattle.ghost_model.specs.core.Asks.{asked_of}
+use Rattle.ghost_model.specs.core.NextMove.{IsProper, IsFinished}
+use Rattle.ghost_model.specs.core.Recorded.{IsProperFile, most_journal}
 use Rattle.ghost_model.specs.core.Honest.{IsSetting, IsCatalogOf}
 use Rattle.edge_traits.specs.Files.{Files}
 use Rattle.edge_traits.specs.Links.{Steps}
@@ -54,3 +56,11 @@ ProperJournalsAreWritten {L} {D} Went contents faults append_faults =
     (catalog : Catalog) (at : List ℕ) (texts : List (List ℕ)) (journal : Journal) (before after : Journaled L D)
     → IsSetting catalog texts → IsProper catalog at texts journal → Kept Went contents faults append_faults before journal after
     → Writes (named before) (lines journal) (log_of contents faults append_faults before) (log_of contents faults append_faults after)
+
+-- the file of a finished session with a host in the process, if it is no longer than a journal's file may be, is that of a
+-- proper journal with each of the moves, and closed
+abbrev pub LocalFilesAreProper : Type 0
+LocalFilesAreProper =
+    (catalog : Catalog) (database : Database) (texts : List (List ℕ)) (journal : Journal)
+    → IsLocal catalog database [] texts journal → IsFinished journal → length (lines journal) ≤ most_journal
+    → IsProperFile catalog (asked_of catalog.schema texts) (lines journal) (length journal) true
