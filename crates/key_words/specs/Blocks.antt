@@ -1,5 +1,5 @@
--- How many blocks a flash may have: where a number is given, it is not above the most. How many page buffers a key may have.
--- And how many numbers of slices a pace.
+-- How many blocks a flash may have: where a number is given, it is not above the most. How many page buffers a key may have,
+-- how many numbers of slices a pace, and how large the numbers of a generated clinic are.
 use Rattle.std.specs.Prelude.{ℕ, ◌≤◌, Option, IfSome}
 
 abbrev pub most_blocks : ℕ
@@ -20,6 +20,23 @@ pub record AreBuffers (buffers : ℕ) : Type 0 where
 
 abbrev pub most_numbers : ℕ
 most_numbers = 16
+
+abbrev pub most_seed : ℕ
+most_seed = 999999999
+
+abbrev pub most_rows : ℕ
+most_rows = 1000000
+
+abbrev pub most_texts : ℕ
+most_texts = 40
+
+-- a clinic that can be drawn: its seed, its visits and its texts
+pub record IsDrawn (seed rows texts : ℕ) : Type 0 where
+  pub short_seed : seed ≤ most_seed
+  pub some_rows : 1 ≤ rows
+  pub few_rows : rows ≤ most_rows
+  pub some_texts : 1 ≤ texts
+  pub few_texts : texts ≤ most_texts
 
 abbrev pub least_slices : ℕ
 least_slices = 0

@@ -35,6 +35,17 @@ query_app =
     with_rule (with_rule (with_rule (with_rule (with_rule (with_rule (new_app (codes "query")) (needed (codes "flash")))
     (needed (codes "to"))) (needed (codes "script"))) (optional (codes "plan"))) (optional (codes "pace"))) (optional (codes "buffers"))
 
+abbrev pub audit_app : App
+audit_app =
+    with_rule (with_rule (with_rule (new_app (codes "audit")) (needed (codes "visible"))) (needed (codes "script")))
+    (needed (codes "journal"))
+
+abbrev pub gen_app : App
+gen_app =
+    with_rule (with_rule (with_rule (with_rule (with_rule (with_rule (with_rule (new_app (codes "gen")) (needed (codes "seed")))
+    (needed (codes "rows"))) (needed (codes "flash"))) (optional (codes "texts"))) (optional (codes "plan"))) (optional (codes "pace")))
+    (optional (codes "buffers"))
+
 abbrev pub bare_app : App
 bare_app =
     on_top (λ shape. record shape { disable_help_flag = true; disable_help_subcommand = true; subcommand_required = true })
@@ -45,7 +56,7 @@ abbrev pub app_alone : App
 app_alone = with_subcommand (with_subcommand (with_subcommand bare_app local_app.top) plain_app.top) load_app.top
 
 abbrev pub key_app : App
-key_app = with_subcommand app_alone query_app.top
+key_app = with_subcommand (with_subcommand (with_subcommand app_alone query_app.top) audit_app.top) gen_app.top
 
 -- where a command was made, it is this one, and none of its options is global
 abbrev pub IsMade : {E : Type 0} → App → Result Command E → Type 0

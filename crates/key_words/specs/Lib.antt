@@ -4,3 +4,4 @@ pub mod Refusals
 pub mod Plans
 pub mod Words
 pub mod Views
+pub mod Examples

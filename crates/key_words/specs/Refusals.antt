@@ -7,7 +7,7 @@ use Rattle.clap.specs.Walk.{Row, Text, first_of}
 use Rattle.clap.specs.declared.error.kind.ErrorKind.{ErrorKind}
 use Rattle.clap.specs.declared.error.kind.ErrorKind.TheVariants as kind
 use Rattle.key_words.specs.KeyApp.{key_app}
-use Rattle.key_words.specs.Words.{found, plan_said, pace_said, buffers_said, blocks_said}
+use Rattle.key_words.specs.Words.{found, plan_said, pace_said, buffers_said, blocks_said, seed_said, rows_said, texts_said}
 use Rattle.key_words.specs.declared.words.UsageFault.{UsageFault}
 use Rattle.key_words.specs.declared.words.UsageFault.TheVariants as fault
 
@@ -41,6 +41,9 @@ BreaksRule fault.Plan rows = plan_said (first_of (codes "plan") rows) ≡ None
 BreaksRule fault.Pace rows = pace_said (first_of (codes "pace") rows) ≡ None
 BreaksRule fault.Buffers rows = buffers_said (first_of (codes "buffers") rows) ≡ None
 BreaksRule fault.Blocks rows = blocks_said (first_of (codes "blocks") rows) ≡ None
+BreaksRule fault.Seed rows = seed_said (first_of (codes "seed") rows) ≡ None
+BreaksRule fault.Rows rows = rows_said (first_of (codes "rows") rows) ≡ None
+BreaksRule fault.Texts rows = texts_said (first_of (codes "texts") rows) ≡ None
 BreaksRule _ rows = ⊥
 
 -- it is an option of the command that `clap` reads

@@ -1,6 +1,8 @@
 -- What the read words stand for.
 use Rattle.std.specs.Prelude.{option_map}
 use Rattle.key_words.specs.Words as words
+use Rattle.key_words.specs.declared.words.AuditWords.{AuditWords}
+use Rattle.key_words.specs.declared.words.GenWords.{GenWords}
 use Rattle.key_words.specs.declared.words.KeyWords.{KeyWords}
 use Rattle.key_words.specs.declared.words.KeyWords.TheVariants as key
 use Rattle.key_words.specs.declared.words.LocalWords.{LocalWords}
@@ -42,8 +44,24 @@ query_view query = record {
   buffers = query.buffers;
 }
 
+abbrev pub audit_view : AuditWords → words.Audit
+audit_view audit = record { visible = audit.visible.now; script = audit.script.now; journal = audit.journal.now }
+
+abbrev pub gen_view : GenWords → words.Gen
+gen_view gen = record {
+  flash = gen.flash.now;
+  seed = gen.seed;
+  rows = gen.rows;
+  texts = gen.texts;
+  plan = gen.plan;
+  pace = gen.pace.items;
+  buffers = gen.buffers;
+}
+
 abbrev pub words_view : KeyWords → words.Command
 words_view (key.Local local) = words.LocalCommand (local_view local)
 words_view (key.Plain plain) = words.PlainCommand (plain_view plain)
 words_view (key.Load load) = words.LoadCommand (load_view load)
 words_view (key.Query query) = words.QueryCommand (query_view query)
+words_view (key.Audit audit) = words.AuditCommand (audit_view audit)
+words_view (key.Gen gen) = words.GenCommand (gen_view gen)

@@ -1,7 +1,8 @@
 -- What the words of the program say: the reading of `clap`, and then the rule of each value. `--plan` takes the name of a
 -- plan, and stands for `auto` where it is left out; `--pace` takes 1 to 16 numbers from 0 to 1000 with commas between them,
 -- and is 1 where it is left out. `--buffers` takes a number from 8 to 64, which is 32 where it is left out, and `--blocks` one
--- from 1 to 60,000,000, which may be left out. A number is one to nine decimal digits.
+-- from 1 to 60,000,000, which may be left out. `--seed` takes any number, `--rows` one from 1 to 1,000,000, and `--texts` one from
+-- 1 to 40, which is 40 where it is left out. A number is one to nine decimal digits.
 use Rattle.std.specs.Prelude.{ℕ, Bool, ◌&&◌, ◌==◌, nat_le, List, [], ◌∷◌, length, Option, Some, None, codes, bytes_eq, option_map, option_and_then, if◌then◌else◌}
 use Rattle.std.specs.List.{list_all, slice_split}
 use Rattle.leakless_plan.specs.declared.plan.Plan.{Plan}
@@ -12,7 +13,7 @@ use Rattle.clap.specs.Simple.{subcommand_of}
 use Rattle.clap.specs.Faults.{fault_of}
 use Rattle.key_words.specs.KeyApp.{key_app}
 use Rattle.key_words.specs.Plans.{plan_named}
-use Rattle.key_words.specs.Blocks.{most_blocks, least_buffers, most_buffers, most_numbers, least_slices, most_slices}
+use Rattle.key_words.specs.Blocks.{most_blocks, least_buffers, most_buffers, most_numbers, least_slices, most_slices, most_seed, most_rows, most_texts}
 
 pub record Plain : Type 0 where
   pub schema : List ℕ
@@ -44,11 +45,27 @@ pub record Query : Type 0 where
   pub pace : List ℕ
   pub buffers : ℕ
 
+pub record Audit : Type 0 where
+  pub visible : List ℕ
+  pub script : List ℕ
+  pub journal : List ℕ
+
+pub record Gen : Type 0 where
+  pub flash : List ℕ
+  pub seed : ℕ
+  pub rows : ℕ
+  pub texts : ℕ
+  pub plan : Plan
+  pub pace : List ℕ
+  pub buffers : ℕ
+
 pub data Command : Type 0 where
   LocalCommand : Local → Command
   PlainCommand : Plain → Command
   LoadCommand : Load → Command
   QueryCommand : Query → Command
+  AuditCommand : Audit → Command
+  GenCommand : Gen → Command
 
 -- what `clap` reads; none where it refuses the words
 abbrev pub found : List Text → Option (Text × List Row)
@@ -143,13 +160,56 @@ query_of rows =
     with_plan rows (λ way pace buffers.
     QueryCommand (record { flash = flash; to = to; script = script; plan = way; pace = pace; buffers = buffers })))))
 
+abbrev pub audit_of : List Row → Option Command
+audit_of rows =
+    needs rows (codes "visible") (λ visible. needs rows (codes "script") (λ script. needs rows (codes "journal") (λ journal.
+    Some (AuditCommand (record { visible = visible; script = script; journal = journal })))))
+
+-- the seed, the number of visits and that of the texts that their options say
+abbrev pub seed_said : Option Text → Option ℕ
+seed_said = option_and_then (number_said 0 most_seed)
+
+abbrev pub rows_said : Option Text → Option ℕ
+rows_said = option_and_then (number_said 1 most_rows)
+
+abbrev pub texts_said : Option Text → Option ℕ
+texts_said None = Some 40
+texts_said (Some digits) = number_said 1 most_texts digits
+
+-- the command that is made of them
+abbrev pub with_texts : Option ℕ → (ℕ → Option Command) → Option Command
+with_texts said next = option_and_then next said
+
+abbrev pub with_visits : List Row → Option ℕ → (ℕ → ℕ → Option Command) → Option Command
+with_visits rows said next = option_and_then (λ visits. with_texts (texts_said (first_of (codes "texts") rows)) (next visits)) said
+
+abbrev pub with_seed : List Row → (ℕ → ℕ → ℕ → Option Command) → Option Command
+with_seed rows next =
+    option_and_then (λ seed. with_visits rows (rows_said (first_of (codes "rows") rows)) (next seed))
+    (seed_said (first_of (codes "seed") rows))
+
+abbrev pub gen_of : List Row → Option Command
+gen_of rows =
+    needs rows (codes "flash") (λ flash. with_seed rows (λ seed visits texts. with_plan rows (λ way pace buffers.
+    GenCommand (record {
+      flash = flash;
+      seed = seed;
+      rows = visits;
+      texts = texts;
+      plan = way;
+      pace = pace;
+      buffers = buffers;
+    }))))
+
 abbrev pub command_of : Text → List Row → Option Command
 command_of name rows =
     if bytes_eq name (codes "local")
     then local_of rows
     else if bytes_eq name (codes "plain") then plain_of rows
     else if bytes_eq name (codes "load") then load_of rows
-    else if bytes_eq name (codes "query") then query_of rows else None
+    else if bytes_eq name (codes "query") then query_of rows
+    else if bytes_eq name (codes "audit") then audit_of rows
+    else if bytes_eq name (codes "gen") then gen_of rows else None
 
 -- the command that was found
 abbrev pub said : Option (Text × List Row) → Option Command

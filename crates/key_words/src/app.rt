@@ -87,6 +87,28 @@ fn query_command<'a>(alloc: Global) -> Result<Command<'a>, AllocError>
     with_optional(alloc, command, "buffers")
 }
 
+/// The command `audit`.
+fn audit_command<'a>(alloc: Global) -> Result<Command<'a>, AllocError>
+    ensures made { app.IsMade app.audit_app result }
+{
+    let command = with_needed(alloc, Ok(Command::new(alloc, "audit")), "visible");
+    let command = with_needed(alloc, command, "script");
+    with_needed(alloc, command, "journal")
+}
+
+/// The command `gen`.
+fn gen_command<'a>(alloc: Global) -> Result<Command<'a>, AllocError>
+    ensures made { app.IsMade app.gen_app result }
+{
+    let command = with_needed(alloc, Ok(Command::new(alloc, "gen")), "seed");
+    let command = with_needed(alloc, command, "rows");
+    let command = with_needed(alloc, command, "flash");
+    let command = with_optional(alloc, command, "texts");
+    let command = with_optional(alloc, command, "plan");
+    let command = with_optional(alloc, command, "pace");
+    with_optional(alloc, command, "buffers")
+}
+
 /// The program without its commands.
 fn bare_program<'a>(alloc: Global) -> Command<'a>
     ensures app { app_of result ≡ app.bare_app }
@@ -119,5 +141,7 @@ pub fn program<'a>(alloc: Global) -> Result<Command<'a>, AllocError>
     let program = with_command(Ok(bare_program(alloc)), local_command(alloc));
     let program = with_command(program, plain_command(alloc));
     let program = with_command(program, load_command(alloc));
-    with_command(program, query_command(alloc))
+    let program = with_command(program, query_command(alloc));
+    let program = with_command(program, audit_command(alloc));
+    with_command(program, gen_command(alloc))
 }

@@ -5,6 +5,7 @@
 #![tactic(auto)]
 
 pub mod app;
+pub mod examples;
 pub mod plans;
 pub mod reading;
 pub mod refusing;
@@ -15,5 +16,6 @@ pub mod words;
 pub use reading::read_words;
 pub use shown::ShownWord;
 pub use words::{
-    KeyWords, LoadWords, LocalWords, MAX_NUMBERS, PlainWords, QueryWords, UsageFault, WordsFault,
+    AuditWords, GenWords, KeyWords, LoadWords, LocalWords, MAX_NUMBERS, PlainWords, QueryWords,
+    UsageFault, WordsFault,
 };

@@ -1,20 +1,23 @@
 //! The reading of the words.
 
-ghost use Rattle.std.specs.Prelude.{◌≡◌, ◌≢◌, true, false, Some, None, Err, IfOk, IfErr, OnErr, map, option_map, string_bytes, codes};
+ghost use Rattle.std.specs.Prelude.{◌≡◌, ◌≢◌, ◌≤◌, true, false, Some, None, Err, IfOk, IfErr, OnErr, map, option_map, string_bytes, codes};
 ghost use Rattle.clap.specs.Words.{first_of, found_of, rows_of};
 ghost use Rattle.clap.specs.Simple.{subcommand_rows_of};
 ghost use Rattle.clap.specs.Values.{kind_of};
 ghost use Rattle.key_words.specs.Refusals.{BreaksRule, BreaksRuleIn, HasCause, is_told, told_kind};
-ghost use Rattle.key_words.specs.Blocks.{AreBuffers};
+ghost use Rattle.key_words.specs.Blocks.{AreBuffers, most_seed, most_rows, most_texts};
 ghost use Rattle.key_words.specs.Words.{reading, said};
 ghost use Rattle.key_words.specs.Words as words;
 ghost use Rattle.key_words.specs.Views.{words_view};
 
 use crate::app::program;
 use crate::refusing::refusal;
-use crate::values::{read_blocks, read_buffers, read_pace, read_plan};
+use crate::values::{
+    read_blocks, read_buffers, read_pace, read_plan, read_rows, read_seed, read_texts,
+};
 use crate::words::{
-    KeyWords, LoadWords, LocalWords, MAX_NUMBERS, PlainWords, QueryWords, UsageFault, WordsFault,
+    AuditWords, GenWords, KeyWords, LoadWords, LocalWords, MAX_NUMBERS, PlainWords, QueryWords,
+    UsageFault, WordsFault,
 };
 use arrayvec::ArrayVec;
 use clap::error::ErrorKind;
@@ -88,6 +91,12 @@ fn named_command<'a>(name: &str, options: &ArgMatches<'a>) -> Result<KeyWords<'a
     if name.as_bytes() == "query".as_bytes() {
         return query_of(options);
     }
+    if name.as_bytes() == "audit".as_bytes() {
+        return audit_of(options);
+    }
+    if name.as_bytes() == "gen".as_bytes() {
+        return gen_of(options);
+    }
     Err(UsageFault::Words)
 }
 
@@ -132,6 +141,47 @@ fn buffers_of(options: &ArgMatches<'_>) -> Result<u32, UsageFault>
     match read_buffers(value_of(options, "buffers")) {
         Some(buffers) => Ok(buffers),
         None => Err(UsageFault::Buffers),
+    }
+}
+
+/// The seed of a generated clinic.
+fn seed_of(options: &ArgMatches<'_>) -> Result<u32, UsageFault>
+    ensures read { IfOk result (λ seed. words.seed_said (first_of (codes "seed") (rows_of (found_of options.now))) ≡ Some seed) }
+    ensures usage { OnErr result (words.seed_said (first_of (codes "seed") (rows_of (found_of options.now))) ≡ None) }
+    ensures short { IfOk result (λ seed. seed ≤ most_seed) }
+    ensures fault { IfErr result (λ fault. fault ≡ UsageFault.Seed) }
+{
+    match read_seed(value_of(options, "seed")) {
+        Some(seed) => Ok(seed),
+        None => Err(UsageFault::Seed),
+    }
+}
+
+/// The number of visits of a generated clinic.
+fn visits_of(options: &ArgMatches<'_>) -> Result<u32, UsageFault>
+    ensures read { IfOk result (λ visits. words.rows_said (first_of (codes "rows") (rows_of (found_of options.now))) ≡ Some visits) }
+    ensures usage { OnErr result (words.rows_said (first_of (codes "rows") (rows_of (found_of options.now))) ≡ None) }
+    ensures some { IfOk result (λ visits. 1 ≤ visits) }
+    ensures few { IfOk result (λ visits. visits ≤ most_rows) }
+    ensures fault { IfErr result (λ fault. fault ≡ UsageFault.Rows) }
+{
+    match read_rows(value_of(options, "rows")) {
+        Some(visits) => Ok(visits),
+        None => Err(UsageFault::Rows),
+    }
+}
+
+/// The number of texts of a generated script.
+fn texts_of(options: &ArgMatches<'_>) -> Result<u32, UsageFault>
+    ensures read { IfOk result (λ texts. words.texts_said (first_of (codes "texts") (rows_of (found_of options.now))) ≡ Some texts) }
+    ensures usage { OnErr result (words.texts_said (first_of (codes "texts") (rows_of (found_of options.now))) ≡ None) }
+    ensures some { IfOk result (λ texts. 1 ≤ texts) }
+    ensures few { IfOk result (λ texts. texts ≤ most_texts) }
+    ensures fault { IfErr result (λ fault. fault ≡ UsageFault.Texts) }
+{
+    match read_texts(value_of(options, "texts")) {
+        Some(texts) => Ok(texts),
+        None => Err(UsageFault::Texts),
     }
 }
 
@@ -246,6 +296,56 @@ fn local_of<'a>(options: &ArgMatches<'a>) -> Result<KeyWords<'a>, UsageFault>
         flash,
         script,
         journal: value_of(options, "journal"),
+        plan,
+        pace,
+        buffers,
+    }))
+}
+
+/// The words of `audit`.
+fn audit_of<'a>(options: &ArgMatches<'a>) -> Result<KeyWords<'a>, UsageFault>
+    ensures read { IfOk result (λ command. words.audit_of (rows_of (found_of options.now)) ≡ Some (words_view command)) }
+    ensures usage { (fault : UsageFault) → result ≡ Err fault → words.audit_of (rows_of (found_of options.now)) ≡ None }
+    ensures rule { (fault : UsageFault) → result ≡ Err fault → BreaksRule fault (rows_of (found_of options.now)) }
+    ensures value { (fault : UsageFault) → result ≡ Err fault → told_kind fault ≡ None }
+{
+    let Some(visible) = value_of(options, "visible") else {
+        return Err(UsageFault::Words);
+    };
+    let Some(script) = value_of(options, "script") else {
+        return Err(UsageFault::Words);
+    };
+    let Some(journal) = value_of(options, "journal") else {
+        return Err(UsageFault::Words);
+    };
+    Ok(KeyWords::Audit(AuditWords {
+        visible,
+        script,
+        journal,
+    }))
+}
+
+/// The words of `gen`.
+fn gen_of<'a>(options: &ArgMatches<'a>) -> Result<KeyWords<'a>, UsageFault>
+    ensures read { IfOk result (λ command. words.gen_of (rows_of (found_of options.now)) ≡ Some (words_view command)) }
+    ensures usage { (fault : UsageFault) → result ≡ Err fault → words.gen_of (rows_of (found_of options.now)) ≡ None }
+    ensures rule { (fault : UsageFault) → result ≡ Err fault → BreaksRule fault (rows_of (found_of options.now)) }
+    ensures value { (fault : UsageFault) → result ≡ Err fault → told_kind fault ≡ None }
+{
+    let Some(flash) = value_of(options, "flash") else {
+        return Err(UsageFault::Words);
+    };
+    let seed = seed_of(options)?;
+    let rows = visits_of(options)?;
+    let texts = texts_of(options)?;
+    let plan = plan_of(options)?;
+    let pace = pace_of(options)?;
+    let buffers = buffers_of(options)?;
+    Ok(KeyWords::Gen(GenWords {
+        flash,
+        seed,
+        rows,
+        texts,
         plan,
         pace,
         buffers,

@@ -3,7 +3,7 @@
 ghost use Rattle.std.specs.Prelude.{◌≡◌, ◌≤◌, Some, option_map, IfSome};
 ghost use Rattle.std.specs.List.{list_all};
 ghost use Rattle.ghost_model.specs.refusals.Tokens.{is_digit};
-ghost use Rattle.key_words.specs.Blocks.{IsFew, AreBuffers, least_slices, most_slices};
+ghost use Rattle.key_words.specs.Blocks.{IsFew, AreBuffers, least_slices, most_slices, most_seed, most_rows, most_texts};
 ghost use Rattle.key_words.specs.Words as words;
 
 use crate::plans::plan_named;
@@ -34,6 +34,15 @@ const MAX_BUFFERS: u32 = 64;
 
 /// The page buffers of a key where nothing is said of them.
 const DEFAULT_BUFFERS: u32 = 32;
+
+/// The largest seed of a generated clinic.
+const MAX_SEED: u32 = 999_999_999;
+
+/// The most visits of a generated clinic.
+const MAX_ROWS: u32 = 1_000_000;
+
+/// The most texts of a generated script, and how many they are where nothing is said of them.
+const MAX_TEXTS: u32 = 40;
 
 /// The plan that its option says: `auto` where it is left out, and `None` where its value names no plan.
 pub fn read_plan(given: Option<&str>) -> Option<Plan>
@@ -118,6 +127,35 @@ pub fn read_buffers(given: Option<&str>) -> Option<u32>
     match given {
         None => Some(DEFAULT_BUFFERS),
         Some(text) => number_between(text, MIN_BUFFERS, MAX_BUFFERS),
+    }
+}
+
+/// The seed that its option says, `None` where it is left out or its value breaks the rule.
+pub fn read_seed(given: Option<&str>) -> Option<u32>
+    ensures value { result ≡ words.seed_said (option_map (λ text. text.now) given.entry) }
+    ensures short { IfSome result (λ seed. seed ≤ most_seed) }
+{
+    number_between(given?, 0, MAX_SEED)
+}
+
+/// The number of visits that its option says, `None` where it is left out or its value breaks the rule.
+pub fn read_rows(given: Option<&str>) -> Option<u32>
+    ensures value { result ≡ words.rows_said (option_map (λ text. text.now) given.entry) }
+    ensures some { IfSome result (λ rows. 1 ≤ rows) }
+    ensures few { IfSome result (λ rows. rows ≤ most_rows) }
+{
+    number_between(given?, 1, MAX_ROWS)
+}
+
+/// The number of texts that its option says: 40 where it is left out, and `None` where its value breaks the rule.
+pub fn read_texts(given: Option<&str>) -> Option<u32>
+    ensures value { result ≡ words.texts_said (option_map (λ text. text.now) given.entry) }
+    ensures some { IfSome result (λ texts. 1 ≤ texts) }
+    ensures few { IfSome result (λ texts. texts ≤ most_texts) }
+{
+    match given {
+        None => Some(MAX_TEXTS),
+        Some(text) => number_between(text, 1, MAX_TEXTS),
     }
 }
 

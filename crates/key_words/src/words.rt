@@ -1,7 +1,7 @@
 //! What the words of the program say.
 
 ghost use Rattle.std.proofs.Props.{props};
-ghost use Rattle.key_words.specs.Blocks.{IsFew, AreBuffers};
+ghost use Rattle.key_words.specs.Blocks.{IsFew, AreBuffers, IsDrawn};
 
 use crate::shown::ShownWord;
 use arrayvec::ArrayVec;
@@ -96,6 +96,46 @@ pub struct LocalWords<'a> {
     pub ghost some_buffers: { AreBuffers buffers } by { Prim.hlevel props },
 }
 
+/// The words of `audit`.
+#[derive(Clone, Copy)]
+pub struct AuditWords<'a> {
+    /// The host's file, which begins with the catalog.
+    pub visible: &'a str,
+
+    /// The file of the script.
+    pub script: &'a str,
+
+    /// The file of the journal.
+    pub journal: &'a str,
+}
+
+/// The words of `gen`.
+#[derive(Drop)]
+pub struct GenWords<'a> {
+    /// The file of the flash.
+    pub flash: &'a str,
+
+    /// The number that the clinic is drawn from, below a thousand million.
+    pub seed: u32,
+
+    /// How many visits the clinic has, from 1 to 1,000,000.
+    pub rows: u32,
+
+    /// How many texts the script has, from 1 to 40.
+    pub texts: u32,
+    pub ghost drawn: { IsDrawn seed rows texts } by { Prim.hlevel props },
+
+    /// The plan by which each text is answered.
+    pub plan: Plan,
+
+    /// How many slices of work may come behind each frame of rows: numbers of 0 to 1000, taken round and round.
+    pub pace: ArrayVec<u16, MAX_NUMBERS>,
+
+    /// How many page buffers the key has, from 8 to 64.
+    pub buffers: u32,
+    pub ghost some_buffers: { AreBuffers buffers } by { Prim.hlevel props },
+}
+
 /// A command with its words.
 #[derive(Drop)]
 pub enum KeyWords<'a> {
@@ -110,6 +150,12 @@ pub enum KeyWords<'a> {
 
     /// A session with a host.
     Query(QueryWords<'a>),
+
+    /// The reading of a recorded channel.
+    Audit(AuditWords<'a>),
+
+    /// A session over a clinic that is drawn from a number.
+    Gen(GenWords<'a>),
 }
 
 /// What is wrong with the words.
@@ -162,6 +208,18 @@ pub enum UsageFault {
     /// `--blocks` has a value that it does not take.
     #[error("--blocks takes a number from 1 to 60000000, of at most 9 digits")]
     Blocks,
+
+    /// `--seed` has a value that it does not take.
+    #[error("--seed takes a number of 1 to 9 digits")]
+    Seed,
+
+    /// `--rows` has a value that it does not take.
+    #[error("--rows takes a number from 1 to 1000000, of at most 9 digits")]
+    Rows,
+
+    /// `--texts` has a value that it does not take.
+    #[error("--texts takes a number from 1 to 40, of at most 9 digits")]
+    Texts,
 }
 
 /// Why no command was read.

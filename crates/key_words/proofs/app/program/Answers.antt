@@ -19,11 +19,15 @@ returns-clause-app c =
     let local = c.with_command-program.ensures.made _ _ (c.bare_program.ensures.app, c.bare_program.ensures.global) c.local_command.ensures.made in
     let plain = c.with_command-program-2.ensures.made _ _ local c.plain_command.ensures.made in
     let load = c.with_command-program-3.ensures.made _ _ plain c.load_command.ensures.made in
-    its_app _ _ (c.with_command.ensures.made _ _ load c.query_command.ensures.made)
+    let query = c.with_command-program-4.ensures.made _ _ load c.query_command.ensures.made in
+    let audit = c.with_command-program-5.ensures.made _ _ query c.audit_command.ensures.made in
+    its_app _ _ (c.with_command.ensures.made _ _ audit c.gen_command.ensures.made)
 
 pub returns-clause-global : goal.returns-clause-global
 returns-clause-global c =
     let local = c.with_command-program.ensures.made _ _ (c.bare_program.ensures.app, c.bare_program.ensures.global) c.local_command.ensures.made in
     let plain = c.with_command-program-2.ensures.made _ _ local c.plain_command.ensures.made in
     let load = c.with_command-program-3.ensures.made _ _ plain c.load_command.ensures.made in
-    no_globals app.key_app _ (c.with_command.ensures.made _ _ load c.query_command.ensures.made)
+    let query = c.with_command-program-4.ensures.made _ _ load c.query_command.ensures.made in
+    let audit = c.with_command-program-5.ensures.made _ _ query c.audit_command.ensures.made in
+    no_globals app.key_app _ (c.with_command.ensures.made _ _ audit c.gen_command.ensures.made)
