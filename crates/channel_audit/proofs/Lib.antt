@@ -4,3 +4,4 @@ pub mod Told
 pub mod Moving
 pub mod Steps
 pub mod Deciding
+pub mod Few

@@ -1,11 +1,11 @@
 -- What each kind of line does to an audit that stands in a file.
-use Rattle.std.proofs.Common.{◌≡◌, ℕ, zero, suc, ◌+◌, ◌≤◌, ◌<◌, Bool, true, List, [], ◌∷◌, ◌++◌, length, take, sym, ap, subst, ◌∙◌, arith, append_assoc, length-append}
+use Rattle.std.proofs.Common.{◌≡◌, ℕ, zero, suc, ◌+◌, ◌≤◌, ◌<◌, Bool, true, List, [], ◌∷◌, ◌++◌, length, take, refl, sym, ap, subst, ◌∙◌, arith, append_assoc, length-append}
 use Rattle.std.proofs.lemmas.Bool.{and_parts}
 use Rattle.ghost_model.specs.core.Channel.{Catalog, Entry, Journal}
 use Rattle.ghost_model.specs.core.Asks.{NumberedAsk}
 use Rattle.ghost_model.specs.core.NextMove.{standing_after}
 use Rattle.ghost_model.specs.core.Recorded.{Tells, EachTells, ended_line, all_lines, most_journal, GoesOnWith, IsProperFile, IsNoLineAt, lacks}
-use Rattle.channel_audit.specs.Audited.{GoesOn, GoesWrong, IsWrongMove, StandsIn}
+use Rattle.channel_audit.specs.Audited.{IsAudited, GoesOn, GoesWrong, IsWrongMove, StandsIn}
 use Rattle.channel_audit.specs.declared.audit.Audit.{Audit}
 use Rattle.channel_audit.specs.declared.audit.Due.{Due}
 use Rattle.ghost_model.proofs.RecordedLemmas.Texts.{cut_once, lacks_none}
@@ -19,6 +19,16 @@ each_more (_ ∷ _) [] text made each tells = absurd each
 each_more (_ ∷ texts) (_ ∷ journal) text made each tells = (each.0, each_more texts journal text made each.1 tells)
 
 module _ (catalog : Catalog) (asks : List NumberedAsk) (file : List ℕ) where
+  -- no line was passed
+  pub first_step : (audit : Audit) → IsAudited catalog asks [] audit → StandsIn catalog asks file file audit 0 0
+  first_step audit audited = record {
+    journal = [];
+    begins = record { texts = []; tell = tt; begins = refl; within = omega arith; proper = tt };
+    audited = audited;
+    passed_is = refl;
+    moves_is = refl;
+  }
+
   -- a line that is fine was passed
   pub fine_step : (text rest : List ℕ) (audit after : Audit) (passed moves : ℕ) → (stands : StandsIn catalog asks file (text ++ 10 ∷ rest) audit passed moves)
       → GoesOn catalog asks stands.journal text after → passed + (length text + 1) ≤ most_journal

@@ -1,0 +1,9 @@
+pub mod Fronts
+pub mod Ahead
+pub mod Ending
+pub mod Passing
+pub mod Deciding
+pub mod Outcomes
+pub mod Heads
+pub mod LineParts
+pub mod FileEnds

@@ -1,0 +1,9 @@
+pub mod Renaming
+pub mod Verdicts
+pub mod Results
+pub mod Doing
+pub mod Windows
+pub mod Parts
+pub mod Journals
+pub mod Judgings
+pub mod Telling
