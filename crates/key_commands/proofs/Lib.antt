@@ -1,2 +1,3 @@
 pub mod query_lemmas
 pub mod local_lemmas
+pub mod generate_lemmas

@@ -3,7 +3,7 @@ use Rattle.std.specs.Prelude.{◌≡◌, ◌≤◌, ◌⊎◌, ℕ, Bool, true, 
 use Rattle.ghost_model.specs.core.Causes.{Rose, last_count}
 use Rattle.ghost_model.specs.core.Channel.{Catalog, Journal}
 use Rattle.edge_traits.specs.Files.{Files, SameBut}
-use Rattle.key_words.specs.Words.{Plain, Load, Local, Query}
+use Rattle.key_words.specs.Words.{Plain, Load, Local, Query, Gen}
 use Rattle.key_inputs.specs.Openings.{Spelled, TablesInput, tables_opening}
 use Rattle.key_inputs.specs.Outside.{Outside, HasCauses}
 use Rattle.key_inputs.specs.Scripts.{script_opening}
@@ -21,6 +21,9 @@ use Rattle.key_commands.specs.local.Sessions as locals
 use Rattle.key_commands.specs.local.Results as locally
 use Rattle.key_commands.specs.declared.local.ends.LocalRun.{LocalRun}
 use Rattle.key_commands.specs.declared.local.ends.LocalFailure.{LocalFailure}
+use Rattle.key_commands.specs.generate.Results as generated
+use Rattle.key_commands.specs.declared.generate.ends.GenRun.{GenRun}
+use Rattle.key_commands.specs.declared.generate.ends.GenFailure.{GenFailure}
 use Rattle.key_commands.specs.query.PublicPages.{HasCatalog}
 use Rattle.key_commands.specs.query.Results as queries
 use Rattle.key_commands.specs.declared.query.failures.QueryFailure.{QueryFailure}
@@ -99,3 +102,13 @@ pub record QueryDid (goes : Journal → Type 0) (link_before link_after : ℕ) (
   pub attached : IfErr outcome (λ fault. queries.is_of_opened_flash fault ≡ true → Rose before.device.calls after.device.calls)
   pub flash_left : IfErr outcome (λ fault. queries.is_of_script fault ≡ true → after.device ≡ before.device)
   pub files : after.files ≡ before.files
+
+-- the headline of `gen` stands in `ends`
+pub record GenDid (told : Bool) (outcome : Result GenRun GenFailure) (before after : Outside) (words : Gen) : Type 0 where
+  pub ends : generated.EndsGen told words outcome before after
+  pub complete : (Rose before.device.faults after.device.faults → ⊥) → (Rose before.sink_faults after.sink_faults → ⊥)
+      → generated.is_faultless told outcome ≡ true
+  pub nothing_written : generated.is_failure outcome ≡ true → after.written ≡ before.written
+  pub never_other : (after.device ≡ before.device) ⊎ ((other : List ℕ) → after.device.name ≡ Some other → other ≡ words.flash)
+  pub files : after.files ≡ before.files
+  pub causes : HasCauses (generated.told_by outcome) before after

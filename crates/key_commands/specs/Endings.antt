@@ -8,11 +8,19 @@ use Rattle.key_plain.specs.declared.faults.PlainFault.{PlainFault}
 use Rattle.key_plain.specs.declared.faults.PlainFault.TheVariants as plain_fault
 use Rattle.key_load.specs.declared.failures.LoadFailure.{LoadFailure}
 use Rattle.key_load.specs.declared.failures.LoadFailure.TheVariants as load_failure
+use Rattle.key_audit.specs.declared.failures.Audited.{Audited}
+use Rattle.key_audit.specs.declared.failures.AuditFailure.{AuditFailure}
+use Rattle.key_audit.specs.declared.failures.AuditFailure.TheVariants as audit_failure
 use Rattle.key_commands.specs.declared.local.ends.LocalEnd.{LocalEnd}
 use Rattle.key_commands.specs.declared.local.ends.LocalRun.{LocalRun}
 use Rattle.key_commands.specs.declared.local.ends.LocalEnd.TheVariants as local_end
 use Rattle.key_commands.specs.declared.local.ends.LocalFailure.{LocalFailure}
 use Rattle.key_commands.specs.declared.local.ends.LocalFailure.TheVariants as local_failure
+use Rattle.key_commands.specs.declared.generate.ends.GenEnd.{GenEnd}
+use Rattle.key_commands.specs.declared.generate.ends.GenEnd.TheVariants as gen_end
+use Rattle.key_commands.specs.declared.generate.ends.GenRun.{GenRun}
+use Rattle.key_commands.specs.declared.generate.ends.GenFailure.{GenFailure}
+use Rattle.key_commands.specs.declared.generate.ends.GenFailure.TheVariants as gen_failure
 use Rattle.key_commands.specs.declared.query.failures.QueryFailure.{QueryFailure}
 use Rattle.key_commands.specs.declared.query.failures.QueryFailure.TheVariants as query_failure
 use Rattle.key_session.specs.declared.tally.Tally.{Tally}
@@ -72,6 +80,28 @@ query_code (Err query_failure.Flash) = 6
 query_code (Err (query_failure.TooSmall needed had)) = 10
 query_code (Err query_failure.NotAKey) = 11
 
+abbrev pub audit_code : Result Audited AuditFailure → ℕ
+audit_code (Ok audited) = 0
+audit_code (Err audit_failure.NoMemory) = 3
+audit_code (Err (audit_failure.Input broken)) = 4
+audit_code (Err audit_failure.Depot) = 5
+audit_code (Err audit_failure.Sink) = 9
+audit_code (Err audit_failure.NotTheFile) = 16
+audit_code (Err (audit_failure.Wrong at told due)) = 18
+audit_code (Err (audit_failure.BadJournal line)) = 19
+
+-- of a session over a drawn clinic that was held
+abbrev pub gen_end_code : GenEnd → ℕ
+gen_end_code gen_end.Ok = 0
+gen_end_code gen_end.Sink = 9
+gen_end_code gen_end.Flash = 6
+gen_end_code (gen_end.Damaged damage) = 13
+
+abbrev pub gen_code : Result GenRun GenFailure → ℕ
+gen_code (Ok run) = gen_end_code run.end
+gen_code (Err gen_failure.NoMemory) = 3
+gen_code (Err gen_failure.Flash) = 6
+
 abbrev pub exit_code : Ended → ℕ
 exit_code (ended.Usage fault) = 2
 exit_code ended.NoMemory = 3
@@ -79,12 +109,15 @@ exit_code (ended.Plain run) = plain_code run.outcome
 exit_code (ended.Load outcome) = load_code outcome
 exit_code (ended.Local outcome) = local_code outcome
 exit_code (ended.Query outcome) = query_code outcome
+exit_code (ended.Audit outcome) = audit_code outcome
+exit_code (ended.Gen outcome) = gen_code outcome
 
 -- what was told of each text of a script
 abbrev pub told_of : Ended → List ToldText
 told_of (ended.Plain run) = told_in run.told
 told_of (ended.Local (Ok run)) = told_in run.told
 told_of (ended.Query (Ok tally)) = told_in tally.told
+told_of (ended.Gen (Ok run)) = told_in run.told
 told_of _ = []
 
 -- whether no command was begun: the words are refused, or there was no memory to read them
@@ -126,6 +159,16 @@ OfLocal _ says = ⊤
 abbrev pub OfQuery : Ended → (Result Tally QueryFailure → Type 0) → Type 0
 OfQuery (ended.Query outcome) says = says outcome
 OfQuery _ says = ⊤
+
+-- what is said of `audit`
+abbrev pub OfAudit : Ended → (Result Audited AuditFailure → Type 0) → Type 0
+OfAudit (ended.Audit outcome) says = says outcome
+OfAudit _ says = ⊤
+
+-- what is said of `gen`
+abbrev pub OfGen : Ended → (Result GenRun GenFailure → Type 0) → Type 0
+OfGen (ended.Gen outcome) says = says outcome
+OfGen _ says = ⊤
 
 -- the words say this command, and this was done
 pub record DoesAs {W : Type 0} (command : W → Command) (read : Option Command) (Did : W → Type 0) : Type 0 where

@@ -5,8 +5,10 @@ ghost use Rattle.key_lines.specs.Told.{told_in};
 ghost use Rattle.key_commands.specs.Endings as endings;
 ghost use Rattle.key_commands.specs.Renaming.{ended_by};
 
+use crate::generate::{GenEnd, GenFailure, GenRun};
 use crate::local::{LocalEnd, LocalFailure, LocalRun};
 use crate::query::QueryFailure;
+use key_audit::{AuditFailure, Audited};
 use key_lines::ToldTexts;
 use key_load::LoadFailure;
 use key_plain::PlainFault;
@@ -43,6 +45,12 @@ pub enum Ended {
 
     /// `query` ended so.
     Query(Result<Tally, QueryFailure>),
+
+    /// `audit` ended so.
+    Audit(Result<Audited, AuditFailure>),
+
+    /// `gen` ended so.
+    Gen(Result<GenRun, GenFailure>),
 }
 
 /// How a call ended whose words were not read: for want of memory where that is what was wanted alone.
@@ -64,6 +72,7 @@ impl Ended {
             Ended::Plain(run) => run.told,
             Ended::Local(Ok(run)) => run.told,
             Ended::Query(Ok(tally)) => tally.told,
+            Ended::Gen(Ok(run)) => run.told,
             _ => ToldTexts::none(),
         }
     }
@@ -79,6 +88,8 @@ impl Ended {
             Ended::Load(outcome) => load_code(outcome),
             Ended::Local(outcome) => local_code(outcome),
             Ended::Query(outcome) => query_code(outcome),
+            Ended::Audit(outcome) => audit_code(outcome),
+            Ended::Gen(outcome) => gen_code(outcome),
         }
     }
 }
@@ -164,5 +175,44 @@ fn query_code(outcome: &Result<Tally, QueryFailure>) -> u8
         Err(QueryFailure::Flash) => 6,
         Err(QueryFailure::TooSmall { .. }) => 10,
         Err(QueryFailure::NotAKey) => 11,
+    }
+}
+
+/// The exit code of `audit`.
+fn audit_code(outcome: &Result<Audited, AuditFailure>) -> u8
+    ensures code { result ≡ endings.audit_code outcome.now }
+{
+    match outcome {
+        Ok(_) => 0,
+        Err(AuditFailure::NoMemory) => 3,
+        Err(AuditFailure::Input(_)) => 4,
+        Err(AuditFailure::Depot) => 5,
+        Err(AuditFailure::Sink) => 9,
+        Err(AuditFailure::NotTheFile) => 16,
+        Err(AuditFailure::Wrong { .. }) => 18,
+        Err(AuditFailure::BadJournal { .. }) => 19,
+    }
+}
+
+/// The exit code of a session over a drawn clinic that was held.
+fn gen_end_code(end: &GenEnd) -> u8
+    ensures code { result ≡ endings.gen_end_code end.now }
+{
+    match end {
+        GenEnd::Ok => 0,
+        GenEnd::Sink => 9,
+        GenEnd::Flash => 6,
+        GenEnd::Damaged(_) => 13,
+    }
+}
+
+/// The exit code of `gen`.
+fn gen_code(outcome: &Result<GenRun, GenFailure>) -> u8
+    ensures code { result ≡ endings.gen_code outcome.now }
+{
+    match outcome {
+        Ok(run) => gen_end_code(&run.end),
+        Err(GenFailure::NoMemory) => 3,
+        Err(GenFailure::Flash) => 6,
     }
 }

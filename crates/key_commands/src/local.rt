@@ -8,10 +8,10 @@
 
 pub mod command;
 pub mod ends;
-mod laws;
-mod making;
-mod preparing;
-mod running;
+pub(crate) mod laws;
+pub(crate) mod making;
+pub(crate) mod preparing;
+pub(crate) mod running;
 
 pub use command::local;
 pub use ends::{LocalEnd, LocalFailure, LocalRun};

@@ -1,5 +1,5 @@
 -- What a session and the making before it tell of the counts of faults.
-use Rattle.std.proofs.Common.{◌≡◌, ℕ, Bool, true, false, List, Option, Result, Ok, Err, refl, sym, ◌∙◌, subst}
+use Rattle.std.proofs.Common.{◌≡◌, ℕ, Bool, true, false, List, Option, Result, Err, refl, sym, ◌∙◌, subst}
 use Rattle.edge_traits.specs.Devices.{Device}
 use Rattle.edge_traits.specs.Files.{Files}
 use Rattle.ghost_model.specs.core.Causes.{Rose}

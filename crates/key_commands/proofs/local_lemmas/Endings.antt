@@ -65,7 +65,7 @@ part_stands page catalog schema database hidden same is holds =
     subst (Holds page catalog) (is ∙ sym (ap (λ (c : Catalog). hidden_of c.schema database) same)) holds
 
 -- the catalog and the static files stay where only pages behind them change
-still_holds : HoldingsAreKept → (catalog : Catalog) (hidden : Hidden) → IsTree catalog.schema → LieInOrder catalog → (before after : Device) → ChangesOnly (static_end catalog) (need catalog) before after
+pub still_holds : HoldingsAreKept → (catalog : Catalog) (hidden : Hidden) → IsTree catalog.schema → LieInOrder catalog → (before after : Device) → ChangesOnly (static_end catalog) (need catalog) before after
     → Holds before.page catalog hidden → Holds after.page catalog hidden
 still_holds laws catalog hidden tree order before after changes holds = record {
   catalog = laws.catalog before.page after.page catalog (λ number from to. (changes.below number (omega (arith, to, order.some, order.static))).bytes) holds.catalog;
@@ -73,7 +73,7 @@ still_holds laws catalog hidden tree order before after changes holds = record {
 }
 
 -- a call after those that were counted
-rose_after : (before more now later : ℕ) → Counts more before now → Rose now later → Rose (before + more) later
+pub rose_after : (before more now later : ℕ) → Counts more before now → Rose now later → Rose (before + more) later
 rose_after before more now later counts rose = of_cases (cases_lt now last_count)
   where
     of_cases : (now < last_count) ⊎ (last_count ≤ now) → Rose (before + more) later
@@ -81,7 +81,7 @@ rose_after before more now later counts rose = of_cases (cases_lt now last_count
     of_cases (inr last) = omega (arith, last, rose)
 
 -- so many calls more
-few_since : (before more now later texts : ℕ) → Counts more before now → later ≤ now + texts → later ≤ before + (more + texts)
+pub few_since : (before more now later texts : ℕ) → Counts more before now → later ≤ now + texts → later ≤ before + (more + texts)
 few_since before more now later texts counts few = let most = counts.most in omega (arith, most, few)
 
 abbrev reasons_since : (catalog : Catalog) (texts : List (List ℕ)) (journal : Journal) (Counted : List Reason → Type 0) (before middle after : Outside) → middle.device.faults ≡ before.device.faults
@@ -95,7 +95,7 @@ reasons_since catalog texts journal Counted before middle after faults have = re
   counted = have.counted;
 }
 
-lines_since : (catalog : Catalog) (texts : List (List ℕ)) (journal : Journal) (reasons : List Reason) (failed : Bool) (before middle after : Outside) → middle.sink_faults ≡ before.sink_faults → middle.written ≡ before.written
+pub lines_since : (catalog : Catalog) (texts : List (List ℕ)) (journal : Journal) (reasons : List Reason) (failed : Bool) (before middle after : Outside) → middle.sink_faults ≡ before.sink_faults → middle.written ≡ before.written
     → (lines : HaveLines catalog texts journal reasons (handed false middle.sink_faults middle.written) (handed failed after.sink_faults after.written))
     → (same : HaveLines catalog texts journal reasons (handed false before.sink_faults before.written) (handed failed after.sink_faults after.written)) × (same.lines ≡ lines.lines)
 lines_since catalog texts journal reasons failed before middle after sink written lines = (
@@ -110,17 +110,15 @@ lines_since catalog texts journal reasons failed before middle after sink writte
 )
 
 -- the session ran over what was made for it
-pub ran_of : (told : Bool) (schema : Schema) (database : Database) (texts : List (List ℕ)) (words : Local) (end : LocalEnd) (entries : List ToldText) (catalog : Catalog) (before middle after : Outside)
-    → catalog ≡ catalog_for schema database → RanOver words.plan told catalog database texts words.journal end middle after entries
+unfoldable pub ran_since : (told : Bool) (schema : Schema) (database : Database) (texts : List (List ℕ)) (words : Local) (end : LocalEnd) (entries : List ToldText) (before middle after : Outside)
+    → RanOver words.plan told (catalog_for schema database) database texts words.journal end middle after entries
     → middle.device.faults ≡ before.device.faults → middle.append_faults ≡ before.append_faults → middle.sink_faults ≡ before.sink_faults → middle.written ≡ before.written
     → HasLines middle.files words.journal []
-    → middle.device.name ≡ Some words.flash → Counts (load_calls catalog (hidden_of schema database)) before.device.calls middle.device.calls
-    → (told ≡ true → Holds middle.device.page catalog (hidden_of schema database))
-    → middle.device.page_count ≡ need catalog → ChangesOnly (static_end catalog) (need catalog) middle.device after.device
-    → HoldingsAreKept → IsTree catalog.schema → LieInOrder catalog
+    → middle.device.name ≡ Some words.flash → Counts (load_calls (catalog_for schema database) (hidden_of schema database)) before.device.calls middle.device.calls
+    → (told ≡ true → Holds after.device.page (catalog_for schema database) (hidden_of schema database))
+    → middle.device.page_count ≡ need (catalog_for schema database) → after.device.name ≡ middle.device.name → after.device.page_count ≡ middle.device.page_count
     → Ran told (subject schema database texts words) end before after entries
-ran_of told schema database texts words end entries catalog before middle after same ran faults appends sink written empty named counts there pages kept laws tree order =
-    let mine : RanOver words.plan told (catalog_for schema database) database texts words.journal end middle after entries = subst (λ (c : Catalog). RanOver words.plan told c database texts words.journal end middle after entries) same ran in
+ran_since told schema database texts words end entries before middle after mine faults appends sink written empty named built there pages same_name same_pages =
     let given = lines_since (catalog_for schema database) texts mine.journal mine.reasons.reasons (is_sink end) before middle after sink written mine.lines in
     record {
       journal = mine.journal;
@@ -128,7 +126,7 @@ ran_of told schema database texts words end entries catalog before middle after 
       finished = mine.finished;
       since = session_side_in false middle;
       same_output = rw (sink, written) refl;
-      begun = subst (λ (c : Catalog). Counts (load_calls c (hidden_of schema database)) before.device.calls middle.device.calls) same counts;
+      begun = built;
       kept = λ calm. lines_there words.journal mine.journal middle.files after.files mine.finished empty
           (mine.kept (λ rose. calm (subst (λ (count : ℕ). Rose count after.append_faults) appends rose)));
       all_kept = λ fine. lines_there words.journal mine.journal middle.files after.files mine.finished empty (mine.all_kept fine);
@@ -139,24 +137,37 @@ ran_of told schema database texts words end entries catalog before middle after 
       gives = λ t. gives_since schema database texts (is_sink end) before middle after faults sink written (mine.gives t);
       printed_all = λ t whole. mine.printed_all t whole ∙ ap (λ (held : Option (List ℕ)). grown held (printed schema texts database)) written;
       few_calls = λ t is_pre unfailed.
-          let built = subst (λ (c : Catalog). Counts (load_calls c (hidden_of schema database)) before.device.calls middle.device.calls) same counts in
           few_since before.device.calls (load_calls (catalog_for schema database) (hidden_of schema database)) middle.device.calls after.device.calls (session_calls schema database texts) built
           (mine.few_calls t is_pre (λ rose. unfailed (subst (λ (count : ℕ). Rose count after.device.faults) faults rose)));
       cut = λ t is. mine.cut t is;
-      more_calls = λ is.
-          let built = subst (λ (c : Catalog). Counts (load_calls c (hidden_of schema database)) before.device.calls middle.device.calls) same counts in
-          rose_after before.device.calls (load_calls (catalog_for schema database) (hidden_of schema database)) middle.device.calls after.device.calls built (mine.called is);
-      damage_called = λ is.
-          let built = subst (λ (c : Catalog). Counts (load_calls c (hidden_of schema database)) before.device.calls middle.device.calls) same counts in
-          rose_after before.device.calls (load_calls (catalog_for schema database) (hidden_of schema database)) middle.device.calls after.device.calls built (mine.damage_called is);
+      more_calls = λ is. rose_after before.device.calls (load_calls (catalog_for schema database) (hidden_of schema database)) middle.device.calls after.device.calls built (mine.called is);
+      damage_called = λ is. rose_after before.device.calls (load_calls (catalog_for schema database) (hidden_of schema database)) middle.device.calls after.device.calls built (mine.damage_called is);
       undamaged = mine.undamaged;
       damaged = mine.damaged;
       damage_read = mine.damage_read;
-      holds = λ t. subst (λ (c : Catalog). Holds after.device.page c (hidden_of schema database)) same
-          (still_holds laws catalog (hidden_of schema database) tree order middle.device after.device kept (there t));
-      name = kept.name ∙ named;
-      pages = kept.page_count ∙ (pages ∙ ap need same);
+      holds = there;
+      name = same_name ∙ named;
+      pages = same_pages ∙ pages;
     }
+
+-- and so over the catalog that was made
+pub ran_of : (told : Bool) (schema : Schema) (database : Database) (texts : List (List ℕ)) (words : Local) (end : LocalEnd) (entries : List ToldText) (catalog : Catalog) (before middle after : Outside)
+    → catalog ≡ catalog_for schema database → RanOver words.plan told catalog database texts words.journal end middle after entries
+    → middle.device.faults ≡ before.device.faults → middle.append_faults ≡ before.append_faults → middle.sink_faults ≡ before.sink_faults → middle.written ≡ before.written
+    → HasLines middle.files words.journal []
+    → middle.device.name ≡ Some words.flash → Counts (load_calls catalog (hidden_of schema database)) before.device.calls middle.device.calls
+    → (told ≡ true → Holds middle.device.page catalog (hidden_of schema database))
+    → middle.device.page_count ≡ need catalog → ChangesOnly (static_end catalog) (need catalog) middle.device after.device
+    → HoldingsAreKept → IsTree catalog.schema → LieInOrder catalog
+    → Ran told (subject schema database texts words) end before after entries
+ran_of told schema database texts words end entries catalog before middle after same ran faults appends sink written empty named counts there pages kept laws tree order =
+    ran_since told schema database texts words end entries before middle after
+    (subst (λ (c : Catalog). RanOver words.plan told c database texts words.journal end middle after entries) same ran)
+    faults appends sink written empty named
+    (subst (λ (c : Catalog). Counts (load_calls c (hidden_of schema database)) before.device.calls middle.device.calls) same counts)
+    (λ t. subst (λ (c : Catalog). Holds after.device.page c (hidden_of schema database)) same
+    (still_holds laws catalog (hidden_of schema database) tree order middle.device after.device kept (there t)))
+    (pages ∙ ap need same) kept.name kept.page_count
 
 -- what was made for the session
 pub made_of : (told : Bool) (schema : Schema) (database : Database) (texts : List (List ℕ)) (words : Local) (catalog : Catalog) (hidden : Hidden) (after : Outside)

@@ -41,11 +41,11 @@ use Rattle.key_commands.specs.declared.local.ends.LocalEnd.TheVariants as ends
 use Rattle.key_commands.proofs.local_lemmas.FirstSlots.{slot_stays}
 use Rattle.key_commands.proofs.local_lemmas.Statuses.{none_stops, no_code, whole_status, flash_status, damage_found, no_damage, tells_reasons}
 
-not_so : (b : Bool) → (b ≡ true → ⊥) → b ≡ false
+pub not_so : (b : Bool) → (b ≡ true → ⊥) → b ≡ false
 not_so true never = absurd (never refl)
 not_so false never = refl
 
-false_is_not : false ≡ true → ⊥
+pub false_is_not : false ≡ true → ⊥
 false_is_not e = cc
 
 module _ (catalog : Catalog) (database : Database) (texts : List (List ℕ)) (journal : Journal) (unbroken : IsUnbroken catalog database texts journal) where
@@ -73,7 +73,7 @@ gives_as schema database texts wrote failed before after same gives = record {
 }
 
 -- a session was held to its end
-pub ran_over : (by : Plan) (told : Bool) (catalog : Catalog) (database : Database) (texts : List (List ℕ)) (name : Option (List ℕ)) (end : LocalEnd) (tally : Tally) (before after : Outside) (journal : Journal)
+unfoldable pub ran_over : (by : Plan) (told : Bool) (catalog : Catalog) (database : Database) (texts : List (List ℕ)) (name : Option (List ℕ)) (end : LocalEnd) (tally : Tally) (before after : Outside) (journal : Journal)
     → LocalSessionsAreServed → ToldTextsAreGiven → DamageStays → IsTree catalog.schema
     → IsLocal catalog database [] texts journal → IsFinished journal
     → ((Rose before.append_faults after.append_faults → ⊥) → KeepsLines before.files after.files name journal)
@@ -121,6 +121,9 @@ ran_over by told catalog database texts name end tally before after journal serv
       };
       are_told = entries;
       same = λ t. (by_tally t).same ∙ same t;
+      uncut = λ t is.
+          let all = by_tally t in
+          whole_status (wrote_none tally.status) (standing_after catalog (asked_of catalog.schema texts) journal) (list_any is_cut all.gives.given) stays right none (sym all.status_is ∙ whole is);
       gives = λ t. gives_as catalog.schema database texts (wrote_none tally.status) (is_sink end) before after (sym sink) (by_tally t).gives;
       printed_all = λ t is.
           let all = by_tally t in

@@ -61,6 +61,7 @@ pub record RanOver (by : Plan) (told : Bool) (catalog : Catalog) (database : Dat
   pub are_told : AreTold catalog.schema texts lines.lines entries
   pub gives : told ≡ true → Gives catalog.schema database texts (session_side_in false before) (session_side_in (is_sink end) after)
   pub same : (t : told ≡ true) → lines_in (gives t).given ≡ lines.lines
+  pub uncut : (t : told ≡ true) → end ≡ ends.Ok → list_any is_cut (gives t).given ≡ false
   pub printed_all : told ≡ true → end ≡ ends.Ok → after.written ≡ grown before.written (printed catalog.schema texts database)
   -- by the plan `pre`, where the flash does not fail, it is called no more often than the texts take
   pub few_calls : told ≡ true → by ≡ by_pre → (Rose before.device.faults after.device.faults → ⊥)

@@ -41,7 +41,7 @@ use tree_schema::Catalog;
 use tree_schema::catalog_bytes::a_catalog_is_short;
 
 /// How a session ended, by what it answers and by whether an append to the journal failed.
-fn end_of(status: SessionStatus, append_failed: bool) -> LocalEnd
+pub(crate) fn end_of(status: SessionStatus, append_failed: bool) -> LocalEnd
     requires of_local { is_of_local status ≡ true }
     ensures sink { is_sink result ≡ session.is_sink status }
     ensures depot { (told_by_end result).depot ≡ Risen → append_failed ≡ true }

@@ -1,5 +1,5 @@
 use Rattle.std.proofs.Common.{refl, rules}
-use Rattle.key_words.specs.Views.{plain_view, load_view, local_view}
+use Rattle.key_words.specs.Views.{plain_view, load_view, local_view, audit_view, gen_view}
 use Rattle.key_commands.proofs.command.key_main.Goals as goal
 
 pub returns-in-Ok-Plain-clause-plain : goal.returns-in-Ok-Plain-clause-plain
@@ -30,6 +30,7 @@ returns-in-Ok-Load-clause-judged g c files told sure = record {
   };
   local = tt;
   query = tt;
+  audit = tt;
 }
 
 pub returns-in-Ok-Local-clause-judged : goal.returns-in-Ok-Local-clause-judged
@@ -42,4 +43,44 @@ returns-in-Ok-Local-clause-judged g c files told sure = record {
     did = record { unbroken = c.local.ensures.judged files told sure };
   };
   query = tt;
+  audit = tt;
 }
+
+pub returns-in-Ok-Audit-clause-audit : goal.returns-in-Ok-Audit-clause-audit
+returns-in-Ok-Audit-clause-audit g c = record {
+  words = audit_view c.in-Ok-Audit.words;
+  said = search rules;
+  did = c.audit.ensures.did (g.F.Flash.state c.args.flash.now);
+}
+
+pub returns-in-Ok-Audit-clause-judged : goal.returns-in-Ok-Audit-clause-judged
+returns-in-Ok-Audit-clause-judged g c files told sure = record {
+  plain = tt;
+  load = tt;
+  local = tt;
+  query = tt;
+  audit = record {
+    words = audit_view c.in-Ok-Audit.words;
+    said = search rules;
+    did = record { undecided = c.audit.ensures.undecided files told sure };
+  };
+}
+
+pub returns-in-Ok-Gen-clause-generated : goal.returns-in-Ok-Gen-clause-generated
+returns-in-Ok-Gen-clause-generated g c =
+    let did = c.generate.ensures in
+    let files = g.D.Depot.contents c.args.depot.now in
+    let faults = g.D.Depot.faults c.args.depot.now in
+    let appends = g.D.Depot.append_faults c.args.depot.now in
+    record {
+      words = gen_view c.in-Ok-Gen.words;
+      said = search rules;
+      did = record {
+        ends = did.ends files faults appends;
+        complete = did.complete;
+        nothing_written = did.nothing_written;
+        never_other = did.never_other;
+        files = refl;
+        causes = did.causes files faults appends;
+      };
+    }

@@ -1,0 +1,7 @@
+pub mod GoodFiles
+pub mod RowsMeant
+pub mod RowsGiven
+pub mod Lines
+pub mod Ready
+pub mod Held
+pub mod Drawn
