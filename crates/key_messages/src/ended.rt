@@ -3,6 +3,7 @@
 use crate::telling::line_of;
 use crate::usage::usage_lines;
 use edge_real::plain_words::plain_words;
+use key_audit::AuditFailure;
 use key_commands::Ended;
 use key_commands::local::LocalFailure;
 use key_commands::query::QueryFailure;
@@ -30,7 +31,8 @@ pub fn broken_rule(ended: &Ended) -> Option<InputFault> {
         },
         Ended::Load(Err(LoadFailure::Input(fault)))
         | Ended::Local(Err(LocalFailure::Input(fault)))
-        | Ended::Query(Err(QueryFailure::Input(fault))) => Some(*fault),
+        | Ended::Query(Err(QueryFailure::Input(fault)))
+        | Ended::Audit(Err(AuditFailure::Input(fault))) => Some(*fault),
         _ => None,
     }
 }

@@ -5,8 +5,11 @@
 //! what the lines say.
 #![tactic(auto)]
 
+mod audits;
 pub mod ended;
+mod generated;
 mod input_lines;
+mod refusing;
 mod sessions;
 pub mod telling;
 pub mod usage;

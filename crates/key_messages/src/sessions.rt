@@ -9,10 +9,10 @@ use key_words::{LocalWords, QueryWords};
 use std::alloc::{AllocError, Global};
 
 /// What is told where lines could not be printed.
-const NO_OUTPUT: &str = "the lines could not be printed: see that the output takes them";
+pub(crate) const NO_OUTPUT: &str = "the lines could not be printed: see that the output takes them";
 
-/// What to do where the device that `local` made is damaged.
-const ASK_ELSEWHERE: &str = "ask again over a device of another name";
+/// What to do where the device that `local` or `gen` made is damaged.
+pub(crate) const ASK_ELSEWHERE: &str = "ask again over a device of another name";
 
 /// What to do where a loaded device is damaged.
 const LOAD_ELSEWHERE: &str = "load the tables again under another name, and ask over that";

@@ -61,6 +61,18 @@ pub(crate) fn named_by(alloc: Global, words: &[String]) -> Named<'_> {
             script: said.script,
             ..NONE_NAMED
         },
+        Ok(KeyWords::Audit(said)) => Named {
+            script: said.script,
+            ..NONE_NAMED
+        },
+        Ok(KeyWords::Gen(said)) => Named {
+            replaced: Replaced {
+                flash: said.flash,
+                visible: "",
+                journal: "",
+            },
+            ..NONE_NAMED
+        },
         Err(_) => NONE_NAMED,
     }
 }
