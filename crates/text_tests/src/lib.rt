@@ -1,5 +1,5 @@
 //! Tests of what the product reads and of what it makes of it: values and their cells, schemas and catalogs, query texts
-//! and scripts, CSV files and the two parts of their tables. There is no code but tests.
+//! and scripts, CSV files and the two parts of their tables, a clinic that is drawn from a number. There is no code but tests.
 #![tactic(auto)]
 
 #[cfg(test)]
@@ -8,6 +8,8 @@ mod catalogs;
 mod clinic;
 #[cfg(test)]
 mod csv_files;
+#[cfg(test)]
+mod drawn_clinic;
 #[cfg(test)]
 mod query_texts;
 #[cfg(test)]
