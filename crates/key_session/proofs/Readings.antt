@@ -67,6 +67,7 @@ module _ (early since : ℕ) (before now : Device) (earlier : early ≤ since) (
       slot_is = was.cell.slot_is;
       bytes = was.cell.bytes;
       read = read_on _ was.cell.place was.cell.bytes was.cell.read;
+      wide = was.cell.wide;
       may_not = was.cell.may_not;
       found_is = was.cell.found_is;
     };
@@ -85,6 +86,7 @@ module _ (early since : ℕ) (before now : Device) (earlier : early ≤ since) (
       slot_is = was.row.slot_is;
       bytes = was.row.bytes;
       read = read_on _ was.row.place was.row.bytes was.row.read;
+      wide = was.row.wide;
       may_not = was.row.may_not;
       found_is = was.row.found_is;
     };
