@@ -8,7 +8,7 @@ import os
 import resource
 import shutil
 
-from running import Place, lines_of, rows_of, say, table, title
+from running import Place, lines_of, rows_of, run, say, table, title
 
 TEXT_BYTES = 4096
 SCHEMA_BYTES = SCRIPT_BYTES = 65536
@@ -145,7 +145,7 @@ def write_long(folder):
 
 
 def one_case(bench, what, write_case):
-    """The three commands over a case; each has to end with 0, and `local` and `plain` have to print the same."""
+    """The commands over a case; each has to end with 0, `local` and `plain` have to print the same, and the journal has to be proper."""
     place = Place(bench.key, bench.host, os.path.join(bench.folder, 'largest'))
     os.makedirs(place.name('tables'), exist_ok=True)
     write_case(place.folder)
@@ -153,10 +153,11 @@ def one_case(bench, what, write_case):
     load = place.load()
     sizes = [os.path.getsize(place.name(of)) for of in ('flash', 'visible')]
     os.remove(place.name('flash'))
-    local = place.local('script.sql', 'out.local')
+    local = place.local('script.sql', 'out.local', '--journal', place.name('journal'))
     plain = place.plain('script.sql', 'out.plain')
     if lines_of(place.name('out.local')) != lines_of(place.name('out.plain')):
         bench.differs('`local` and `plain` printed different lines')
+    run([place.key, 'audit', '--visible', place.name('visible'), '--script', place.name('script.sql'), '--journal', place.name('journal')])
     rows = rows_of(place.name('out.plain'))[0]
     shutil.rmtree(place.folder)
     return [what, rows, *(one.cpu for one in (load, local, plain)), *(one.peak / 1024 for one in (load, local, plain)),

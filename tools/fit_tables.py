@@ -49,8 +49,8 @@ INTEGER = re.compile(r'[+-]?(0|[1-9][0-9]*)\Z')
 DECIMAL = re.compile(r'[+-]?(0|[1-9][0-9]*)?[.,][0-9]{1,9}\Z')
 ISO_DATE = re.compile(r'([0-9]{4})-([0-9]{1,2})-([0-9]{1,2})([T ][0-9:.+Z-]*)?\Z')
 OTHER_DATE = re.compile(r'([0-9]{1,2})[./-]([0-9]{1,2})[./-]([0-9]{4})( [0-9:]+)?\Z')
-PRIVATE = re.compile(r'''name|famil|given|surname|first|last|birth|born|dob|phone|tel|mobile|fax|mail|address|addr|street|zip
-    |postal|city|mrn|ssn|passport|insur|iban|account|card|note|comment|remark|text|diag|reason|result|finding|value|plate
+PRIVATE = re.compile(r'''name|famil|given|surname|first|last|birth|born|dob|geb|naiss|nacim|nascit|phone|tel|mobile|fax|mail|address|addr|street
+    |strasse|zip|plz|postal|city|mrn|ssn|passport|insur|iban|account|card|note|comment|remark|text|diag|bemerk|befund|notiz|reason|result|finding|value|plate
     |licen[cs]e|login|user|pass'''.replace('\n    ', ''), re.I)
 FOLDED = {'ä': 'ae', 'ö': 'oe', 'ü': 'ue', 'Ä': 'Ae', 'Ö': 'Oe', 'Ü': 'Ue', 'ß': 'ss', 'æ': 'ae', 'Æ': 'Ae', 'ø': 'oe', 'Ø': 'Oe',
           'å': 'aa', 'Å': 'Aa', 'ł': 'l', 'Ł': 'L', 'đ': 'd', 'Đ': 'D', 'ð': 'd', 'þ': 'th', 'œ': 'oe', 'Œ': 'Oe', 'ı': 'i',
@@ -127,10 +127,7 @@ class CsvSource:
         self.encoding, told = encoding_of(path)
         self.divider = divider_of(path, self.encoding)
         self.notes = ['read as %s, fields divided by %s' % (told, {',': 'commas', ';': 'semicolons', '\t': 'tabs', '|': 'bars'}[self.divider])]
-        first = next(self.records(), None)
-        if first is None:
-            raise Stop('%s: the file is empty: its first line should name the columns' % path)
-        record = first[1]
+        record = next(self.records(), (0, []))[1]
         self.has_names = all(it.strip() and not re.match(r'[+-]?[0-9.,]+\Z', it.strip()) for it in record) and len(set(record)) == len(record)
         self.names = [it.strip() for it in record] if self.has_names else ['c%d' % (at + 1) for at in range(len(record))]
         if not self.has_names:
@@ -178,7 +175,10 @@ def sources_of(where):
         paths = sorted(it for it in os.listdir(where) if it.lower().endswith(('.csv', '.tsv', '.txt')))
         if not paths:
             raise Stop('%s: there is no file that ends with .csv, .tsv or .txt' % where)
-        return {os.path.splitext(it)[0]: CsvSource(os.path.join(where, it)) for it in paths}
+        sources = {os.path.splitext(it)[0]: CsvSource(os.path.join(where, it)) for it in paths}
+        for name in [it for it, source in sources.items() if not source.names]:
+            say('%s: the file is empty, and left out' % sources.pop(name).label)
+        return sources
     with open(where, 'rb') as file:
         if file.read(16) != b'SQLite format 3\0':
             raise Stop('%s: this is no folder, and no SQLite file' % where)
@@ -261,7 +261,7 @@ class Column:
         self.fault(wide, 'outside 64 bits', 'write them as texts, in quotes that hold a letter, or leave the column out')
         self.fitted = {it: str(number) for it, number in made.items() if it not in set(wide)}
         if empties and options.empty is not None:
-            self.notes.append('%s became %d' % (counted(empties, 'empty field'), options.empty))
+            self.notes.append('%s became %d: a query asks for the others by <> %d' % (counted(empties, 'empty field'), options.empty, options.empty))
             self.fitted.update((it, str(options.empty)) for it in self.counts if not it.strip())
             self.fault([it for it, number in made.items() if number == options.empty], 'with the number that is to stand for empty ones',
                        'choose another one by --empty')
@@ -477,11 +477,23 @@ def tree_faults(tables):
                 told, child, len(owners), '\n'.join('        --tables ' + ','.join(reached(tables, it)) for it in roots_above(tables, owners))))
     roots = [it.name for it in tables if not parents[it.name]]
     if len(roots) > 1 and not faults:
+        hints = ['        %s.%s holds keys of %s: --refers %s.%s=%s' % (owner.name, it.name, table.name, owner.name, it.name, table.name)
+                 for table in tables if table.name in roots for owner, it in holders_of(table, tables)]
         faults.append('nothing links %s: say --refers A.COLUMN=B where a column refers to a table; else they are %d databases; run this once with each of\n%s' % (
-            ', '.join(roots), len(roots), '\n'.join('        --tables ' + ','.join(reached(tables, it)) for it in roots)))
-    if not roots:
-        faults.append('the references go in a circle: say --plain for one of them')
+            ', '.join(roots), len(roots), '\n'.join(hints + ['        --tables ' + ','.join(reached(tables, it)) for it in roots])))
+    circles = [(table, it) for table in tables for it in table.columns if it.child is not None and table.name in reached(tables, it.child.name)]
+    if circles and not faults:
+        faults.append('references lead back to their own table: say --plain for one of ' + ', '.join('%s.%s' % (table.name, it.name) for table, it in circles))
     return faults
+
+
+def holders_of(table, tables):
+    """The columns of other tables, with these, that hold nothing but keys of a table, and many of them."""
+    if table.key is None:
+        return []
+    keys = {it.strip() for it in table.key.counts}
+    found = [(owner, it, {value.strip() for value in it.counts} - {''}) for owner in tables if owner is not table for it in owner.columns if it.child is None]
+    return [(owner, it) for owner, it, held in found if held <= keys and 2 * len(held) >= min(len(keys), 40)]
 
 
 def reached(tables, root):
@@ -522,7 +534,7 @@ def propose_hidden(tables, options):
             elif table.rows >= 20 and distinct * 2 > table.rows:
                 column.hidden, column.why = True, 'more than half of its values are another in each row'
             else:
-                column.why = '%d different values in %d rows' % (distinct, table.rows)
+                column.why = '%s in %s' % (counted(distinct, 'value') if distinct == 1 else '%d different values' % distinct, counted(table.rows, 'row'))
 
 
 def singled_out(table):
@@ -630,7 +642,6 @@ def fit(options):
         for column in table.columns:
             column.settle(options)
     faults = find_references(tables, options)
-    faults += tree_faults(tables)
     if len(tables) > MOST_TABLES:
         faults.append('there are %d tables, and a schema has at most %d' % (len(tables), MOST_TABLES))
     faults += ['%s has %d columns with id, and a table has at most %d' % (it.name, len(it.columns) + 1, MOST_COLUMNS) for it in tables if len(it.columns) + 1 > MOST_COLUMNS]
@@ -642,6 +653,7 @@ def fit(options):
             if column.child is not None:
                 column.faults, column.notes = [], []
     check_references(tables, options)
+    faults += tree_faults(tables)
     propose_hidden(tables, options)
     faults += ['%s has %d rows with the added one, and a table has at most %d' % (it.name, it.rows + 1, MOST_ROWS) for it in tables if it.added and it.rows == MOST_ROWS]
     wrong = faults or any(it.faults or any(column.faults for column in it.columns) for it in tables)
