@@ -2,6 +2,7 @@
 pub mod Values
 pub mod Parts
 pub mod Keys
+pub mod Lists
+pub mod Rooms
 pub mod Held
 pub mod Written
-pub mod Lists

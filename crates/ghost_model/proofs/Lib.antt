@@ -16,5 +16,6 @@ pub mod RecordedLemmas
 pub mod MeaningLemmas
 pub mod SessionLemmas
 pub mod RunLemmas
+pub mod GapLemmas
 pub mod LayoutLemmas
 pub mod FlashLemmas

@@ -9,6 +9,7 @@ pub mod Meaning
 pub mod Databases
 pub mod Sessions
 pub mod Catalogs
+pub mod Gaps
 pub mod Layout
 pub mod Flash
 pub mod Slots

@@ -2,6 +2,7 @@ pub mod Cells
 pub mod Catalog
 pub mod Frames
 pub mod Runs
+pub mod Gaps
 pub mod Layout
 pub mod Slots
 pub mod Flash

@@ -11,6 +11,7 @@ pub mod SplitByFlags
 pub mod RunLaws
 pub mod LayoutSums
 pub mod LayoutLaws
+pub mod GapLaws
 pub mod FlashLaws
 pub mod WorkLaws
 pub mod QueryWorkLaws

@@ -2,7 +2,7 @@
 
 ghost use Rattle.ghost_model.specs.laws.FlashLaws.{HiddenValuesByPlace, HiddenPartsGoWithCatalogs, HiddenCellsFit, HiddenCellsOfDatabases, RowsLeadByHiddenValues, HiddenValuesOfDatabases, ColumnFilesGiveValues, HoldingsAreKept, RecordsAreAsWide};
 ghost use Rattle.ghost_model.specs.laws.WorkLaws.{PagesAddUp, ValuesAreCounted};
-ghost use Rattle.ghost_model.specs.laws.ListLaws.{ListsPartition, IdListsPartition};
+ghost use Rattle.ghost_model.specs.laws.ListLaws.{ListsPartition, IdListsPartition, ListsAscend};
 ghost use Rattle.ghost_model.specs.examples.Slots.{RangesOfSlots, OrderOfSlots, DamagedSlots};
 ghost use Rattle.ghost_model.specs.examples.Flash.{CellsOfTheClinic, IndexesOfTheClinic, HoldingsOfTheClinic, PagesOfTheClinic};
 
@@ -64,6 +64,11 @@ pub fn lists_partition()
 /// So have those of an id index.
 pub fn id_lists_partition()
     ensures { IdListsPartition }
+{}
+
+/// Each of these lists ascends, and all have together at most as many identifiers as rows.
+pub fn lists_ascend()
+    ensures { ListsAscend }
 {}
 
 /// Rows lead to the same rows by the hidden part of a database as by the whole.

@@ -8,6 +8,7 @@ pub mod catalogs;
 pub mod cells;
 pub mod channel;
 pub mod flash;
+pub mod gaps;
 pub mod generated;
 pub mod layout;
 pub mod meaning;

@@ -1,5 +1,6 @@
 -- What column files give, and how long files are held.
 use Rattle.std.proofs.Common.{◌≡◌, ap, sym, subst, ◌∙◌, ℕ, suc, ◌+◌, ◌-◌, ◌*◌, ◌/◌, ◌<◌, ◌≤◌, true, false, cond, List, [], ◌∷◌, length, map, replicate, slice_index, get_or, arith}
+use Rattle.std.specs.List.{concat}
 use Rattle.std.proofs.Math.Nat.{div-mul-le_self}
 use Rattle.std.proofs.lemmas.Nat.{le-div}
 use Rattle.std.proofs.lemmas.Option.{slice_get-get_or}
@@ -12,13 +13,14 @@ use Rattle.ghost_model.specs.core.Asks.{kind_at}
 use Rattle.ghost_model.specs.core.Split.{Hidden}
 use Rattle.ghost_model.specs.core.Replies.{hidden_value}
 use Rattle.ghost_model.specs.forms.Runs.{Run, Stores, record_at, run_end, run_pages, per_page, number_cell}
+use Rattle.ghost_model.specs.forms.Gaps.{StoresBytes, level_bytes}
 use Rattle.ghost_model.specs.laws.RunLaws.{AgreeOn}
 use Rattle.ghost_model.specs.forms.Layout.{is_hidden, count_of, levels_of, above_of, descendants_of, public_pages, files_end}
 use Rattle.ghost_model.specs.laws.ShortWords.{column_count, column_file, subtree_table, index_header, index_directory, index_level, id_directory, id_level}
 use Rattle.ghost_model.specs.laws.LayoutSums.{column_pages, columns_pages, column_begin, column_pages_before, subtree_begin, subtree_pages, directory_width, directory_pages, level_pages, levels_pages, index_begin, index_pages, index_pages_before, indexes_pages, id_index_begin, id_index_pages, id_directory_pages, table_begin, table_pages}
 use Rattle.ghost_model.specs.laws.LayoutSums as sums
 use Rattle.ghost_model.specs.laws.LayoutLaws.{AreNarrow, LieAsSummed, LieInOrder}
-use Rattle.ghost_model.specs.forms.Flash.{HoldsColumns, HoldsSubtrees, HoldsLists, HoldsIndex, HoldsFiles, hidden_cells, subtree_record, ids, directory_records, list_records, value_lists, id_lists}
+use Rattle.ghost_model.specs.forms.Flash.{HoldsColumns, HoldsSubtrees, HoldsLists, HoldsIndex, HoldsFiles, hidden_cells, subtree_record, ids, directory_records, value_lists, id_lists}
 use Rattle.ghost_model.specs.laws.FlashLaws.{GoesWith, HoldingsAreKept}
 use Rattle.ghost_model.proofs.RunLemmas.{run_kept}
 use Rattle.ghost_model.proofs.LayoutLemmas.Numbers.{some_per_page}
@@ -26,6 +28,7 @@ use Rattle.ghost_model.proofs.LayoutLemmas.Places.{table_there, column_there, li
 use Rattle.ghost_model.proofs.LayoutLemmas.Order.{lie_in_order, its_pages, sum_next, sums_rise}
 use Rattle.ghost_model.proofs.LayoutLemmas.Small.{are_narrow, some_in}
 use Rattle.ghost_model.proofs.FlashLemmas.Values.{cells_fit}
+use Rattle.ghost_model.proofs.FlashLemmas.Rooms.{level_fits, few_in_values, few_in_ids}
 
 pub give_values : (page : ℕ → List ℕ) (cat : Catalog) (hidden : Hidden) → IsTree cat.schema → GoesWith cat hidden
     → HoldsColumns page cat hidden → (table column : ℕ) → is_hidden cat.schema table column ≡ true
@@ -76,21 +79,25 @@ module _ (page other : ℕ → List ℕ) (cat : Catalog) (hidden : Hidden) (tree
       (omega (arith, some)) (omega (arith, wide))
       (λ at low high. agree at (omega (arith, first, low)) (omega (arith, first, pages, high)))
 
-  -- a directory with level files behind it
+  -- a directory with level files behind it, whose lists are no longer than their tables
   lists_kept : (directory : Run) (level_file : ℕ → Run) (begin : ℕ) (heads : List (List ℕ)) (tables : List ℕ) (lists : ℕ → List (List ℕ))
       → 0 < directory.width → directory.width ≤ 160 → run_end directory ≤ begin
       → ((level : ℕ) → level < length tables → level_file level ≡ sums.level_file cat begin tables level)
+      → ((table : ℕ) → length (concat (lists table)) ≤ count_of cat table)
       → AgreeOn page other directory.first (begin + levels_pages cat tables)
       → HoldsLists page directory level_file heads tables lists → HoldsLists other directory level_file heads tables lists
-  lists_kept directory level_file begin heads tables lists some wide before files agree holds = record {
+  lists_kept directory level_file begin heads tables lists some wide before files few agree holds = record {
     places = run_kept page other directory (directory_records heads tables lists) some (omega (arith, wide))
         (λ at low high. agree at low (omega (arith, high, before))) holds.places;
     levels = λ level low.
-        let P : Run → Type 0 = λ run. Stores page run (list_records (lists (slice_index tables level))) → Stores other run (list_records (lists (slice_index tables level))) in
+        let table = slice_index tables level in
+        let bytes = level_bytes (lists table) in
+        let P : Run → Type 0 = λ run. StoresBytes page run bytes → StoresBytes other run bytes in
         let within = sum_by_more_le (level_pages cat) tables level 0 low in
+        let fits = level_fits (count_of cat table) (lists table) (few table) in
         subst P (sym (files level low))
-        (run_kept page other (sums.level_file cat begin tables level) (list_records (lists (slice_index tables level))) (omega arith) (omega arith)
-        (λ at from to. agree at (omega (arith, before, from)) (omega (arith, to, within))))
+        (run_kept page other (record (sums.level_file cat begin tables level) { count = length bytes }) (map (λ byte. byte ∷ []) bytes) (omega arith) (omega arith)
+        (λ at from to. agree at (omega (arith, before, from)) (omega (arith, to, within, fits))))
         (holds.levels level low);
   }
 
@@ -117,6 +124,7 @@ module _ (page other : ℕ → List ℕ) (cat : Catalog) (hidden : Hidden) (tree
             (index_begin cat table column + 1 + directory_pages cat table column) holds.values (levels_of cat.schema table)
             (value_lists cat hidden table column holds.values) (omega (arith, least)) wide (omega (arith, next, fewer))
             (λ level low. laid.index_level table column level h low)
+            (λ from. few_in_values cat hidden table column from holds.values holds.are_values)
             (λ at low high. agree at (omega (arith, low, next)) (omega (arith, high, size))) holds.entries;
       }
 
@@ -132,7 +140,7 @@ module _ (page other : ℕ → List ℕ) (cat : Catalog) (hidden : Hidden) (tree
       ap (λ b. cond b 0 (id_directory_pages cat table + levels_pages cat (above_of cat.schema table))) h in
       lists_kept (id_directory cat table) (id_level cat table) (id_index_begin cat table + id_directory_pages cat table) (replicate (count_of cat table) [])
       (above_of cat.schema table) (id_lists cat hidden table) (omega (arith, some)) (omega (arith, wide)) (omega (arith, first))
-      (λ level low. laid.id_level table level there low)
+      (λ level low. laid.id_level table level there low) (few_in_ids cat hidden table)
       (λ at low high. agree at (omega (arith, low, first)) (omega (arith, high, size)))
 
   -- each part of a table lies among the static files

@@ -57,7 +57,7 @@ filter_rest : (v w : ℕ → Bool) (ks : List ℕ) → ((k : ℕ) → v k ≡ tr
 filter_rest v w [] h = refl
 filter_rest v w (k ∷ ks) h = filter_one w (v k) k (filter (λ j. not (v j)) ks) ks (h k) (filter_rest v w ks h)
 
-lists_rest : {V : Type 0} (test : V → ℕ → Bool) (v : V) (vs : List V) (ks : List ℕ)
+pub lists_rest : {V : Type 0} (test : V → ℕ → Bool) (v : V) (vs : List V) (ks : List ℕ)
     → AllByRecursion (λ w. (k : ℕ) → test v k ≡ true → test w k ≡ false) vs
     → flat_map (λ w. filter (test w) (filter (λ k. not (test v k)) ks)) vs ≡ flat_map (λ w. filter (test w) ks) vs
 lists_rest test v [] ks h = refl
@@ -66,7 +66,7 @@ lists_rest test v (w ∷ vs) ks h =
     let others = lists_rest test v vs ks h.1 in
     λ i. one i ++ others i
 
-joined_lists : {V : Type 0} (list : V → List ℕ) (values : List V) → flat_map list values ≡ concat (map list values)
+pub joined_lists : {V : Type 0} (list : V → List ℕ) (values : List V) → flat_map list values ≡ concat (map list values)
 joined_lists list [] = refl
 joined_lists list (v ∷ vs) = ap (λ rest. list v ++ rest) (joined_lists list vs)
 
@@ -92,7 +92,7 @@ apart_from_all : (key : ℕ → List ℕ) (v : List ℕ) (vs : List (List ℕ)) 
 apart_from_all key v [] h = tt
 apart_from_all key v (w ∷ vs) h = (apart_from key v w h.0, apart_from_all key v vs h.1)
 
-exclusive : (key : ℕ → List ℕ) (values : List (List ℕ)) → IsStrictlySortedBy (slice_cmp nat_cmp) values → Exclusive (λ v k. bytes_eq (key k) v) values
+pub exclusive : (key : ℕ → List ℕ) (values : List (List ℕ)) → IsStrictlySortedBy (slice_cmp nat_cmp) values → Exclusive (λ v k. bytes_eq (key k) v) values
 unfolding IsStrictlySortedBy
 exclusive key [] h = tt
 exclusive key (v ∷ vs) h = (apart_from_all key v vs h.0, exclusive key vs h.1)
@@ -119,7 +119,7 @@ numbers_apart : (o : Option ℕ) (v w : ℕ) → v < w → is_table v o ≡ true
 numbers_apart o v w less e =
     let differ : (v == w) ≡ false = grind (arith, nat_tests) in ap (is_table w) (child_is v o e) ∙ differ
 
-exclusive_range : (key : ℕ → Option ℕ) (a n : ℕ) → Exclusive (λ v k. is_table v (key k)) (range_with_len a n)
+pub exclusive_range : (key : ℕ → Option ℕ) (a n : ℕ) → Exclusive (λ v k. is_table v (key k)) (range_with_len a n)
 exclusive_range key a zero = tt
 exclusive_range key a (suc n) = (
   all_of_range (λ w. (k : ℕ) → is_table a (key k) ≡ true → is_table w (key k) ≡ false) (a + 1) n (λ w low high k e. numbers_apart (key k) a w (omega (arith, low)) e),

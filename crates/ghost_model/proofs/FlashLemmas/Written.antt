@@ -1,12 +1,15 @@
--- What is written: how many values a column has, and the pages of all files, table by table.
-use Rattle.std.proofs.Common.{◌≡◌, refl, ap, sym, ◌∙◌, subst, ℕ, zero, suc, ◌+◌, ◌*◌, ◌<◌, Bool, true, false, cond, ◌||◌, List, [], ◌∷◌, ◌++◌, length, map, filter, flat_map, sum_by, Contains, bytes_eq, slice_index_or, arith}
-use Rattle.std.specs.List.{list_any, IsDistinct}
-use Rattle.std.specs.Set.{distinct_count, is_member}
+-- What is written: which values a column has and how many, and the pages of all files, table by table.
+use Rattle.std.proofs.Common.{◌≡◌, refl, ap, sym, ◌∙◌, subst, ℕ, suc, ◌+◌, ◌*◌, Bool, true, false, cond, ◌||◌, List, [], ◌∷◌, ◌++◌, length, map, filter, flat_map, sum_by, Contains, bytes_eq, arith}
+use Rattle.std.specs.List.{list_any, AllByRecursion, IsDistinct}
+use Rattle.std.specs.Set.{distinct_count}
 use Rattle.std.specs.List.Sorted.{IsStrictlySortedBy}
 use Rattle.std.specs.Cmp.Lexicographic.{slice_cmp}
-use Rattle.std.specs.Ordering.{nat_cmp, eq_by_cmp}
-use Rattle.std.proofs.lemmas.Cmp.{nat_list_eq_equiv}
+use Rattle.std.specs.declared.cmp.Ordering.{Ordering}
+use Rattle.std.specs.declared.cmp.Ordering.TheVariants.{Less, Equal, Greater}
+use Rattle.std.specs.Ordering.{nat_cmp, eq_by_cmp, is_eq, is_lt, ordering_reverse}
+use Rattle.std.proofs.lemmas.Cmp.{nat_list_cmp_total, nat_list_eq_equiv}
 use Rattle.std.proofs.lemmas.Map.Keys.{IsDistinct-from_sorted}
+use Rattle.std.proofs.lemmas.Map.Lookups.{btree_set_from_contains, exact_bytes}
 use Rattle.std.proofs.lemmas.Map.Made.{distinct_count-le}
 use Rattle.std.proofs.lemmas.Map.Views.{list_any-from_Contains}
 use Rattle.std.proofs.lemmas.Map.Text.{is_eq-slice_cmp}
@@ -16,14 +19,14 @@ use Rattle.std.proofs.lemmas.List.Sums.{sum_by-cons, sum_by-append}
 use Rattle.ghost_model.specs.core.Channel.{Catalog}
 use Rattle.ghost_model.specs.core.Split.{Hidden}
 use Rattle.ghost_model.specs.forms.Runs.{pages_of}
-use Rattle.ghost_model.specs.forms.Layout.{below, is_hidden, hidden_columns, width_at, count_of, levels_of, above_of, descendants_of, Structure, ColumnFile, SubtreeTable, ClimbingIndex, IdIndex, structures, level_files, files_pages, tables_of}
+use Rattle.ghost_model.specs.forms.Layout.{below, is_hidden, hidden_columns, width_at, count_of, levels_of, above_of, descendants_of, Structure, ColumnFile, SubtreeTable, ClimbingIndex, IdIndex, structures, files_pages, tables_of}
 use Rattle.ghost_model.specs.laws.ShortWords.{structures_of, column_count}
-use Rattle.ghost_model.specs.laws.LayoutSums.{column_pages, columns_pages, directory_width, levels_pages, subtree_pages, subtree_width, id_index_pages}
-use Rattle.ghost_model.specs.forms.Flash.{hidden_cells, AreValues}
-use Rattle.ghost_model.specs.forms.Work.{value_count, written_of, file_pages}
+use Rattle.ghost_model.specs.laws.LayoutSums.{column_pages, columns_pages, directory_width, subtree_width}
+use Rattle.ghost_model.specs.forms.Flash.{hidden_cells, value_lists, id_lists, AreValues}
+use Rattle.ghost_model.specs.forms.Work.{value_count, with_value, values_among, values_at, levels_written, written_of, file_pages}
 use Rattle.ghost_model.specs.laws.WorkLaws.{index_written, indexes_written, table_written, PagesAddUp, ValuesAreCounted}
 use Rattle.ghost_model.proofs.LayoutLemmas.Following as follow
-use Rattle.ghost_model.proofs.LayoutLemmas.Following.{levels_are, one_file, some_width, id_pages}
+use Rattle.ghost_model.proofs.LayoutLemmas.Following.{one_file, some_width}
 
 -- values
 any_contains : (q : List ℕ) (xs : List (List ℕ)) → list_any (bytes_eq q) xs ≡ true → Contains xs q
@@ -39,21 +42,109 @@ as_one true b h g = sym (h refl)
 as_one false true h g = g refl
 as_one false false h g = refl
 
+by_order : eq_by_cmp (slice_cmp nat_cmp) ≡ bytes_eq
+by_order = λ i x y. is_eq-slice_cmp x y i
+
 distinct : (values : List (List ℕ)) → IsStrictlySortedBy (slice_cmp nat_cmp) values → IsDistinct bytes_eq values
 distinct values ascending =
-    let same : eq_by_cmp (slice_cmp nat_cmp) ≡ bytes_eq = λ i x y. is_eq-slice_cmp x y i in
-    subst (λ (e : List ℕ → List ℕ → Bool). IsDistinct e values) same (IsDistinct-from_sorted (slice_cmp nat_cmp) values ascending)
+    subst (λ (e : List ℕ → List ℕ → Bool). IsDistinct e values) by_order (IsDistinct-from_sorted (slice_cmp nat_cmp) values ascending)
+
+same_members : (cells values : List (List ℕ)) → AreValues cells values → (q : List ℕ) → list_any (bytes_eq q) values ≡ list_any (bytes_eq q) cells
+same_members cells values are q =
+    as_one (list_any (bytes_eq q) values) (list_any (bytes_eq q) cells)
+    (λ h. list_any-from_Contains nat_list_eq_equiv q cells (are.only q (any_contains q values h)))
+    (λ h. list_any-from_Contains nat_list_eq_equiv q values (are.all q (any_contains q cells h)))
 
 pub counted : (cells values : List (List ℕ)) → AreValues cells values → distinct_count bytes_eq cells ≡ length values
-counted cells values are =
-    sym (length-from_keys nat_list_eq_equiv values cells (distinct values are.ascending)
-    (λ q. as_one (is_member bytes_eq values q) (is_member bytes_eq cells q)
-    (λ h. list_any-from_Contains nat_list_eq_equiv q cells (are.only q (any_contains q values h)))
-    (λ h. list_any-from_Contains nat_list_eq_equiv q values (are.all q (any_contains q cells h)))))
+counted cells values are = sym (length-from_keys nat_list_eq_equiv values cells (distinct values are.ascending) (same_members cells values are))
+
+-- values that are put among others one by one
+all_with : (P : List ℕ → Type 0) (value : List ℕ) (values : List (List ℕ)) → P value → AllByRecursion P values → AllByRecursion P (with_value value values)
+unfolding with_value
+all_with P value [] here rest = (here, tt)
+all_with P value (other ∷ values) here rest =
+    by (is_lt (slice_cmp nat_cmp value other)) (bytes_eq value other) (all_with P value values here rest.1)
+  where
+    by : (a b : Bool) → AllByRecursion P (with_value value values)
+        → AllByRecursion P (cond a (value ∷ other ∷ values) (cond b (other ∷ values) (other ∷ with_value value values)))
+    by true b later = (here, rest)
+    by false true later = rest
+    by false false later = (rest.0, later)
+
+all_behind : (value other : List ℕ) (values : List (List ℕ)) → slice_cmp nat_cmp value other ≡ Less
+    → AllByRecursion (λ z. slice_cmp nat_cmp other z ≡ Less) values → AllByRecursion (λ z. slice_cmp nat_cmp value z ≡ Less) values
+all_behind value other [] less all = tt
+all_behind value other (z ∷ values) less all = (nat_list_cmp_total.trans value other z less all.0, all_behind value other values less all.1)
+
+ascending_with : (value : List ℕ) (values : List (List ℕ)) → IsStrictlySortedBy (slice_cmp nat_cmp) values
+    → IsStrictlySortedBy (slice_cmp nat_cmp) (with_value value values)
+unfolding with_value IsStrictlySortedBy
+ascending_with value [] order = (tt, tt)
+ascending_with value (other ∷ values) order =
+    by (slice_cmp nat_cmp value other) refl (bytes_eq value other) refl (ascending_with value values order.1)
+  where
+    by : (r : Ordering) → slice_cmp nat_cmp value other ≡ r → (b : Bool) → bytes_eq value other ≡ b
+        → IsStrictlySortedBy (slice_cmp nat_cmp) (with_value value values)
+        → IsStrictlySortedBy (slice_cmp nat_cmp) (cond (is_lt r) (value ∷ other ∷ values) (cond b (other ∷ values) (other ∷ with_value value values)))
+    by Less e b f later = ((e, all_behind value other values e order.0), order)
+    by Equal e true f later = order
+    by Equal e false f later = let clash : true ≡ false = sym (ap is_eq e) ∙ (is_eq-slice_cmp value other ∙ f) in absurd (cc (clash))
+    by Greater e true f later = order
+    by Greater e false f later = (
+      all_with (λ z. slice_cmp nat_cmp other z ≡ Less) value values (nat_list_cmp_total.antisymm other value ∙ ap ordering_reverse e) order.0,
+      later,
+    )
+
+twice : (a b : Bool) → (a || b) ≡ (a || (a || b))
+twice true b = refl
+twice false b = refl
+
+other_first : (a b c : Bool) → (a || (b || c)) ≡ (b || (a || c))
+other_first true true c = refl
+other_first true false c = refl
+other_first false b c = refl
+
+any_with : (q value : List ℕ) (values : List (List ℕ)) → list_any (bytes_eq q) (with_value value values) ≡ (bytes_eq q value || list_any (bytes_eq q) values)
+unfolding with_value
+any_with q value [] = refl
+any_with q value (other ∷ values) = by (is_lt (slice_cmp nat_cmp value other)) (bytes_eq value other) refl (any_with q value values)
+  where
+    by : (a b : Bool) → bytes_eq value other ≡ b
+        → list_any (bytes_eq q) (with_value value values) ≡ (bytes_eq q value || list_any (bytes_eq q) values)
+        → list_any (bytes_eq q) (cond a (value ∷ other ∷ values) (cond b (other ∷ values) (other ∷ with_value value values)))
+        ≡ (bytes_eq q value || (bytes_eq q other || list_any (bytes_eq q) values))
+    by true b e later = refl
+    by false true e later =
+        let same : value ≡ other = (bytes_eq-Decides value other).0 e in
+        twice (bytes_eq q other) (list_any (bytes_eq q) values)
+        ∙ sym (ap (λ v. bytes_eq q v || (bytes_eq q other || list_any (bytes_eq q) values)) same)
+    by false false e later =
+        ap (λ b. bytes_eq q other || b) later ∙ other_first (bytes_eq q other) (bytes_eq q value) (list_any (bytes_eq q) values)
+
+ascending_among : (cells : List (List ℕ)) → IsStrictlySortedBy (slice_cmp nat_cmp) (values_among cells)
+unfolding values_among IsStrictlySortedBy
+ascending_among [] = tt
+ascending_among (cell ∷ cells) = ascending_with cell (values_among cells) (ascending_among cells)
+
+any_among : (q : List ℕ) (cells : List (List ℕ)) → list_any (bytes_eq q) (values_among cells) ≡ list_any (bytes_eq q) cells
+unfolding values_among
+any_among q [] = refl
+any_among q (cell ∷ cells) = any_with q cell (values_among cells) ∙ ap (λ b. bytes_eq q cell || b) (any_among q cells)
+
+pub among : (cells values : List (List ℕ)) → AreValues cells values → values_among cells ≡ values
+among cells values are =
+    btree_set_from_contains nat_list_cmp_total (record { keys = values_among cells }) (record { keys = values }) (ascending_among cells) are.ascending
+    (λ q.
+    ap (λ (e : List ℕ → List ℕ → Bool). list_any (e q) (values_among cells)) by_order
+    ∙ (any_among q cells
+    ∙ (sym (same_members cells values are q)
+    ∙ sym (ap (λ (e : List ℕ → List ℕ → Bool). list_any (e q) values) by_order))))
+    exact_bytes
 
 pub values_counted : ValuesAreCounted
 values_counted = record {
   count = λ cat hidden table column values are. counted (hidden_cells cat.schema hidden table column) values are;
+  are = λ cat hidden table column values are. among (hidden_cells cat.schema hidden table column) values are;
   few = λ cat hidden table column. distinct_count-le bytes_eq (hidden_cells cat.schema hidden table column);
 }
 
@@ -82,14 +173,14 @@ sum_same g h same ks = ap (λ (f : ℕ → ℕ). sum_by f ks) (λ i k. same k i)
 module _ (cat : Catalog) (hidden : Hidden) where
   index_is : (table column : ℕ)
       → files_pages (written_of cat hidden (ClimbingIndex table column))
-      ≡ 1 + (pages_of (value_count cat hidden table column) (directory_width cat.schema table column) + levels_pages cat (levels_of cat.schema table))
+      ≡ 1 + (pages_of (value_count cat hidden table column) (directory_width cat.schema table column)
+      + files_pages (levels_written (value_lists cat hidden table column (values_at cat hidden table column)) (levels_of cat.schema table)))
   index_is table column =
       let directory : ℕ × ℕ = (value_count cat hidden table column, directory_width cat.schema table column) in
-      let levels = level_files cat (levels_of cat.schema table) in
+      let levels = levels_written (value_lists cat hidden table column (values_at cat hidden table column)) (levels_of cat.schema table) in
       let first = sum_by-cons follow.file_pages (1, 4) (directory ∷ levels) in
       let second = sum_by-cons follow.file_pages directory levels in
-      let rest = levels_are cat (levels_of cat.schema table) in
-      omega (arith, first, second, rest)
+      omega (arith, first, second)
 
   columns_are : (table : ℕ) → sum_by (λ s. files_pages (written_of cat hidden s)) (map (ColumnFile table) (hidden_columns cat.schema table)) ≡ columns_pages cat table
   columns_are table =
@@ -119,7 +210,7 @@ module _ (cat : Catalog) (hidden : Hidden) where
       let columns = columns_are table in
       let indexes = indexes_are table in
       let below_it = one_file (count_of cat table) (subtree_width cat.schema table) ∙ some_width 4 (count_of cat table) (descendants_of cat.schema table) in
-      let above_it = id_pages cat (count_of cat table) (above_of cat.schema table) in
+      let above_it = sum_by-cons follow.file_pages (count_of cat table, 8 * length (above_of cat.schema table)) (levels_written (id_lists cat hidden table) (above_of cat.schema table)) in
       omega (arith, a, b, c, d, columns, indexes, below_it, above_it)
 
 pub add_up : PagesAddUp

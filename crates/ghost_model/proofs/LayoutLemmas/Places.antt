@@ -11,6 +11,7 @@ use Rattle.std.proofs.Math.Seq.{take-length}
 use Rattle.ghost_model.specs.core.Schema.{Schema, columns_or_none, columns_of}
 use Rattle.ghost_model.specs.core.Channel.{Catalog}
 use Rattle.ghost_model.specs.forms.Runs.{Run, run_pages}
+use Rattle.ghost_model.specs.forms.Gaps.{room_of}
 use Rattle.ghost_model.specs.forms.Layout.{below, is_hidden, hidden_columns, levels_of, above_of, count_of, Structure, ColumnFile, SubtreeTable, ClimbingIndex, IdIndex, is_same, structures, level_files, files_of, files_pages, structure_pages, public_pages, first_page, run_of, files_end, static_end, half_pages, spool_end}
 use Rattle.ghost_model.specs.laws.ShortWords.{static_files, spool_areas, structures_of, column_count}
 use Rattle.ghost_model.specs.laws.LayoutSums.{levels_pages, directory_width, id_directory_width, directory_pages, id_directory_pages, index_begin, id_index_begin, table_begin}
@@ -227,7 +228,7 @@ module _ (cat : Catalog) where
       omega (arith, place, header)
 
   level_is : (table column level : ℕ) → is_hidden cat.schema table column ≡ true → level < length (levels_of cat.schema table)
-      → run_of cat (ClimbingIndex table column) (2 + level) ≡ sums.summed_index_level cat table column level
+      → room_of (run_of cat (ClimbingIndex table column) (2 + level)) ≡ sums.summed_index_level cat table column level
   level_is table column level h low =
       let directory : ℕ × ℕ = (count_of cat table, directory_width cat.schema table column) in
       let levels = level_files cat (levels_of cat.schema table) in
@@ -237,11 +238,17 @@ module _ (cat : Catalog) where
       let before = levels_before cat (levels_of cat.schema table) level in
       let e : 2 + level ≡ suc (suc level) = omega arith in
       let at = level_at cat (levels_of cat.schema table) level low in
-      ap (run_of cat (ClimbingIndex table column)) e
-      ∙ runs_same (omega (arith, place, header, next, before)) (ap (λ file. file.0) at) (ap (λ file. file.1) at)
+      let file : Run = record {
+        first = index_begin cat table column + 1 + directory_pages cat table column + levels_pages cat (take level (levels_of cat.schema table));
+        count = count_of cat (slice_index (levels_of cat.schema table) level);
+        width = 4;
+      } in
+      let same : run_of cat (ClimbingIndex table column) (suc (suc level)) ≡ file =
+      runs_same (omega (arith, place, header, next, before)) (ap (λ file. file.0) at) (ap (λ file. file.1) at) in
+      ap (λ place. room_of (run_of cat (ClimbingIndex table column) place)) e ∙ ap room_of same
 
   id_level_is : (table level : ℕ) → table < length cat.schema → level < length (above_of cat.schema table)
-      → run_of cat (IdIndex table) (1 + level) ≡ sums.summed_id_level cat table level
+      → room_of (run_of cat (IdIndex table) (1 + level)) ≡ sums.summed_id_level cat table level
   id_level_is table level there low =
       let directory : ℕ × ℕ = (count_of cat table, id_directory_width cat.schema table) in
       let levels = level_files cat (above_of cat.schema table) in
@@ -250,8 +257,14 @@ module _ (cat : Catalog) where
       let before = levels_before cat (above_of cat.schema table) level in
       let e : 1 + level ≡ suc level = omega arith in
       let at = level_at cat (above_of cat.schema table) level low in
-      ap (run_of cat (IdIndex table)) e
-      ∙ runs_same (omega (arith, place, next, before)) (ap (λ file. file.0) at) (ap (λ file. file.1) at)
+      let file : Run = record {
+        first = id_index_begin cat table + id_directory_pages cat table + levels_pages cat (take level (above_of cat.schema table));
+        count = count_of cat (slice_index (above_of cat.schema table) level);
+        width = 4;
+      } in
+      let same : run_of cat (IdIndex table) (suc level) ≡ file =
+      runs_same (omega (arith, place, next, before)) (ap (λ file. file.0) at) (ap (λ file. file.1) at) in
+      ap (λ place. room_of (run_of cat (IdIndex table) place)) e ∙ ap room_of same
 
   pub lie_as_summed : LieAsSummed cat
   lie_as_summed = record {

@@ -3,9 +3,10 @@ use Rattle.std.specs.Prelude.{◌≡◌, ℕ, ◌-◌, ◌==◌, nat_lt, List, [
 use Rattle.std.specs.List.{concat}
 use Rattle.ghost_model.specs.core.Split.{Hidden, hidden_of}
 use Rattle.ghost_model.specs.forms.Runs.{Stores}
+use Rattle.ghost_model.specs.forms.Gaps.{level_bytes}
 use Rattle.ghost_model.specs.forms.Layout.{levels_of, above_of}
 use Rattle.ghost_model.specs.laws.ShortWords.{column_file, catalog_pages}
-use Rattle.ghost_model.specs.forms.Flash.{Holds, catalog_page, hidden_cells, AreValues, value_lists, list_records, directory_records, subtree_record, id_lists, ids}
+use Rattle.ghost_model.specs.forms.Flash.{Holds, catalog_page, hidden_cells, AreValues, value_lists, directory_records, subtree_record, id_lists, ids}
 use Rattle.ghost_model.specs.forms.Work.{file_pages, pages_built}
 use Rattle.ghost_model.specs.examples.Clinic.{clinic_schema, clinic_catalog, note_schema, note_catalog, clinic, notes}
 
@@ -61,10 +62,9 @@ pub record IndexesOfTheClinic : Type 0 where
       map (subtree_record clinic_schema hidden_clinic 2) (ids 4)
       ≡ (small 1 ++ small 1) ∷ (small 3 ++ small 2) ∷ (small 3 ++ small 1) ∷ (small 2 ++ small 2) ∷ []
   pub countries_of_doctors :
-      list_records (value_lists clinic_catalog hidden_clinic 0 2 countries 0) ≡ small 2 ∷ small 3 ∷ small 1 ∷ []
+      level_bytes (value_lists clinic_catalog hidden_clinic 0 2 countries 0) ≡ 2 ∷ 1 ∷ 1 ∷ []
   pub countries_of_visits :
-      list_records (value_lists clinic_catalog hidden_clinic 0 2 countries 2)
-      ≡ small 2 ∷ small 3 ∷ small 4 ∷ small 1 ∷ []
+      level_bytes (value_lists clinic_catalog hidden_clinic 0 2 countries 2) ≡ 2 ∷ 1 ∷ 1 ∷ 1 ∷ []
   pub directory_of_countries :
       directory_records countries (levels_of clinic_schema 0) (value_lists clinic_catalog hidden_clinic 0 2 countries)
       ≡ (codes "ES" ++ (small 0 ++ (small 2 ++ (small 0 ++ small 3))))
@@ -77,17 +77,14 @@ pub record IndexesOfTheClinic : Type 0 where
       directory_records purposes (levels_of clinic_schema 2) (value_lists clinic_catalog hidden_clinic 2 2 purposes)
       ≡ (check ++ (small 0 ++ small 1)) ∷ (flu ++ (small 1 ++ small 3)) ∷ []
   pub purposes_of_visits :
-      list_records (value_lists clinic_catalog hidden_clinic 2 2 purposes 2)
-      ≡ small 2 ∷ small 1 ∷ small 3 ∷ small 4 ∷ []
+      level_bytes (value_lists clinic_catalog hidden_clinic 2 2 purposes 2) ≡ 2 ∷ 1 ∷ 2 ∷ 1 ∷ []
   pub doctors_of_visits :
-      list_records (value_lists clinic_catalog hidden_clinic 2 3 doctors 2)
-      ≡ small 1 ∷ small 4 ∷ small 2 ∷ small 3 ∷ []
+      level_bytes (value_lists clinic_catalog hidden_clinic 2 3 doctors 2) ≡ 1 ∷ 4 ∷ 2 ∷ 1 ∷ []
   pub directory_of_doctors :
       directory_records (replicate 3 []) (above_of clinic_schema 0) (id_lists clinic_catalog hidden_clinic 0)
       ≡ (small 0 ++ small 1) ∷ (small 1 ++ small 1) ∷ (small 2 ++ small 2) ∷ []
   pub visits_of_doctors :
-      list_records (id_lists clinic_catalog hidden_clinic 0 2)
-      ≡ small 1 ∷ small 4 ∷ small 2 ∷ small 3 ∷ []
+      level_bytes (id_lists clinic_catalog hidden_clinic 0 2) ≡ 1 ∷ 4 ∷ 2 ∷ 1 ∷ []
 
 -- All pages of the clinic: those of the catalog, and from page 64 on these records, which a page has before bytes 0xFF.
 abbrev pub place_of : (first count : ℕ) → List ℕ
@@ -99,10 +96,10 @@ doctor_files =
     (codes "FR" ∷ codes "ES" ∷ codes "ES" ∷ [])
     ∷ (small 2 ∷ [])
     ∷ ((codes "ES" ++ (place_of 0 2 ++ place_of 0 3)) ∷ (codes "FR" ++ (place_of 2 1 ++ place_of 3 1)) ∷ [])
-    ∷ (small 2 ∷ small 3 ∷ small 1 ∷ [])
-    ∷ (small 2 ∷ small 3 ∷ small 4 ∷ small 1 ∷ [])
+    ∷ ((2 ∷ 1 ∷ 1 ∷ []) ∷ [])
+    ∷ ((2 ∷ 1 ∷ 1 ∷ 1 ∷ []) ∷ [])
     ∷ (place_of 0 1 ∷ place_of 1 1 ∷ place_of 2 2 ∷ [])
-    ∷ (small 1 ∷ small 4 ∷ small 2 ∷ small 3 ∷ [])
+    ∷ ((1 ∷ 4 ∷ 2 ∷ 1 ∷ []) ∷ [])
     ∷ []
 
 -- the same of patient.name
@@ -111,10 +108,10 @@ patient_files =
     (ann ∷ bob ∷ [])
     ∷ (small 2 ∷ [])
     ∷ ((ann ++ (place_of 0 1 ++ place_of 0 2)) ∷ (bob ++ (place_of 1 1 ++ place_of 2 2)) ∷ [])
-    ∷ (small 1 ∷ small 2 ∷ [])
-    ∷ (small 1 ∷ small 3 ∷ small 2 ∷ small 4 ∷ [])
+    ∷ ((1 ∷ 2 ∷ []) ∷ [])
+    ∷ ((1 ∷ 2 ∷ 2 ∷ 2 ∷ []) ∷ [])
     ∷ (place_of 0 2 ∷ place_of 2 2 ∷ [])
-    ∷ (small 1 ∷ small 3 ∷ small 2 ∷ small 4 ∷ [])
+    ∷ ((1 ∷ 2 ∷ 2 ∷ 2 ∷ []) ∷ [])
     ∷ []
 
 -- visit.purpose, visit.doc and visit.pat, the doctor and the patient of each visit, and the three indexes
@@ -126,13 +123,13 @@ visit_files =
     ∷ ((small 1 ++ small 1) ∷ (small 3 ++ small 2) ∷ (small 3 ++ small 1) ∷ (small 2 ++ small 2) ∷ [])
     ∷ (small 2 ∷ [])
     ∷ ((check ++ place_of 0 1) ∷ (flu ++ place_of 1 3) ∷ [])
-    ∷ (small 2 ∷ small 1 ∷ small 3 ∷ small 4 ∷ [])
+    ∷ ((2 ∷ 1 ∷ 2 ∷ 1 ∷ []) ∷ [])
     ∷ (small 3 ∷ [])
     ∷ ((key 1 ++ place_of 0 1) ∷ (key 2 ++ place_of 1 1) ∷ (key 3 ++ place_of 2 2) ∷ [])
-    ∷ (small 1 ∷ small 4 ∷ small 2 ∷ small 3 ∷ [])
+    ∷ ((1 ∷ 4 ∷ 2 ∷ 1 ∷ []) ∷ [])
     ∷ (small 2 ∷ [])
     ∷ ((key 1 ++ place_of 0 2) ∷ (key 2 ++ place_of 2 2) ∷ [])
-    ∷ (small 1 ∷ small 3 ∷ small 2 ∷ small 4 ∷ [])
+    ∷ ((1 ∷ 2 ∷ 2 ∷ 2 ∷ []) ∷ [])
     ∷ []
 
 abbrev pub filled : List ℕ → List ℕ
@@ -153,7 +150,7 @@ pub record HoldingsOfTheClinic : Type 0 where
   pub another_country : Holds (changed 64 0) clinic_catalog hidden_clinic → ⊥
   pub another_entry_of_an_index : Holds (changed 66 0) clinic_catalog hidden_clinic → ⊥
   pub another_place_of_visits : Holds (changed 69 1) clinic_catalog hidden_clinic → ⊥
-  pub another_visit_of_a_doctor : Holds (changed 70 1) clinic_catalog hidden_clinic → ⊥
+  pub another_visit_of_a_doctor : Holds (changed 70 3) clinic_catalog hidden_clinic → ⊥
   pub another_doctor : Holds (changed 81 1) clinic_catalog hidden_clinic → ⊥
 
 -- the page of doctor.country

@@ -17,7 +17,7 @@ records_of_run run = run.count
 abbrev pub width_of_run : Run → ℕ
 width_of_run run = run.width
 
--- the static files that have a page
+-- the static files that have a page, where a level file has four bytes for each identifier
 abbrev pub files_with_pages : Catalog → List Run
 files_with_pages cat = filter (λ run. nat_lt 0 (run_pages run)) (static_files cat)
 
@@ -33,10 +33,10 @@ pub record LayoutOfTheClinic : Type 0 where
   pub country : column_file clinic_catalog 0 2 ≡ record { first = 64; count = 3; width = 2 }
   pub country_header : index_header clinic_catalog 0 2 ≡ record { first = 65; count = 1; width = 4 }
   pub country_directory : index_directory clinic_catalog 0 2 ≡ record { first = 66; count = 3; width = 18 }
-  pub country_of_doctors : index_level clinic_catalog 0 2 0 ≡ record { first = 67; count = 3; width = 4 }
-  pub country_of_visits : index_level clinic_catalog 0 2 1 ≡ record { first = 68; count = 4; width = 4 }
+  pub country_of_doctors : index_level clinic_catalog 0 2 0 ≡ record { first = 67; count = 2048; width = 1 }
+  pub country_of_visits : index_level clinic_catalog 0 2 1 ≡ record { first = 68; count = 2048; width = 1 }
   pub doctors : id_directory clinic_catalog 0 ≡ record { first = 69; count = 3; width = 8 }
-  pub doctors_of_visits : id_level clinic_catalog 0 0 ≡ record { first = 70; count = 4; width = 4 }
+  pub doctors_of_visits : id_level clinic_catalog 0 0 ≡ record { first = 70; count = 2048; width = 1 }
   pub name : column_file clinic_catalog 1 2 ≡ record { first = 71; count = 2; width = 8 }
   pub purpose : column_file clinic_catalog 2 2 ≡ record { first = 78; count = 4; width = 8 }
   pub doctor_key : column_file clinic_catalog 2 3 ≡ record { first = 79; count = 4; width = 8 }

@@ -101,14 +101,14 @@ note_files =
     (body (codes "x") ∷ body (codes "y") ∷ body (codes "z") ∷ [])
     ∷ (small 3 ∷ [])
     ∷ ((body (codes "x") ++ (small 0 ++ small 1)) ∷ (body (codes "y") ++ (small 1 ++ small 1)) ∷ (body (codes "z") ++ (small 2 ++ small 1)) ∷ [])
-    ∷ (small 1 ∷ small 2 ∷ small 3 ∷ [])
+    ∷ ((1 ∷ 2 ∷ 3 ∷ []) ∷ [])
     ∷ []
 
 abbrev pub note_page : (place : ℕ) → List ℕ
 note_page place =
     if nat_lt place 64 then catalog_page note_catalog place else filled (concat (get_or note_files (place - 64) []))
 
--- the last entry of the index's directory says that its rows begin at another place
+-- the last entry of the index's directory says that its rows begin before those of the entry before it end
 abbrev pub bad_directory : List ℕ
 bad_directory =
     (body (codes "x") ++ (small 0 ++ small 1)) ++ ((body (codes "y") ++ (small 1 ++ small 1)) ++ ((body (codes "z") ++ (small 1 ++ small 1)) ++ replicate 2000 0xff))

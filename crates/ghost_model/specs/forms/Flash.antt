@@ -2,11 +2,11 @@
 -- hidden part of a database. A column file has the column's cells, row by row. A subtree key table has, for each row, the
 -- identifiers of the rows that it leads to in the tables below. A climbing index has, for each value of its column, the
 -- rows that have it and the rows of each table above that lead to such a row; an id index has the same for each
--- identifier. At one level the lists of all entries stand one after another, and an entry of the directory says where
--- its own begins and how long it is. The part that each file kind has is a word of its own; `Holds` is all of them.
+-- identifier. At one level the lists of all entries stand one after another as gaps, and an entry of the directory says at which
+-- byte its own begins and how many identifiers it has. The part that each file kind has is a word of its own; `Holds` is all of them.
 use Rattle.std.specs.Prelude.{◌≡◌, ℕ, ◌-◌, ◌*◌, ◌<◌, ◌≤◌, pos, true, false, List, [], ◌∷◌, ◌++◌, length, take, drop, map, filter, flat_map, replicate, get_or, slice_index, Contains, bytes_eq, Option, slice_get, unwrap_or}
 use Rattle.std.specs.List.Sorted.{IsStrictlySortedBy}
-use Rattle.std.specs.List.{concat, range_with_len}
+use Rattle.std.specs.List.{range_with_len}
 use Rattle.std.specs.Option.{option_map_or}
 use Rattle.std.specs.Cmp.Lexicographic.{slice_cmp}
 use Rattle.std.specs.Ordering.{nat_cmp}
@@ -20,6 +20,7 @@ use Rattle.ghost_model.specs.core.Asks.{kind_at}
 use Rattle.ghost_model.specs.core.Split.{Hidden, hidden_of, rejoined, value_at}
 use Rattle.ghost_model.specs.core.Replies.{hidden_places}
 use Rattle.ghost_model.specs.forms.Runs.{Run, page_bytes, number_cell, Stores}
+use Rattle.ghost_model.specs.forms.Gaps.{StoresBytes, level_bytes, list_begin}
 use Rattle.ghost_model.specs.forms.Layout.{below, is_hidden, count_of, levels_of, above_of, descendants_of, public_pages, Cells, Subtrees, IndexHeader, IndexDirectory, IndexLevel, IdDirectory, IdLevel, run_of_file}
 
 -- The public pages: a page of the catalog's bytes, and 0xFF where there are none.
@@ -81,14 +82,10 @@ HoldsSubtrees page cat hidden =
     (table : ℕ) → table < length cat.schema → is_empty (descendants_of cat.schema table) ≡ false
     → Stores page (run_of_file cat (Subtrees table)) (map (subtree_record cat.schema hidden table) (ids (count_of cat table)))
 
--- Indexes: at each level a list of identifiers for each entry. The records of a level file are the lists one after another
-abbrev pub list_records : (lists : List (List ℕ)) → List (List ℕ)
-list_records lists = map number_cell (concat lists)
-
--- where the list of an entry stands: how many records stand before it, and how many it has
+-- Indexes: at each level a list of identifiers for each entry. Where the list of an entry stands: the place of its first code, and
+-- how many identifiers it has
 abbrev pub list_place : (lists : List (List ℕ)) → (entry : ℕ) → List ℕ
-list_place lists entry =
-    number_cell (length (concat (take entry lists))) ++ number_cell (length (get_or lists entry []))
+list_place lists entry = number_cell (list_begin lists entry) ++ number_cell (length (get_or lists entry []))
 
 -- the record of an entry in the directory: its own bytes, and at the level of each table the place of its list
 abbrev pub directory_record : (heads : List (List ℕ)) → (tables : List ℕ) → (lists : ℕ → List (List ℕ)) → (entry : ℕ) → List ℕ
@@ -102,7 +99,7 @@ pub record HoldsLists (page : ℕ → List ℕ) (directory : Run) (level_file : 
   pub places : Stores page directory (directory_records heads tables lists)
   pub levels :
       (level : ℕ) → level < length tables
-      → Stores page (level_file level) (list_records (lists (slice_index tables level)))
+      → StoresBytes page (level_file level) (level_bytes (lists (slice_index tables level)))
 
 -- Climbing indexes. The cell of a hidden column in the row of its table that a row leads to
 abbrev pub cell_led_to : Schema → Hidden → (table column from identifier : ℕ) → List ℕ

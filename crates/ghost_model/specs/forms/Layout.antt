@@ -1,7 +1,8 @@
 -- Where everything lies on the flash. Pages 0 to 63 are public: the catalog's bytes. From page 64 on the static files
 -- follow one another in the order of `structures`, each on pages of its own. The static part ends at a block. Then come
 -- the two halves of the spool, in each an area for each table that has a visible column, and then six scratch areas of one
--- size; each of these areas is of whole blocks. A file or an area is a run: a first page, and so many records of one width.
+-- size; each of these areas is of whole blocks. A file or an area is a run: a first page, and so many records of one width. A level
+-- file has the pages that four bytes for each identifier take, and is a run of their single bytes.
 use Rattle.std.specs.Prelude.{ℕ, ◌+◌, ◌-◌, ◌*◌, ◌/◌, max, Bool, false, ◌&&◌, ◌==◌, List, [], ◌∷◌, ◌++◌, length, take, drop, map, filter, filter_map, flat_map, fold, sum_by, get_or, if◌then◌else◌}
 use Rattle.std.specs.List.{list_any, range_with_len, before_first}
 use Rattle.std.specs.Option.{option_map_or}
@@ -10,6 +11,7 @@ use Rattle.ghost_model.specs.core.Channel.{Catalog}
 pub use Rattle.ghost_model.specs.core.Channel.{count_of}
 use Rattle.ghost_model.specs.forms.Cells.{cell_width}
 use Rattle.ghost_model.specs.forms.Runs.{Run, pages_of, block_pages}
+use Rattle.ghost_model.specs.forms.Gaps.{room_of}
 
 -- the numbers below a number, ascending: the places of the tables of a schema or of the columns of a table
 abbrev pub below : ℕ → List ℕ
@@ -56,7 +58,7 @@ structures schema =
     map (ColumnFile table) (hidden_columns schema table)
     ++ (SubtreeTable table ∷ (map (ClimbingIndex table) (hidden_columns schema table) ++ IdIndex table ∷ []))) (tables_of schema)
 
--- level files: one for each of some tables, with an identifier for each of its rows
+-- level files: one for each of some tables, with room for four bytes for each of its rows
 abbrev pub level_files : Catalog → (tables : List ℕ) → List (ℕ × ℕ)
 level_files cat tables = map (λ table. (count_of cat table, 4)) tables
 
@@ -116,9 +118,9 @@ run_of_file cat (Cells table column) = run_of cat (ColumnFile table column) 0
 run_of_file cat (Subtrees table) = run_of cat (SubtreeTable table) 0
 run_of_file cat (IndexHeader table column) = run_of cat (ClimbingIndex table column) 0
 run_of_file cat (IndexDirectory table column) = run_of cat (ClimbingIndex table column) 1
-run_of_file cat (IndexLevel table column level) = run_of cat (ClimbingIndex table column) (2 + level)
+run_of_file cat (IndexLevel table column level) = room_of (run_of cat (ClimbingIndex table column) (2 + level))
 run_of_file cat (IdDirectory table) = run_of cat (IdIndex table) 0
-run_of_file cat (IdLevel table level) = run_of cat (IdIndex table) (1 + level)
+run_of_file cat (IdLevel table level) = room_of (run_of cat (IdIndex table) (1 + level))
 
 -- the page after the static files
 unfoldable pub files_end : Catalog → ℕ

@@ -3,7 +3,8 @@
 use Rattle.std.specs.Prelude.{ℕ, ◌+◌, ◌*◌, List, length, take, sum_by, slice_index, if◌then◌else◌}
 use Rattle.ghost_model.specs.core.Schema.{Schema, is_empty}
 use Rattle.ghost_model.specs.core.Channel.{Catalog}
-use Rattle.ghost_model.specs.forms.Runs.{Run, pages_of}
+use Rattle.ghost_model.specs.forms.Runs.{Run, page_bytes, pages_of}
+use Rattle.ghost_model.specs.forms.Gaps.{room_of}
 use Rattle.ghost_model.specs.forms.Layout.{below, is_hidden, width_at, levels_of, above_of, descendants_of, count_of, public_pages, spool_pages}
 use Rattle.ghost_model.specs.laws.ShortWords.{column_count}
 
@@ -92,11 +93,11 @@ id_index_begin cat table = indexes_begin cat table + indexes_pages cat table
 
 -- the level file of the table at a place of a list of tables, the first of which has its level file at a page
 abbrev pub level_file : Catalog → (begin : ℕ) → (tables : List ℕ) → (level : ℕ) → Run
-level_file cat begin tables level = record {
+level_file cat begin tables level = room_of (record {
   first = begin + levels_pages cat (take level tables);
   count = count_of cat (slice_index tables level);
   width = 4;
-}
+})
 
 abbrev pub summed_index_level : Catalog → (table column level : ℕ) → Run
 summed_index_level cat table column level =

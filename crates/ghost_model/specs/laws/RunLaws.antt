@@ -1,5 +1,5 @@
--- Laws of runs: a run is kept where its pages are, a part of a record stands at its place in the page, and a level file's
--- identifiers are those of its records.
+-- Laws of runs: a run is kept where its pages are, a part of a record stands at its place in the page, and the identifiers of a
+-- run are those of its records.
 use Rattle.std.specs.Prelude.{◌≡◌, ℕ, ◌+◌, ◌*◌, ◌^◌, ◌<◌, ◌≤◌, List, length, map, take, drop}
 use Rattle.std.specs.List.{slice_range}
 use Rattle.ghost_model.specs.forms.Runs.{page_bytes, Run, run_end, page_of, slot_of, record_at, HasRecords, Stores, number_in, number_cell, ids_from}

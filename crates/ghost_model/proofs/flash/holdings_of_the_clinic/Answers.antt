@@ -8,10 +8,11 @@ use Rattle.std.specs.Fmt.{digits}
 use Rattle.std.proofs.lemmas.Bool.Decides.{nat_tests}
 use Rattle.ghost_model.specs.core.Schema.{places_from, ancestor}
 use Rattle.ghost_model.specs.core.Database.{leads_within}
-use Rattle.ghost_model.specs.forms.Runs.{number_cell, record_at, records_in, Stores}
+use Rattle.ghost_model.specs.forms.Runs.{Run, number_cell, record_at, records_in, Stores}
+use Rattle.ghost_model.specs.forms.Gaps.{StoresBytes, with_codes, with_lists, level_bytes}
 use Rattle.ghost_model.specs.forms.Layout.{levels_of, above_of, is_hidden, first_page}
 use Rattle.ghost_model.specs.laws.ShortWords.{column_file, subtree_table, index_header, index_directory, index_level, id_directory, id_level}
-use Rattle.ghost_model.specs.forms.Flash.{HoldsCatalog, HoldsColumns, HoldsSubtrees, HoldsIndex, HoldsIdIndexes, AreValues, catalog_page, hidden_cells, subtree_record, ids, directory_records, value_lists, id_lists, list_records}
+use Rattle.ghost_model.specs.forms.Flash.{HoldsCatalog, HoldsColumns, HoldsSubtrees, HoldsIndex, HoldsIdIndexes, AreValues, catalog_page, hidden_cells, subtree_record, ids, directory_records, value_lists, id_lists}
 use Rattle.ghost_model.specs.examples.Clinic.{clinic_schema, clinic_catalog}
 use Rattle.ghost_model.specs.examples.Flash.{hidden_clinic, countries, names, purposes, doctors, key, doctor_files, patient_files, visit_files, filled, clinic_page, changed}
 use Rattle.ghost_model.proofs.flash.holdings_of_the_clinic.Goals as goal
@@ -37,6 +38,17 @@ four_times P a b c d (suc zero) low = b
 four_times P a b c d (suc (suc zero)) low = c
 four_times P a b c d (suc (suc (suc zero))) low = d
 four_times P a b c d (suc (suc (suc (suc i)))) low = absurd (omega (arith, low))
+
+-- the pages of the clinic have a byte of a level file, and 0xFF behind the last one in a page
+abbrev level_run : Run → (lists : List (List ℕ)) → Run
+level_run run lists = record run { count = length (level_bytes lists) }
+
+abbrev IsByte : Run → (lists : List (List ℕ)) → ℕ → Type 0
+IsByte run lists i = record_at clinic_page (level_run run lists) i ≡ get_or (map (λ byte. byte ∷ []) (level_bytes lists)) i []
+
+abbrev IsBlank : Run → (lists : List (List ℕ)) → ℕ → Type 0
+IsBlank run lists i =
+    drop (records_in (level_run run lists) i * run.width) (clinic_page (run.first + i)) ≡ replicate (2048 - records_in (level_run run lists) i * run.width) 0xff
 
 -- what each hidden column has
 of_hidden : (P : ℕ → ℕ → Type 0) → P 0 2 → P 1 2 → P 2 2 → P 2 3 → P 2 4 → (table column : ℕ) → is_hidden clinic_schema table column ≡ true → P table column
@@ -97,7 +109,7 @@ patients : List (List ℕ)
 patients = key 1 ∷ key 2 ∷ []
 
 country_index : HoldsIndex clinic_page clinic_catalog hidden_clinic 0 2
-unfolding places_from ancestor leads_within record_at IsStrictlySortedBy patients first_page
+unfolding places_from ancestor leads_within record_at IsStrictlySortedBy patients first_page with_codes with_lists
 country_index = record {
   values = countries;
   are_values = values_of (hidden_cells clinic_schema hidden_clinic 0 2) countries ((refl, tt), (tt, tt)) ((1, omega arith, refl), ((0, omega arith, refl), tt)) ((1, omega arith, refl), ((0, omega arith, refl), ((0, omega arith, refl), tt)));
@@ -105,14 +117,14 @@ country_index = record {
   header = record { has = record { count = refl; each = once (λ i. record_at clinic_page (index_header clinic_catalog 0 2) i ≡ get_or (number_cell 2 ∷ []) i []) refl }; rest = once (λ i. drop (records_in (index_header clinic_catalog 0 2) i * (index_header clinic_catalog 0 2).width) (clinic_page ((index_header clinic_catalog 0 2).first + i)) ≡ replicate (2048 - records_in (index_header clinic_catalog 0 2) i * (index_header clinic_catalog 0 2).width) 0xff) refl };
   entries = record {
     places = record { has = record { count = refl; each = twice (λ i. record_at clinic_page (record (index_directory clinic_catalog 0 2) { count = 2 }) i ≡ get_or (directory_records countries (levels_of clinic_schema 0) (value_lists clinic_catalog hidden_clinic 0 2 countries)) i []) refl refl }; rest = once (λ i. drop (records_in (record (index_directory clinic_catalog 0 2) { count = 2 }) i * (record (index_directory clinic_catalog 0 2) { count = 2 }).width) (clinic_page ((record (index_directory clinic_catalog 0 2) { count = 2 }).first + i)) ≡ replicate (2048 - records_in (record (index_directory clinic_catalog 0 2) { count = 2 }) i * (record (index_directory clinic_catalog 0 2) { count = 2 }).width) 0xff) refl };
-    levels = twice (λ level. Stores clinic_page (index_level clinic_catalog 0 2 level) (list_records (value_lists clinic_catalog hidden_clinic 0 2 countries (slice_index (levels_of clinic_schema 0) level))))
-        (record { has = record { count = refl; each = thrice (λ i. record_at clinic_page (index_level clinic_catalog 0 2 0) i ≡ get_or (list_records (value_lists clinic_catalog hidden_clinic 0 2 countries (slice_index (levels_of clinic_schema 0) 0))) i []) refl refl refl }; rest = once (λ i. drop (records_in (index_level clinic_catalog 0 2 0) i * (index_level clinic_catalog 0 2 0).width) (clinic_page ((index_level clinic_catalog 0 2 0).first + i)) ≡ replicate (2048 - records_in (index_level clinic_catalog 0 2 0) i * (index_level clinic_catalog 0 2 0).width) 0xff) refl })
-        (record { has = record { count = refl; each = four_times (λ i. record_at clinic_page (index_level clinic_catalog 0 2 1) i ≡ get_or (list_records (value_lists clinic_catalog hidden_clinic 0 2 countries (slice_index (levels_of clinic_schema 0) 1))) i []) refl refl refl refl }; rest = once (λ i. drop (records_in (index_level clinic_catalog 0 2 1) i * (index_level clinic_catalog 0 2 1).width) (clinic_page ((index_level clinic_catalog 0 2 1).first + i)) ≡ replicate (2048 - records_in (index_level clinic_catalog 0 2 1) i * (index_level clinic_catalog 0 2 1).width) 0xff) refl });
+    levels = twice (λ level. StoresBytes clinic_page (index_level clinic_catalog 0 2 level) (level_bytes (value_lists clinic_catalog hidden_clinic 0 2 countries (slice_index (levels_of clinic_schema 0) level))))
+        (record { has = record { count = refl; each = thrice (IsByte (index_level clinic_catalog 0 2 0) (value_lists clinic_catalog hidden_clinic 0 2 countries (slice_index (levels_of clinic_schema 0) 0))) refl refl refl }; rest = once (IsBlank (index_level clinic_catalog 0 2 0) (value_lists clinic_catalog hidden_clinic 0 2 countries (slice_index (levels_of clinic_schema 0) 0))) refl })
+        (record { has = record { count = refl; each = four_times (IsByte (index_level clinic_catalog 0 2 1) (value_lists clinic_catalog hidden_clinic 0 2 countries (slice_index (levels_of clinic_schema 0) 1))) refl refl refl refl }; rest = once (IsBlank (index_level clinic_catalog 0 2 1) (value_lists clinic_catalog hidden_clinic 0 2 countries (slice_index (levels_of clinic_schema 0) 1))) refl });
   };
 }
 
 name_index : HoldsIndex clinic_page clinic_catalog hidden_clinic 1 2
-unfolding places_from ancestor leads_within record_at IsStrictlySortedBy patients first_page
+unfolding places_from ancestor leads_within record_at IsStrictlySortedBy patients first_page with_codes with_lists
 name_index = record {
   values = names;
   are_values = values_of (hidden_cells clinic_schema hidden_clinic 1 2) names ((refl, tt), (tt, tt)) ((0, omega arith, refl), ((1, omega arith, refl), tt)) ((0, omega arith, refl), ((1, omega arith, refl), tt));
@@ -120,14 +132,14 @@ name_index = record {
   header = record { has = record { count = refl; each = once (λ i. record_at clinic_page (index_header clinic_catalog 1 2) i ≡ get_or (number_cell 2 ∷ []) i []) refl }; rest = once (λ i. drop (records_in (index_header clinic_catalog 1 2) i * (index_header clinic_catalog 1 2).width) (clinic_page ((index_header clinic_catalog 1 2).first + i)) ≡ replicate (2048 - records_in (index_header clinic_catalog 1 2) i * (index_header clinic_catalog 1 2).width) 0xff) refl };
   entries = record {
     places = record { has = record { count = refl; each = twice (λ i. record_at clinic_page (record (index_directory clinic_catalog 1 2) { count = 2 }) i ≡ get_or (directory_records names (levels_of clinic_schema 1) (value_lists clinic_catalog hidden_clinic 1 2 names)) i []) refl refl }; rest = once (λ i. drop (records_in (record (index_directory clinic_catalog 1 2) { count = 2 }) i * (record (index_directory clinic_catalog 1 2) { count = 2 }).width) (clinic_page ((record (index_directory clinic_catalog 1 2) { count = 2 }).first + i)) ≡ replicate (2048 - records_in (record (index_directory clinic_catalog 1 2) { count = 2 }) i * (record (index_directory clinic_catalog 1 2) { count = 2 }).width) 0xff) refl };
-    levels = twice (λ level. Stores clinic_page (index_level clinic_catalog 1 2 level) (list_records (value_lists clinic_catalog hidden_clinic 1 2 names (slice_index (levels_of clinic_schema 1) level))))
-        (record { has = record { count = refl; each = twice (λ i. record_at clinic_page (index_level clinic_catalog 1 2 0) i ≡ get_or (list_records (value_lists clinic_catalog hidden_clinic 1 2 names (slice_index (levels_of clinic_schema 1) 0))) i []) refl refl }; rest = once (λ i. drop (records_in (index_level clinic_catalog 1 2 0) i * (index_level clinic_catalog 1 2 0).width) (clinic_page ((index_level clinic_catalog 1 2 0).first + i)) ≡ replicate (2048 - records_in (index_level clinic_catalog 1 2 0) i * (index_level clinic_catalog 1 2 0).width) 0xff) refl })
-        (record { has = record { count = refl; each = four_times (λ i. record_at clinic_page (index_level clinic_catalog 1 2 1) i ≡ get_or (list_records (value_lists clinic_catalog hidden_clinic 1 2 names (slice_index (levels_of clinic_schema 1) 1))) i []) refl refl refl refl }; rest = once (λ i. drop (records_in (index_level clinic_catalog 1 2 1) i * (index_level clinic_catalog 1 2 1).width) (clinic_page ((index_level clinic_catalog 1 2 1).first + i)) ≡ replicate (2048 - records_in (index_level clinic_catalog 1 2 1) i * (index_level clinic_catalog 1 2 1).width) 0xff) refl });
+    levels = twice (λ level. StoresBytes clinic_page (index_level clinic_catalog 1 2 level) (level_bytes (value_lists clinic_catalog hidden_clinic 1 2 names (slice_index (levels_of clinic_schema 1) level))))
+        (record { has = record { count = refl; each = twice (IsByte (index_level clinic_catalog 1 2 0) (value_lists clinic_catalog hidden_clinic 1 2 names (slice_index (levels_of clinic_schema 1) 0))) refl refl }; rest = once (IsBlank (index_level clinic_catalog 1 2 0) (value_lists clinic_catalog hidden_clinic 1 2 names (slice_index (levels_of clinic_schema 1) 0))) refl })
+        (record { has = record { count = refl; each = four_times (IsByte (index_level clinic_catalog 1 2 1) (value_lists clinic_catalog hidden_clinic 1 2 names (slice_index (levels_of clinic_schema 1) 1))) refl refl refl refl }; rest = once (IsBlank (index_level clinic_catalog 1 2 1) (value_lists clinic_catalog hidden_clinic 1 2 names (slice_index (levels_of clinic_schema 1) 1))) refl });
   };
 }
 
 purpose_index : HoldsIndex clinic_page clinic_catalog hidden_clinic 2 2
-unfolding places_from ancestor leads_within record_at IsStrictlySortedBy patients first_page
+unfolding places_from ancestor leads_within record_at IsStrictlySortedBy patients first_page with_codes with_lists
 purpose_index = record {
   values = purposes;
   are_values = values_of (hidden_cells clinic_schema hidden_clinic 2 2) purposes ((refl, tt), (tt, tt)) ((1, omega arith, refl), ((0, omega arith, refl), tt)) ((1, omega arith, refl), ((0, omega arith, refl), ((1, omega arith, refl), ((1, omega arith, refl), tt))));
@@ -135,13 +147,13 @@ purpose_index = record {
   header = record { has = record { count = refl; each = once (λ i. record_at clinic_page (index_header clinic_catalog 2 2) i ≡ get_or (number_cell 2 ∷ []) i []) refl }; rest = once (λ i. drop (records_in (index_header clinic_catalog 2 2) i * (index_header clinic_catalog 2 2).width) (clinic_page ((index_header clinic_catalog 2 2).first + i)) ≡ replicate (2048 - records_in (index_header clinic_catalog 2 2) i * (index_header clinic_catalog 2 2).width) 0xff) refl };
   entries = record {
     places = record { has = record { count = refl; each = twice (λ i. record_at clinic_page (record (index_directory clinic_catalog 2 2) { count = 2 }) i ≡ get_or (directory_records purposes (levels_of clinic_schema 2) (value_lists clinic_catalog hidden_clinic 2 2 purposes)) i []) refl refl }; rest = once (λ i. drop (records_in (record (index_directory clinic_catalog 2 2) { count = 2 }) i * (record (index_directory clinic_catalog 2 2) { count = 2 }).width) (clinic_page ((record (index_directory clinic_catalog 2 2) { count = 2 }).first + i)) ≡ replicate (2048 - records_in (record (index_directory clinic_catalog 2 2) { count = 2 }) i * (record (index_directory clinic_catalog 2 2) { count = 2 }).width) 0xff) refl };
-    levels = once (λ level. Stores clinic_page (index_level clinic_catalog 2 2 level) (list_records (value_lists clinic_catalog hidden_clinic 2 2 purposes (slice_index (levels_of clinic_schema 2) level))))
-        (record { has = record { count = refl; each = four_times (λ i. record_at clinic_page (index_level clinic_catalog 2 2 0) i ≡ get_or (list_records (value_lists clinic_catalog hidden_clinic 2 2 purposes (slice_index (levels_of clinic_schema 2) 0))) i []) refl refl refl refl }; rest = once (λ i. drop (records_in (index_level clinic_catalog 2 2 0) i * (index_level clinic_catalog 2 2 0).width) (clinic_page ((index_level clinic_catalog 2 2 0).first + i)) ≡ replicate (2048 - records_in (index_level clinic_catalog 2 2 0) i * (index_level clinic_catalog 2 2 0).width) 0xff) refl });
+    levels = once (λ level. StoresBytes clinic_page (index_level clinic_catalog 2 2 level) (level_bytes (value_lists clinic_catalog hidden_clinic 2 2 purposes (slice_index (levels_of clinic_schema 2) level))))
+        (record { has = record { count = refl; each = four_times (IsByte (index_level clinic_catalog 2 2 0) (value_lists clinic_catalog hidden_clinic 2 2 purposes (slice_index (levels_of clinic_schema 2) 0))) refl refl refl refl }; rest = once (IsBlank (index_level clinic_catalog 2 2 0) (value_lists clinic_catalog hidden_clinic 2 2 purposes (slice_index (levels_of clinic_schema 2) 0))) refl });
   };
 }
 
 doctor_index : HoldsIndex clinic_page clinic_catalog hidden_clinic 2 3
-unfolding places_from ancestor leads_within record_at IsStrictlySortedBy patients first_page
+unfolding places_from ancestor leads_within record_at IsStrictlySortedBy patients first_page with_codes with_lists
 doctor_index = record {
   values = doctors;
   are_values = values_of (hidden_cells clinic_schema hidden_clinic 2 3) doctors ((refl, (refl, tt)), ((refl, tt), (tt, tt))) ((0, omega arith, refl), ((3, omega arith, refl), ((1, omega arith, refl), tt))) ((0, omega arith, refl), ((2, omega arith, refl), ((2, omega arith, refl), ((1, omega arith, refl), tt))));
@@ -149,13 +161,13 @@ doctor_index = record {
   header = record { has = record { count = refl; each = once (λ i. record_at clinic_page (index_header clinic_catalog 2 3) i ≡ get_or (number_cell 3 ∷ []) i []) refl }; rest = once (λ i. drop (records_in (index_header clinic_catalog 2 3) i * (index_header clinic_catalog 2 3).width) (clinic_page ((index_header clinic_catalog 2 3).first + i)) ≡ replicate (2048 - records_in (index_header clinic_catalog 2 3) i * (index_header clinic_catalog 2 3).width) 0xff) refl };
   entries = record {
     places = record { has = record { count = refl; each = thrice (λ i. record_at clinic_page (record (index_directory clinic_catalog 2 3) { count = 3 }) i ≡ get_or (directory_records doctors (levels_of clinic_schema 2) (value_lists clinic_catalog hidden_clinic 2 3 doctors)) i []) refl refl refl }; rest = once (λ i. drop (records_in (record (index_directory clinic_catalog 2 3) { count = 3 }) i * (record (index_directory clinic_catalog 2 3) { count = 3 }).width) (clinic_page ((record (index_directory clinic_catalog 2 3) { count = 3 }).first + i)) ≡ replicate (2048 - records_in (record (index_directory clinic_catalog 2 3) { count = 3 }) i * (record (index_directory clinic_catalog 2 3) { count = 3 }).width) 0xff) refl };
-    levels = once (λ level. Stores clinic_page (index_level clinic_catalog 2 3 level) (list_records (value_lists clinic_catalog hidden_clinic 2 3 doctors (slice_index (levels_of clinic_schema 2) level))))
-        (record { has = record { count = refl; each = four_times (λ i. record_at clinic_page (index_level clinic_catalog 2 3 0) i ≡ get_or (list_records (value_lists clinic_catalog hidden_clinic 2 3 doctors (slice_index (levels_of clinic_schema 2) 0))) i []) refl refl refl refl }; rest = once (λ i. drop (records_in (index_level clinic_catalog 2 3 0) i * (index_level clinic_catalog 2 3 0).width) (clinic_page ((index_level clinic_catalog 2 3 0).first + i)) ≡ replicate (2048 - records_in (index_level clinic_catalog 2 3 0) i * (index_level clinic_catalog 2 3 0).width) 0xff) refl });
+    levels = once (λ level. StoresBytes clinic_page (index_level clinic_catalog 2 3 level) (level_bytes (value_lists clinic_catalog hidden_clinic 2 3 doctors (slice_index (levels_of clinic_schema 2) level))))
+        (record { has = record { count = refl; each = four_times (IsByte (index_level clinic_catalog 2 3 0) (value_lists clinic_catalog hidden_clinic 2 3 doctors (slice_index (levels_of clinic_schema 2) 0))) refl refl refl refl }; rest = once (IsBlank (index_level clinic_catalog 2 3 0) (value_lists clinic_catalog hidden_clinic 2 3 doctors (slice_index (levels_of clinic_schema 2) 0))) refl });
   };
 }
 
 patient_index : HoldsIndex clinic_page clinic_catalog hidden_clinic 2 4
-unfolding places_from ancestor leads_within record_at IsStrictlySortedBy patients first_page
+unfolding places_from ancestor leads_within record_at IsStrictlySortedBy patients first_page with_codes with_lists
 patient_index = record {
   values = patients;
   are_values = values_of (hidden_cells clinic_schema hidden_clinic 2 4) patients ((refl, tt), (tt, tt)) ((0, omega arith, refl), ((1, omega arith, refl), tt)) ((0, omega arith, refl), ((1, omega arith, refl), ((0, omega arith, refl), ((1, omega arith, refl), tt))));
@@ -163,8 +175,8 @@ patient_index = record {
   header = record { has = record { count = refl; each = once (λ i. record_at clinic_page (index_header clinic_catalog 2 4) i ≡ get_or (number_cell 2 ∷ []) i []) refl }; rest = once (λ i. drop (records_in (index_header clinic_catalog 2 4) i * (index_header clinic_catalog 2 4).width) (clinic_page ((index_header clinic_catalog 2 4).first + i)) ≡ replicate (2048 - records_in (index_header clinic_catalog 2 4) i * (index_header clinic_catalog 2 4).width) 0xff) refl };
   entries = record {
     places = record { has = record { count = refl; each = twice (λ i. record_at clinic_page (record (index_directory clinic_catalog 2 4) { count = 2 }) i ≡ get_or (directory_records patients (levels_of clinic_schema 2) (value_lists clinic_catalog hidden_clinic 2 4 patients)) i []) refl refl }; rest = once (λ i. drop (records_in (record (index_directory clinic_catalog 2 4) { count = 2 }) i * (record (index_directory clinic_catalog 2 4) { count = 2 }).width) (clinic_page ((record (index_directory clinic_catalog 2 4) { count = 2 }).first + i)) ≡ replicate (2048 - records_in (record (index_directory clinic_catalog 2 4) { count = 2 }) i * (record (index_directory clinic_catalog 2 4) { count = 2 }).width) 0xff) refl };
-    levels = once (λ level. Stores clinic_page (index_level clinic_catalog 2 4 level) (list_records (value_lists clinic_catalog hidden_clinic 2 4 patients (slice_index (levels_of clinic_schema 2) level))))
-        (record { has = record { count = refl; each = four_times (λ i. record_at clinic_page (index_level clinic_catalog 2 4 0) i ≡ get_or (list_records (value_lists clinic_catalog hidden_clinic 2 4 patients (slice_index (levels_of clinic_schema 2) 0))) i []) refl refl refl refl }; rest = once (λ i. drop (records_in (index_level clinic_catalog 2 4 0) i * (index_level clinic_catalog 2 4 0).width) (clinic_page ((index_level clinic_catalog 2 4 0).first + i)) ≡ replicate (2048 - records_in (index_level clinic_catalog 2 4 0) i * (index_level clinic_catalog 2 4 0).width) 0xff) refl });
+    levels = once (λ level. StoresBytes clinic_page (index_level clinic_catalog 2 4 level) (level_bytes (value_lists clinic_catalog hidden_clinic 2 4 patients (slice_index (levels_of clinic_schema 2) level))))
+        (record { has = record { count = refl; each = four_times (IsByte (index_level clinic_catalog 2 4 0) (value_lists clinic_catalog hidden_clinic 2 4 patients (slice_index (levels_of clinic_schema 2) 0))) refl refl refl refl }; rest = once (IsBlank (index_level clinic_catalog 2 4 0) (value_lists clinic_catalog hidden_clinic 2 4 patients (slice_index (levels_of clinic_schema 2) 0))) refl });
   };
 }
 
@@ -172,16 +184,16 @@ indexes : (table column : ℕ) → is_hidden clinic_catalog.schema table column 
 indexes = of_hidden (HoldsIndex clinic_page clinic_catalog hidden_clinic) country_index name_index purpose_index doctor_index patient_index
 
 id_indexes : HoldsIdIndexes clinic_page clinic_catalog hidden_clinic
-unfolding places_from ancestor leads_within record_at IsStrictlySortedBy first_page
+unfolding places_from ancestor leads_within record_at IsStrictlySortedBy first_page with_codes with_lists
 id_indexes zero low h = record {
   places = record { has = record { count = refl; each = thrice (λ i. record_at clinic_page (id_directory clinic_catalog 0) i ≡ get_or (directory_records (replicate 3 []) (above_of clinic_schema 0) (id_lists clinic_catalog hidden_clinic 0)) i []) refl refl refl }; rest = once (λ i. drop (records_in (id_directory clinic_catalog 0) i * (id_directory clinic_catalog 0).width) (clinic_page ((id_directory clinic_catalog 0).first + i)) ≡ replicate (2048 - records_in (id_directory clinic_catalog 0) i * (id_directory clinic_catalog 0).width) 0xff) refl };
-  levels = once (λ level. Stores clinic_page (id_level clinic_catalog 0 level) (list_records (id_lists clinic_catalog hidden_clinic 0 (slice_index (above_of clinic_schema 0) level))))
-      (record { has = record { count = refl; each = four_times (λ i. record_at clinic_page (id_level clinic_catalog 0 0) i ≡ get_or (list_records (id_lists clinic_catalog hidden_clinic 0 (slice_index (above_of clinic_schema 0) 0))) i []) refl refl refl refl }; rest = once (λ i. drop (records_in (id_level clinic_catalog 0 0) i * (id_level clinic_catalog 0 0).width) (clinic_page ((id_level clinic_catalog 0 0).first + i)) ≡ replicate (2048 - records_in (id_level clinic_catalog 0 0) i * (id_level clinic_catalog 0 0).width) 0xff) refl });
+  levels = once (λ level. StoresBytes clinic_page (id_level clinic_catalog 0 level) (level_bytes (id_lists clinic_catalog hidden_clinic 0 (slice_index (above_of clinic_schema 0) level))))
+      (record { has = record { count = refl; each = four_times (IsByte (id_level clinic_catalog 0 0) (id_lists clinic_catalog hidden_clinic 0 (slice_index (above_of clinic_schema 0) 0))) refl refl refl refl }; rest = once (IsBlank (id_level clinic_catalog 0 0) (id_lists clinic_catalog hidden_clinic 0 (slice_index (above_of clinic_schema 0) 0))) refl });
 }
 id_indexes (suc zero) low h = record {
   places = record { has = record { count = refl; each = twice (λ i. record_at clinic_page (id_directory clinic_catalog 1) i ≡ get_or (directory_records (replicate 2 []) (above_of clinic_schema 1) (id_lists clinic_catalog hidden_clinic 1)) i []) refl refl }; rest = once (λ i. drop (records_in (id_directory clinic_catalog 1) i * (id_directory clinic_catalog 1).width) (clinic_page ((id_directory clinic_catalog 1).first + i)) ≡ replicate (2048 - records_in (id_directory clinic_catalog 1) i * (id_directory clinic_catalog 1).width) 0xff) refl };
-  levels = once (λ level. Stores clinic_page (id_level clinic_catalog 1 level) (list_records (id_lists clinic_catalog hidden_clinic 1 (slice_index (above_of clinic_schema 1) level))))
-      (record { has = record { count = refl; each = four_times (λ i. record_at clinic_page (id_level clinic_catalog 1 0) i ≡ get_or (list_records (id_lists clinic_catalog hidden_clinic 1 (slice_index (above_of clinic_schema 1) 0))) i []) refl refl refl refl }; rest = once (λ i. drop (records_in (id_level clinic_catalog 1 0) i * (id_level clinic_catalog 1 0).width) (clinic_page ((id_level clinic_catalog 1 0).first + i)) ≡ replicate (2048 - records_in (id_level clinic_catalog 1 0) i * (id_level clinic_catalog 1 0).width) 0xff) refl });
+  levels = once (λ level. StoresBytes clinic_page (id_level clinic_catalog 1 level) (level_bytes (id_lists clinic_catalog hidden_clinic 1 (slice_index (above_of clinic_schema 1) level))))
+      (record { has = record { count = refl; each = four_times (IsByte (id_level clinic_catalog 1 0) (id_lists clinic_catalog hidden_clinic 1 (slice_index (above_of clinic_schema 1) 0))) refl refl refl refl }; rest = once (IsBlank (id_level clinic_catalog 1 0) (id_lists clinic_catalog hidden_clinic 1 (slice_index (above_of clinic_schema 1) 0))) refl });
 }
 id_indexes (suc (suc zero)) low h = absurd (cc (h))
 id_indexes (suc (suc (suc table))) low h = absurd (omega (arith, low))
@@ -206,13 +218,13 @@ another_entry (value ∷ values) are each =
     begins_otherwise value _ there.0 there.1 there.2 (ap (λ bytes. slice_index bytes 0) (each 0 (omega arith)))
 
 pub returns : goal.returns
-unfolding places_from ancestor leads_within record_at digits first_page
+unfolding places_from ancestor leads_within record_at digits first_page with_codes with_lists
 returns c = record {
   whole = record { catalog = catalog; files = record { columns = columns; subtrees = subtrees; indexes = indexes; id_indexes = id_indexes } };
   another_catalog = λ h. let clash : 0 ≡ 71 = ap (λ bytes. slice_index bytes 0) (h.catalog 0 (omega arith)) in absurd (omega (arith, clash));
   another_country = λ h. let clash : 0 ≡ 70 = ap (λ bytes. slice_index bytes 0) ((h.files.columns 0 2 refl).has.each 0 (omega arith)) in absurd (omega (arith, clash));
   another_entry_of_an_index = λ h. let index = h.files.indexes 0 2 refl in another_entry index.values index.are_values index.entries.places.has.each;
   another_place_of_visits = λ h. let clash : 1 ≡ 0 = ap (λ bytes. slice_index bytes 0) ((h.files.id_indexes 0 (omega arith) refl).places.has.each 0 (omega arith)) in absurd (omega (arith, clash));
-  another_visit_of_a_doctor = λ h. let clash : 1 ≡ 0 = ap (λ bytes. slice_index bytes 0) (((h.files.id_indexes 0 (omega arith) refl).levels 0 (omega arith)).has.each 0 (omega arith)) in absurd (omega (arith, clash));
+  another_visit_of_a_doctor = λ h. let clash : 3 ≡ 1 = ap (λ bytes. slice_index bytes 0) (((h.files.id_indexes 0 (omega arith) refl).levels 0 (omega arith)).has.each 0 (omega arith)) in absurd (omega (arith, clash));
   another_doctor = λ h. let clash : 1 ≡ 0 = ap (λ bytes. slice_index bytes 0) ((h.files.subtrees 2 (omega arith) refl).has.each 0 (omega arith)) in absurd (omega (arith, clash));
 }

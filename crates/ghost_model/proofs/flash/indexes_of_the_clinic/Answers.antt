@@ -2,6 +2,7 @@ use Rattle.std.proofs.Common.{◌≡◌, refl, ℕ, zero, suc, ◌<◌, List, Co
 use Rattle.std.specs.List.Sorted.{IsStrictlySortedBy}
 use Rattle.ghost_model.specs.core.Schema.{places_from, ancestor}
 use Rattle.ghost_model.specs.core.Database.{leads_within}
+use Rattle.ghost_model.specs.forms.Gaps.{with_codes, with_lists}
 use Rattle.ghost_model.specs.forms.Flash.{hidden_cells}
 use Rattle.ghost_model.specs.examples.Clinic.{clinic_schema}
 use Rattle.ghost_model.specs.examples.Flash.{hidden_clinic, countries}
@@ -24,7 +25,7 @@ all cell (suc (suc zero)) low is = (0, omega arith, is)
 all cell (suc (suc (suc k))) low is = absurd (omega (arith, low))
 
 pub returns : goal.returns
-unfolding country_cells places_from ancestor leads_within IsStrictlySortedBy
+unfolding country_cells places_from ancestor leads_within IsStrictlySortedBy with_codes with_lists
 returns c = record {
   are_countries = record {
     ascending = ((refl, tt), (tt, tt));

@@ -19,11 +19,6 @@ returns c = record {
   france_twice = refl;
   a_gap_between_doctors = refl;
   visits_twice = refl;
-  first_of_a_list = refl;
-  a_later_visit = refl;
-  the_same_visit = refl;
   the_next_doctor = refl;
   a_doctor_too_early = refl;
-  a_later_visit_of_a_doctor = refl;
-  an_earlier_visit_of_a_doctor = refl;
 }

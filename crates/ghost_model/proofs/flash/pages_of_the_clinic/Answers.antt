@@ -2,8 +2,11 @@ use Rattle.std.proofs.Common.{◌≡◌, refl, ap, ℕ, zero, suc, ◌<◌, List
 use Rattle.std.specs.Fmt.{digits}
 use Rattle.ghost_model.specs.core.Schema.{places_from, ancestor}
 use Rattle.ghost_model.specs.forms.Runs.{Run, record_at, HasBlankRest}
+use Rattle.ghost_model.specs.core.Database.{leads_within}
+use Rattle.ghost_model.specs.forms.Gaps.{with_codes, with_lists}
 use Rattle.ghost_model.specs.laws.ShortWords.{column_file}
 use Rattle.ghost_model.specs.forms.Flash.{hidden_cells}
+use Rattle.ghost_model.specs.forms.Work.{with_value, values_among}
 use Rattle.ghost_model.specs.examples.Clinic.{clinic_schema, clinic_catalog}
 use Rattle.ghost_model.specs.examples.Flash.{hidden_clinic, country_page}
 use Rattle.ghost_model.proofs.flash.pages_of_the_clinic.Goals as goal
@@ -27,7 +30,7 @@ rest zero low = refl
 rest (suc i) low = absurd (omega (arith, low))
 
 pub returns : goal.returns
-unfolding country country_cells ancestor digits record_at places_from
+unfolding country country_cells ancestor digits record_at places_from leads_within with_codes with_lists with_value values_among
 returns c = record {
   first_page_is_whole = refl;
   second_page = refl;

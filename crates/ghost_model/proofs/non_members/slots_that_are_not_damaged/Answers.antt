@@ -1,11 +1,12 @@
-use Rattle.std.proofs.Common.{◌≡◌, refl, arith, inl, inr, ℕ, zero, suc, ◌<◌, List, true, false, ◌⊎◌}
-use Rattle.std.specs.Prelude.{nat_lt}
+use Rattle.std.proofs.Common.{◌≡◌, refl, ap, sym, subst, arith, inl, inr, ℕ, zero, suc, ◌+◌, ◌/◌, ◌<◌, List, drop, Bool, true, false, Option, Some, None}
+use Rattle.std.specs.Prelude.{nat_lt, option_map}
 use Rattle.std.specs.Fmt.{digits}
 use Rattle.std.proofs.lemmas.Bool.Decides.{nat_tests}
 use Rattle.ghost_model.specs.core.Schema.{places_from, ancestor}
 use Rattle.ghost_model.specs.forms.Layout.{first_page, run_of_file, File, Cells, Subtrees, IndexHeader, IndexDirectory, IndexLevel, IdDirectory, IdLevel}
 use Rattle.ghost_model.specs.forms.Runs.{page_of, slot_of, number_in, record_at, found_in}
-use Rattle.ghost_model.specs.forms.Slots.{has_file, may_stand, may_follow, before_slot, in_slot, slots_in, IsOutOfOrder}
+use Rattle.ghost_model.specs.forms.Gaps.{Reading, code_at, last_of, reading_at}
+use Rattle.ghost_model.specs.forms.Slots.{has_file, may_stand, may_follow, before_slot, in_slot, slots_in, code_stands, IsWrong, IsWrongRecord, IsBrokenCode}
 use Rattle.ghost_model.specs.examples.Clinic.{note_schema, note_catalog}
 use Rattle.ghost_model.specs.examples.NonMembers.{note_page, bad_page}
 use Rattle.ghost_model.proofs.non_members.slots_that_are_not_damaged.Goals as goal
@@ -58,16 +59,46 @@ of_notes P a b c d (IdDirectory (suc table)) h = absurd (cc (h))
 of_notes P a b c d (IdLevel zero level) h = absurd (no_level level h)
 of_notes P a b c d (IdLevel (suc table) level) h = absurd (no_level level h)
 
--- a slot of a file may not be as it is
+-- a record of a file may not be as it is, or a code of the level file
 abbrev Damaged : (page : ℕ → List ℕ) → File → ℕ → Type 0
-Damaged page file place =
-    (may_stand note_catalog file (in_slot page note_catalog file place) ≡ false) ⊎ IsOutOfOrder page note_catalog file place
+Damaged page file place = IsWrong page note_catalog file place
 
 undamaged : (page : ℕ → List ℕ) (file : File) (place : ℕ) → may_stand note_catalog file (in_slot page note_catalog file place) ≡ true
     → may_follow note_catalog file (before_slot page note_catalog file place) (in_slot page note_catalog file place) ≡ true
-    → Damaged page file place → ⊥
+    → IsWrongRecord page note_catalog file place → ⊥
 undamaged page file place stands follows (inl bad) = absurd (cc)
-undamaged page file place stands follows (inr out) = let broken = out.broken in absurd (cc)
+undamaged page file place stands follows (inr broken) = absurd (cc)
+
+-- the code at a place after the last identifier, which has to be of one of three rows
+abbrev Stands : (place last : ℕ) → Bool
+Stands place last = code_stands 3 (option_map (λ code. (last + code.0, code.1)) (code_at note_page 67 2048 place))
+
+abbrev place_or_none : Option Reading → ℕ
+place_or_none None = 0
+place_or_none (Some reading) = reading.place
+
+-- reading of a list with one identifier, which begins at a place, stands before it at that place
+at_begin : (begin place last i : ℕ) → i < 1 → reading_at note_page 67 2048 begin i ≡ Some (record { place = place; last = last })
+    → Stands begin 0 ≡ true → Stands place last ≡ false → ⊥
+unfolding reading_at
+at_begin begin place last zero low gets stands broken =
+    let same : begin ≡ place = ap place_or_none gets in
+    let none : 0 ≡ last = ap last_of gets in
+    let is : Stands begin 0 ≡ false = subst (λ n. Stands begin n ≡ false) (sym none) (subst (λ p. Stands p last ≡ false) (sym same) broken) in
+    absurd (cc)
+at_begin begin place last (suc i) low gets stands broken = absurd (omega (arith, low))
+
+unbroken : (place : ℕ) → IsBrokenCode note_page note_catalog (IndexLevel 0 2 0) (IndexDirectory 0 2) 8 3 place → ⊥
+unfolding digits places_from ancestor number_in record_at first_page
+unbroken place is =
+    thrice (λ entry. (i : ℕ) → i < number_in (drop 8 (in_slot note_page note_catalog (IndexDirectory 0 2) entry)) 4 → (last : ℕ)
+    → reading_at note_page 67 2048 (number_in (drop 8 (in_slot note_page note_catalog (IndexDirectory 0 2) entry)) 0) i
+    ≡ Some (record { place = place; last = last })
+    → Stands place last ≡ false → ⊥)
+    (λ i low last gets broken. at_begin 0 place last i low gets refl broken)
+    (λ i low last gets broken. at_begin 1 place last i low gets refl broken)
+    (λ i low last gets broken. at_begin 2 place last i low gets refl broken)
+    is.entry is.there is.i is.within is.last is.gets is.broken
 
 whole : (file : File) → has_file note_schema file ≡ true → (place : ℕ) → place < slots_in note_page note_catalog file
     → Damaged note_page file place → ⊥
@@ -78,8 +109,7 @@ whole = of_notes (λ file. (place : ℕ) → place < slots_in note_page note_cat
     (once (λ place. Damaged note_page (IndexHeader 0 2) place → ⊥) (undamaged note_page (IndexHeader 0 2) 0 refl refl))
     (thrice (λ place. Damaged note_page (IndexDirectory 0 2) place → ⊥) (undamaged note_page (IndexDirectory 0 2) 0 refl refl)
     (undamaged note_page (IndexDirectory 0 2) 1 refl refl) (undamaged note_page (IndexDirectory 0 2) 2 refl refl))
-    (thrice (λ place. Damaged note_page (IndexLevel 0 2 0) place → ⊥) (undamaged note_page (IndexLevel 0 2 0) 0 refl refl)
-    (undamaged note_page (IndexLevel 0 2 0) 1 refl refl) (undamaged note_page (IndexLevel 0 2 0) 2 refl refl))
+    (λ place low. unbroken place)
 
 -- on the bad page, the slot before the last one
 abbrev IsAt : File → (number slot place : ℕ) → Type 0
@@ -97,9 +127,7 @@ before = of_notes (λ file. (place : ℕ) → place < slots_in bad_page note_cat
     (thrice (λ place. IsAt (IndexDirectory 0 2) 66 1 place → Damaged bad_page (IndexDirectory 0 2) place → ⊥)
     (λ at. let clash : 1 ≡ 0 = at.1 in absurd (omega (arith, clash))) (λ at. undamaged bad_page (IndexDirectory 0 2) 1 refl refl)
     (λ at. let clash : 1 ≡ 2 = at.1 in absurd (omega (arith, clash))))
-    (thrice (λ place. IsAt (IndexLevel 0 2 0) 66 1 place → Damaged bad_page (IndexLevel 0 2 0) place → ⊥)
-    (λ at. let clash : 66 ≡ 67 = at.0 in absurd (omega (arith, clash))) (λ at. let clash : 66 ≡ 67 = at.0 in absurd (omega (arith, clash)))
-    (λ at. let clash : 66 ≡ 67 = at.0 in absurd (omega (arith, clash))))
+    (λ place low at. let clash : 66 ≡ 67 + place / 2048 = at.0 in absurd (omega (arith, clash)))
 
 -- where a slot is that one, its first bytes are these
 abbrev Found : File → (found place : ℕ) → Type 0
@@ -117,9 +145,7 @@ bytes_there = of_notes (λ file. (place : ℕ) → place < slots_in bad_page not
     (thrice (λ place. IsAt (IndexDirectory 0 2) 66 2 place → Found (IndexDirectory 0 2) 0 place → ⊥)
     (λ at. let clash : 2 ≡ 0 = at.1 in absurd (omega (arith, clash))) (λ at. let clash : 2 ≡ 1 = at.1 in absurd (omega (arith, clash)))
     (λ at found. let clash : 0 ≡ 0x7a00000000000000 = found in absurd (omega (arith, clash))))
-    (thrice (λ place. IsAt (IndexLevel 0 2 0) 66 2 place → Found (IndexLevel 0 2 0) 0 place → ⊥)
-    (λ at. let clash : 66 ≡ 67 = at.0 in absurd (omega (arith, clash))) (λ at. let clash : 66 ≡ 67 = at.0 in absurd (omega (arith, clash)))
-    (λ at. let clash : 66 ≡ 67 = at.0 in absurd (omega (arith, clash))))
+    (λ place low at. let clash : 66 ≡ 67 + place / 2048 = at.0 in absurd (omega (arith, clash)))
 
 pub returns : goal.returns
 unfolding digits places_from ancestor number_in record_at found_in first_page
@@ -133,7 +159,7 @@ returns c = record {
       within = omega arith;
       page_is = refl;
       slot_is = refl;
-      damaged = inr (record { bound = tt; broken = refl });
+      damaged = inr refl;
       found_is = refl;
     };
   };
