@@ -19,7 +19,7 @@ use crate::indexes::{
 };
 use crate::limits::a_catalog_has_a_layout;
 use crate::places::TablePlaces;
-use crate::runs::{in_blocks, pages};
+use crate::runs::{PAGE_BYTES, in_blocks, pages};
 use crate::tables::{but_first, levels_among, ways_of};
 use arrayvec::ArrayVec;
 use ghost_base::Kind;
@@ -234,7 +234,8 @@ impl<'a> Layout<'a> {
         }
     }
 
-    /// The level file of the table at a place of a list of tables, the first of which has its level file at a page.
+    /// The level file of the table at a place of a list of tables, the first of which has its level file at a page: the single bytes
+    /// of as many pages as identifiers of four bytes take.
     fn level_file(&self, begin: u32, tables: &[usize], level: usize) -> Run
         requires begin { begin < 1000000000 }
         requires few { length tables.now ≤ 12 }
@@ -243,8 +244,8 @@ impl<'a> Layout<'a> {
     {
         Run {
             first: begin + levels_pages(self.cat, &tables[..level]),
-            count: self.rows(tables[level]),
-            width: 4,
+            count: PAGE_BYTES * pages(self.rows(tables[level]), 4),
+            width: 1,
         }
     }
 
