@@ -1,21 +1,22 @@
 -- What a cursor, a writer and a buffer keep where other pages change and other buffers are used.
-use Rattle.std.proofs.Common.{◌≡◌, ◌≢◌, ℕ, zero, suc, ◌+◌, ◌-◌, ◌*◌, ◌/◌, ◌%◌, ◌∷◌, ◌<◌, ◌≤◌, ◌∙◌, ap, sym, refl, subst, Bool, true, List, drop, arith}
+use Rattle.std.proofs.Common.{◌≡◌, ◌≢◌, ℕ, zero, suc, ◌+◌, ◌*◌, ◌/◌, ◌%◌, ◌<◌, ◌≤◌, ◌∙◌, ap, sym, subst, Bool, true, List, drop, arith}
 use Rattle.std.specs.Prelude.{IfSome, Option, Some, None}
 use Rattle.std.proofs.lemmas.Nat.{div_below}
-use Rattle.ghost_model.specs.forms.Runs.{Run, page_of, run_end, per_page, id_at, ids_from, cell_in, number_in}
+use Rattle.ghost_model.specs.forms.Runs.{Run, page_of, run_end, per_page, cell_in}
 use Rattle.edge_traits.specs.Devices.{Device, KeepsPages, ChangesOnly, GaveSince}
 use Rattle.page_pool.specs.Pools.{Pool, IsOut, ChangesPage, bytes_at, page_at}
 use Rattle.page_pool.specs.Laws.{SameBuffer}
 use Rattle.page_pool.proofs.Leases.{out_kept, change_keeps_out, change_elsewhere}
 use Rattle.ghost_base.specs.Runs.{run_of}
 use Rattle.flash_pages.specs.Reads.{IsFilled, CanRead, WasGiven, WasRead}
-use Rattle.flash_pages.specs.Cursors.{IsReady, IsPageOf, ids_left, place}
+use Rattle.flash_pages.specs.Cursors.{IsReady, IsPageOf, ids_left}
 use Rattle.flash_pages.specs.Writing.{IsWriting}
 use Rattle.flash_pages.specs.Writers.{CanWrite, HasPut, next_page}
 use Rattle.flash_pages.specs.declared.cursor.RunCursor.{RunCursor}
 use Rattle.flash_pages.specs.declared.filler.RunFiller.{RunFiller}
 use Rattle.flash_pages.specs.declared.writer.RunWriter.{RunWriter}
-use Rattle.flash_pages.proofs.RunFrames.{run_kept, record_kept, place_in_run}
+use Rattle.flash_pages.proofs.RunFrames.{run_kept, place_in_run}
+use Rattle.flash_pages.proofs.ListFrames.{stands_kept, ids_left_kept}
 
 -- what is said of a value, if there is one, goes over to what follows from it
 pub some_then : {A : Type 0} {P Q : A → Type 0} (value : Option A) → ((a : A) → P a → Q a) → IfSome value P → IfSome value Q
@@ -100,7 +101,8 @@ ready_kept {told = told} {before = before} {now = now} {pool = pool} {later = la
       run = run_kept count ready.run;
       width = ready.width;
       list = ready.list;
-      place = ready.place;
+      at = ready.at;
+      stands = stands_kept ready.at ready.list pages ready.stands;
       page = let P : Option ℕ → Type 0 = λ value. IfSome value (IsPageOf run) in subst P (sym same.filled) ready.page;
       buffer =
           can_read_kept out same
@@ -119,22 +121,11 @@ ready_beside {cursor = cursor} kept changes apart ready =
     (out_kept (change_keeps_out changes) ready.buffer.out) (change_elsewhere changes apart) ready
 
 -- the identifiers of a list stay where the pages of its run stay
-ids_from_kept :
-    (page now : ℕ → List ℕ) (run : Run) (place count : ℕ)
-    → ((i : ℕ) → place ≤ i → i < place + count → now (page_of run i) ≡ page (page_of run i))
-    → ids_from now run place count ≡ ids_from page run place count
-unfolding ids_from
-ids_from_kept page now run place zero same = refl
-ids_from_kept page now run place (suc count) same =
-    ap (λ r. number_in r 0 ∷ ids_from now run (place + 1) count) (record_kept page now run place (same place (omega arith) (omega arith)))
-    ∙ ap (λ ids. id_at page run place ∷ ids) (ids_from_kept page now run (place + 1) count (λ i from to. same i (omega arith) (omega arith)))
-
 pub ids_kept :
     (page now : ℕ → List ℕ) (cursor : RunCursor) → cursor.list.first + cursor.list.count ≤ cursor.list.run.count
     → ((i : ℕ) → i < cursor.list.run.count → now (page_of (run_of cursor.list.run) i) ≡ page (page_of (run_of cursor.list.run) i))
     → ids_left now cursor ≡ ids_left page cursor
-ids_kept page now cursor within same =
-    ids_from_kept page now (run_of cursor.list.run) (place cursor) (cursor.list.count - cursor.at) (λ i from to. same i (omega arith))
+ids_kept page now cursor within same = ids_left_kept page now cursor within same
 
 -- the pages of a run stay where only pages behind it changed, or only pages before it
 pub pages_kept_below :

@@ -1,6 +1,13 @@
+pub mod InPages
 pub mod RecordLemmas
 pub mod WriterLemmas
 pub mod RunFrames
+pub mod ListFrames
+pub mod CodePlaces
 pub mod LeaseFrames
+pub mod CodeSteps
+pub mod Unread
+pub mod CursorSteps
 pub mod Passing
 pub mod Fillings
+pub mod CodeWriting

@@ -15,23 +15,23 @@ same_page place more n some few =
     ap (λ k. k / n) is ∙ div-mul-add (place / n) n (place % n + more) (omega (arith, few, mod-lt place some))
 
 pub last_in_page :
-    (cursor : RunCursor) (n more at : ℕ) → n ≡ per_page cursor.list.run.width → 0 < n → cursor.at < cursor.list.count
-    → more ≡ min (n - 1 - (cursor.list.first + cursor.at) % n) (cursor.list.count - 1 - cursor.at) → at ≡ cursor.at + more
-    → IsLastInPage cursor at
-last_in_page cursor n more at is some left most here =
+    (cursor : RunCursor) (left more at : ℕ) → 0 < per_page cursor.list.run.width → cursor.place ≡ cursor.list.first + cursor.at
+    → cursor.at < cursor.list.count → left ≡ per_page cursor.list.run.width - 1 - cursor.place % per_page cursor.list.run.width
+    → more ≡ min left (cursor.list.count - 1 - cursor.at) → at ≡ cursor.at + more → IsLastInPage cursor at
+last_in_page cursor left more at some stands inside here most is =
     let list = cursor.list in
+    let n = per_page list.run.width in
     let place = list.first + cursor.at in
+    let few : more ≡ min (n - 1 - place % n) (list.count - 1 - cursor.at) = most ∙ ap (λ k. min k (list.count - 1 - cursor.at)) (here ∙ ap (λ k. n - 1 - k % n) stands) in
     record {
-      from = omega (arith, here);
-      within = omega (arith, here, most, left);
+      from = omega (arith, is);
+      within = omega (arith, is, few, inside);
       same_page =
-          let on : list.first + at ≡ place + more = omega (arith, here) in
-          ap (λ k. list.run.first + (list.first + at) / k) (sym is)
-          ∙ ap (λ k. list.run.first + k / n) on
-          ∙ ap (λ q. list.run.first + q) (same_page place more n some (omega (arith, most, mod-lt place some)))
-          ∙ ap (λ k. list.run.first + place / k) is;
+          let on : list.first + at ≡ place + more = omega (arith, is) in
+          ap (λ k. list.run.first + k / n) on
+          ∙ ap (λ q. list.run.first + q) (same_page place more n some (omega (arith, few, mod-lt place some)))
+          ∙ ap (λ k. list.run.first + k / n) (sym stands);
       last = λ later behind within same.
-          let pages : (list.first + later) / per_page list.run.width ≡ place / per_page list.run.width = omega (arith, same) in
-          later_page list.first cursor.at list.count n later some (omega (arith, behind, here, most)) within
-          (ap (λ k. (list.first + later) / k) is ∙ pages ∙ ap (λ k. place / k) (sym is));
+          let pages : (list.first + later) / n ≡ cursor.place / n = omega (arith, same) in
+          later_page list.first cursor.at list.count n later some (omega (arith, behind, is, few)) within (pages ∙ ap (λ k. k / n) stands);
     }

@@ -4,7 +4,7 @@ use Rattle.std.proofs.lemmas.Bool.{cases_lt}
 use Rattle.std.proofs.lemmas.List.{take_all, drop-replicate}
 use Rattle.std.proofs.lemmas.Nat.{div-mul-add, div-add-mod', le-div}
 use Rattle.std.proofs.Math.Nat.{mod-lt}
-use Rattle.ghost_model.specs.forms.Runs.{Run, per_page, cell_in, record_at, id_at, ids_from, number_in, found_in}
+use Rattle.ghost_model.specs.forms.Runs.{Run, page_of, slot_of, per_page, cell_in, record_at, number_in, found_in}
 
 -- the slot of the page that was read is the record
 pub record_read :
@@ -15,6 +15,16 @@ record_read page run i records bytes cell size read held =
     read
     ∙ ap (λ b. cell_in b run.width (i % records)) held
     ∙ ap (λ n. cell_in (page (run.first + i / n)) run.width (i % n)) size
+
+pub record_in_page :
+    (page : ℕ → List ℕ) (run : Run) (i slot pages : ℕ) (bytes cell : List ℕ) → slot ≡ slot_of run i → pages ≡ i / per_page run.width
+    → cell ≡ cell_in bytes run.width slot → bytes ≡ page (run.first + pages) → cell ≡ record_at page run i
+unfolding record_at
+record_in_page page run i slot pages bytes cell is before read held =
+    read
+    ∙ ap (λ b. cell_in b run.width slot) held
+    ∙ ap (λ n. cell_in (page (run.first + n)) run.width slot) before
+    ∙ ap (λ s. cell_in (page (page_of run i)) run.width s) is
 
 -- the first eight bytes of a record, and bytes 0 after a shorter one
 pub found_bytes :
@@ -32,25 +42,6 @@ found_bytes cell count size =
           ap (λ n. take n cell ++ drop n (replicate {A = ℕ} 8 0)) e
           ∙ ap (λ rest. take 8 cell ++ rest) (sym (drop-replicate (length cell) 8 0 ∙ ap (λ n. replicate {A = ℕ} n 0) none))
     ]
-
--- the identifiers from one on are that one and the others, and none at the end
-pub ids_step :
-    (page : ℕ → List ℕ) (run : Run) (first at count : ℕ) → at < count
-    → ids_from page run (first + at) (count - at)
-    ≡ id_at page run (first + at) ∷ ids_from page run (first + (at + 1)) (count - (at + 1))
-unfolding ids_from
-ids_step page run first at count within =
-    let left : count - at ≡ suc (count - (at + 1)) = omega arith in
-    let place : first + at + 1 ≡ first + (at + 1) = omega arith in
-    ap (λ n. ids_from page run (first + at) n) left
-    ∙ ap (λ n. id_at page run (first + at) ∷ ids_from page run n (count - (at + 1))) place
-
-pub ids_end :
-    (page : ℕ → List ℕ) (run : Run) (place at count : ℕ) → count ≤ at → ids_from page run place (count - at) ≡ []
-unfolding ids_from
-ids_end page run place at count end =
-    let left : count - at ≡ 0 = omega arith in
-    ap (λ n. ids_from page run place n) left
 
 -- the first four bytes of a record are the first half of the number that its first eight bytes are
 zeros_small : (n m i : ℕ) → get_or (drop n (replicate {A = ℕ} m 0)) i 0 < 256

@@ -3,7 +3,9 @@ pub mod Faults
 pub mod Holding
 pub mod Reads
 pub mod Cursors
+pub mod Codes
 pub mod Looking
 pub mod Writing
 pub mod Writers
+pub mod CodeWriters
 pub mod Filling

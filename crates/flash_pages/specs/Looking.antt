@@ -16,8 +16,8 @@ pub record IsInPage (cursor : RunCursor) (at : ℕ) : Type 0 where
 -- the slot that a fault blames, if it blames one, is that of the record
 abbrev pub DamagesAt : (ℕ → List ℕ) → RunCursor → (at : ℕ) → PageFault → Type 0
 DamagesAt page cursor at Flash = ⊤
-DamagesAt page cursor at (Damaged number slot found) = GivesDamage page cursor at found
+DamagesAt page cursor at (Damaged number slot found) = GivesDamage page cursor at (cursor.list.first + at) found
 
 abbrev pub BlamesAt : (since : ℕ) → Device → RunCursor → (at : ℕ) → PageFault → Type 0
 BlamesAt since device cursor at Flash = ⊤
-BlamesAt since device cursor at (Damaged number slot found) = BlamesSlot since device cursor at number slot found
+BlamesAt since device cursor at (Damaged number slot found) = BlamesSlot since device cursor at (cursor.list.first + at) number slot found

@@ -1,7 +1,8 @@
 -- What every reader of a page under a lease says besides its value. The page is read unless the buffer was filled from it.
-use Rattle.std.specs.Prelude.{◌≡◌, ℕ, ◌+◌, ◌≤◌, ◌&&◌, Bool, true, nat_le, List, Option, Some, None, Result, Ok, Err, IfSome, IfErr, OnOk}
+use Rattle.std.specs.Prelude.{◌≡◌, ℕ, ◌+◌, ◌≤◌, ◌&&◌, Bool, true, if◌then◌else◌, nat_le, List, drop, Option, Some, None, Result, Ok, Err, IfSome, IfErr, OnOk}
 use Rattle.ghost_model.specs.core.Causes.{Rose}
 use Rattle.ghost_model.specs.forms.Runs as runs
+use Rattle.ghost_model.specs.forms.Gaps.{are_codes}
 use Rattle.edge_traits.specs.Devices.{Device, KeepsPages, GaveSince, next_if}
 use Rattle.page_pool.specs.Pools.{Pool, IsOut, ChangesPage, bytes_at, page_at}
 use Rattle.flash_pages.specs.declared.fault.PageFault.{PageFault}
@@ -30,6 +31,17 @@ pub record WasRead (since : ℕ) (device : Device) (run : runs.Run) (place : ℕ
   pub bytes : List ℕ
   pub gave : GaveSince since device bytes (runs.page_of run place)
   pub record_is : record_bytes ≡ runs.cell_in bytes run.width (runs.slot_of run place)
+
+-- what stands at a place of a list's run, in a page with these bytes: a record, or all bytes to the page's end where it has codes
+abbrev pub bytes_in : (bytes : List ℕ) → runs.Run → (place : ℕ) → List ℕ
+bytes_in bytes run place =
+    if are_codes run then drop (runs.slot_of run place) bytes else runs.cell_in bytes run.width (runs.slot_of run place)
+
+-- these stand there, as a read from that count of calls on gave them
+pub record WasListed (since : ℕ) (device : Device) (run : runs.Run) (place : ℕ) (listed_bytes : List ℕ) : Type 0 where
+  pub bytes : List ℕ
+  pub gave : GaveSince since device bytes (runs.page_of run place)
+  pub are : listed_bytes ≡ bytes_in bytes run place
 
 -- What a fault tells of the device. The flash is blamed for a call that was to be made: the last one, which counted a fault.
 -- Where a slot is blamed, no fault was counted.

@@ -1,6 +1,6 @@
 //! Records in a page, and numbers in a record.
 
-ghost use Rattle.std.specs.Prelude.{◌≡◌, ◌<◌, ◌≤◌, ◌+◌, ◌*◌, ◌/◌, ◌^◌, length};
+ghost use Rattle.std.specs.Prelude.{◌≡◌, ◌<◌, ◌≤◌, ◌+◌, ◌*◌, ◌/◌, ◌^◌, drop, length};
 ghost use Rattle.ghost_model.specs.forms.Runs.{cell_in, number_in, found_in};
 
 /// The record in a slot of a page.
@@ -32,4 +32,12 @@ pub fn found_of(cell: &[u8]) -> u64
     let mut bytes = [0; 8];
     bytes[..count].copy_from_slice(&cell[..count]);
     u64::from_be_bytes(bytes)
+}
+
+/// The same of the bytes of a page from an offset on.
+pub fn found_from(bytes: &[u8; 2048], slot: u32) -> u64
+    requires inside { slot ≤ 2048 }
+    ensures { result ≡ found_in (drop slot bytes.now) }
+{
+    found_of(&bytes[slot as usize..])
 }

@@ -5,12 +5,16 @@
 #![tactic(auto)]
 
 pub mod cells;
+pub mod code_filler;
+pub mod codes;
 pub mod cursor;
 pub mod fault;
 pub mod filler;
 pub mod filling;
 pub mod fixed;
 pub mod load;
+pub mod places;
+mod standing;
 pub mod writer;
 
 pub use ghost_base::runs::{ListRef, Run, per_page};
