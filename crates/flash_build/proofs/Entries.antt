@@ -1,5 +1,5 @@
 -- The levels of an index: as many rows at each as its table has, ranks among the entries, and the lists that they make.
-use Rattle.std.proofs.Common.{◌≡◌, refl, ap, sym, ◌∙◌, subst, ℕ, suc, ◌+◌, ◌-◌, ◌^◌, ◌<◌, ◌≤◌, List, [], ◌∷◌, length, map, drop, get_or, Vec, arith}
+use Rattle.std.proofs.Common.{◌≡◌, refl, ap, sym, ◌∙◌, subst, ℕ, suc, ◌+◌, ◌-◌, ◌<◌, ◌≤◌, List, [], ◌∷◌, length, map, drop, get_or, Vec, arith}
 use Rattle.std.specs.Global.{Global}
 use Rattle.std.specs.List.{All, AllByRecursion}
 use Rattle.std.proofs.lemmas.Option.{slice_get_within}
@@ -68,7 +68,7 @@ module _ (cat : Catalog) (hidden : Hidden) (table : ℕ) (own : List ℕ) where
       omega (arith, good, get_or-map held a.reached k 0 0 at)))
 
   few_each : ((from : ℕ) → count_of cat from ≤ 1000000) → (tables : List ℕ) (vs : List (Vec ℕ Global)) → AreRankedAbove cat hidden table own tables (map items_of vs)
-      → AllByRecursion (λ (v : Vec ℕ Global). length v.items < 2 ^ 32) vs
+      → AllByRecursion (λ (v : Vec ℕ Global). length v.items < 2097152) vs
   few_each few [] [] a = tt
   few_each few [] (v ∷ vs) a = absurd (let c = a.count in omega (arith, c))
   few_each few (t ∷ ts) [] a = tt
@@ -78,8 +78,8 @@ module _ (cat : Catalog) (hidden : Hidden) (table : ℕ) (own : List ℕ) where
       (omega (arith, long, most), few_each few ts vs (rest t ts v.items (map items_of vs) a))
 
   pub all_few : ((from : ℕ) → count_of cat from ≤ 1000000) → (tables : List ℕ) (vs : List (Vec ℕ Global)) → AreRankedAbove cat hidden table own tables (map items_of vs)
-      → All (λ (v : Vec ℕ Global). length v.items < 2 ^ 32) vs
-  all_few few tables vs a = All-from_recursion (λ (v : Vec ℕ Global). length v.items < 2 ^ 32) vs (few_each few tables vs a)
+      → All (λ (v : Vec ℕ Global). length v.items < 2097152) vs
+  all_few few tables vs a = All-from_recursion (λ (v : Vec ℕ Global). length v.items < 2097152) vs (few_each few tables vs a)
 
   ranked_each : (entries : ℕ) → length own ≡ count_of cat table → All (λ rank. rank < entries) own → (tables : List ℕ) (vs : List (Vec ℕ Global))
       → AreRankedAbove cat hidden table own tables (map items_of vs) → AllByRecursion (λ (v : Vec ℕ Global). All (λ rank. rank < entries) v.items) vs

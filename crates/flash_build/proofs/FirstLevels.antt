@@ -1,5 +1,5 @@
 -- The first level of an index: its rows in order are the lists of its ranks.
-use Rattle.std.proofs.Common.{◌≡◌, refl, ap, sym, ◌∙◌, subst, ℕ, ◌+◌, ◌-◌, ◌^◌, ◌<◌, ◌≤◌, List, [], ◌∷◌, length, map, drop, get_or, Some, Vec, arith}
+use Rattle.std.proofs.Common.{◌≡◌, refl, ap, sym, ◌∙◌, subst, ℕ, ◌+◌, ◌-◌, ◌<◌, ◌≤◌, List, [], ◌∷◌, length, map, drop, get_or, Some, Vec, arith}
 use Rattle.std.specs.Global.{Global}
 use Rattle.std.proofs.lemmas.List.{length-map, get_or-map}
 use Rattle.std.proofs.lemmas.List.Elements.{All-get_or}
@@ -58,10 +58,10 @@ module _ (cat : Catalog) (hidden : Hidden) (table : ℕ) (laid : HasLayout cat) 
       many [] low = absurd (omega (arith, low))
       many (x ∷ xs) low = omega (arith, low)
 
-  pub above_few : length ranks.items < 2 ^ 32
+  pub above_few : length ranks.items < 2097152
   above_few =
-      subst (λ (v : Vec ℕ Global). length v.items < 2 ^ 32) (sym is)
-      (All-get_or (λ (v : Vec ℕ Global). length v.items < 2 ^ 32) all 1 ranks there
+      subst (λ (v : Vec ℕ Global). length v.items < 2097152) (sym is)
+      (All-get_or (λ (v : Vec ℕ Global). length v.items < 2097152) all 1 ranks there
       (all_few cat hidden table (below (count_of cat table)) laid.few.rows (levels_of cat.schema table) all ranked))
 
   pub above_ranked : All (λ rank. rank < count_of cat table) ranks.items

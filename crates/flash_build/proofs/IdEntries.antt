@@ -1,5 +1,5 @@
--- The id index of a table: what its levels are, and where they lie.
-use Rattle.std.proofs.Common.{◌≡◌, sym, ◌∙◌, subst, ℕ, ◌+◌, ◌*◌, ◌^◌, ◌<◌, ◌≤◌, false, List, [], length, map, drop, replicate, get_or, Vec, Result, arith}
+-- The id index of a table: what its levels are, where they lie, and how many pages hold a byte of it.
+use Rattle.std.proofs.Common.{◌≡◌, sym, ◌∙◌, subst, ℕ, ◌+◌, ◌*◌, ◌<◌, ◌≤◌, false, List, [], length, map, drop, replicate, get_or, Vec, Result, arith}
 use Rattle.std.specs.Global.{Global}
 use Rattle.std.specs.List.{All}
 use Rattle.std.proofs.lemmas.List.{length-map}
@@ -13,12 +13,13 @@ use Rattle.ghost_model.specs.laws.ShortWords as short
 use Rattle.ghost_model.specs.forms.Layout as layout
 use Rattle.ghost_model.specs.forms.Layout.{below, count_of, levels_of, above_of}
 use Rattle.ghost_model.specs.laws.LayoutSums.{levels_pages, id_index_begin, id_index_pages, id_directory_pages}
+use Rattle.ghost_model.specs.laws.WorkLaws.{id_index_written}
 use Rattle.flash_layout.specs.Limits.{HasLayout}
 use Rattle.edge_traits.specs.Devices.{Device}
 use Rattle.flash_pages.specs.Filling.{CanFill}
 use Rattle.flash_pages.proofs.RunFrames.{can_fill_part}
 use Rattle.index_lists.specs.Laws.{IdListsByRanks}
-use Rattle.index_files.specs.Files.{AreLevels, counts_of, level_pages}
+use Rattle.index_files.specs.Files.{AreLevels, counts_of, level_pages, written_pages}
 use Rattle.index_files.specs.Laws.{FilesOfTables}
 use Rattle.flash_build.specs.declared.faults.BuildFault.{BuildFault}
 use Rattle.flash_build.specs.Building.{HoldsIdIndex, Wrote}
@@ -41,8 +42,8 @@ module _ (cat : Catalog) (hidden : Hidden) (table : ℕ) (laid : HasLayout cat) 
   many : length rest ≡ length (above_of cat.schema table)
   many = sym (length-map rest items_of) ∙ levels.count
 
-  pub few : All (λ (v : Vec ℕ Global). length v.items < 2 ^ 32) rest
-  few = all_few cat hidden table (below (count_of cat table)) laid.few.rows (above_of cat.schema table) rest levels
+  pub small : All (λ (v : Vec ℕ Global). length v.items < 2097152) rest
+  small = all_few cat hidden table (below (count_of cat table)) laid.few.rows (above_of cat.schema table) rest levels
 
   pub each_ranked : All (λ (v : Vec ℕ Global). All (λ rank. rank < run.count) v.items) rest
   each_ranked =
@@ -70,11 +71,24 @@ module _ (cat : Catalog) (hidden : Hidden) (table : ℕ) (laid : HasLayout cat) 
         can_as (sym at.begin) (sym pages)
         (can_fill_part c (id_index_begin cat table + id_directory_pages cat table) (levels_pages cat (above_of cat.schema table)) (omega arith) (let w = at.whole in omega (arith, w)))
 
-    pub wrote : {T : Type 0} {a b : Device} (result : Result T BuildFault)
-        → Wrote run.first (first.first + level_pages (counts_of (map items_of rest))) (run_pages run + level_pages (counts_of (map items_of rest))) a b result
-        → Wrote (id_index_begin cat table) (id_index_begin cat table + id_index_pages cat table) (id_index_pages cat table) a b result
-    wrote result w =
-        wrote_as result at.directory (let b = at.begin in let e = at.whole in omega (arith, b, e, pages)) (let p = at.pages in let e = at.whole in omega (arith, p, e, pages)) w
+    levels_are : IdListsByRanks → AreLevels (map items_of rest) run.count first.first (above_of cat.schema table) (id_lists cat hidden table) (short.id_level cat table)
+    levels_are law =
+        let lists = id_lists cat hidden table in
+        let file = short.id_level cat table in
+        let tables = above_of cat.schema table in
+        let begin = id_index_begin cat table + id_directory_pages cat table in
+        let here : AreLevels (map items_of rest) (count_of cat table) begin tables lists file =
+        are_levels cat hidden table (below (count_of cat table)) files tables (map items_of rest) levels (count_of cat table) begin lists file
+        (λ from reached lead. id_lists_are law cat hidden table from reached lead) (λ l low. laid.sums.id_level table l there low) in
+        subst (λ n. AreLevels (map items_of rest) n first.first tables lists file) (sym at.count)
+        (subst (λ n. AreLevels (map items_of rest) (count_of cat table) n tables lists file) (sym at.begin) here)
+
+    pub wrote : {T : Type 0} {a b : Device} (result : Result T BuildFault) → IdListsByRanks
+        → Wrote run.first (first.first + level_pages (counts_of (map items_of rest))) (run_pages run + written_pages (map items_of rest) run.count) a b result
+        → Wrote (id_index_begin cat table) (id_index_begin cat table + id_index_pages cat table) (id_index_written cat hidden table) a b result
+    wrote result law w =
+        let bytes = files.written (map items_of rest) run.count first.first (above_of cat.schema table) (id_lists cat hidden table) (short.id_level cat table) (levels_are law) in
+        wrote_as result at.directory (let b = at.begin in let e = at.whole in omega (arith, b, e, pages)) (let p = at.pages in omega (arith, p, bytes)) w
 
     pub holds : {page : ℕ → List ℕ} → IdListsByRanks
         → ((tables : List ℕ) (lists : ℕ → List (List ℕ)) (file : ℕ → Run) → AreLevels (map items_of rest) run.count first.first tables lists file
@@ -84,12 +98,5 @@ module _ (cat : Catalog) (hidden : Hidden) (table : ℕ) (laid : HasLayout cat) 
         let lists = id_lists cat hidden table in
         let file = short.id_level cat table in
         let tables = above_of cat.schema table in
-        let begin = id_index_begin cat table + id_directory_pages cat table in
-        let here : AreLevels (map items_of rest) (count_of cat table) begin tables lists file =
-        are_levels cat hidden table (below (count_of cat table)) files tables (map items_of rest) levels (count_of cat table) begin lists file
-        (λ from reached lead. id_lists_are law cat hidden table from reached lead) (λ l low. laid.sums.id_level table l there low) in
-        let moved : AreLevels (map items_of rest) run.count first.first tables lists file =
-        subst (λ n. AreLevels (map items_of rest) n first.first tables lists file) (sym at.count)
-        (subst (λ n. AreLevels (map items_of rest) (count_of cat table) n tables lists file) (sym at.begin) here) in
         subst (λ n. HoldsLists page (short.id_directory cat table) file (replicate n no_bytes) tables lists) at.count
-        (subst (λ r. HoldsLists page r file (replicate run.count no_bytes) tables lists) is (stand tables lists file moved))
+        (subst (λ r. HoldsLists page r file (replicate run.count no_bytes) tables lists) is (stand tables lists file (levels_are law)))

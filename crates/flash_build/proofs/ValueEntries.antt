@@ -1,5 +1,5 @@
 -- The index of a hidden column whose rows are ranked: what its entries and levels are, and where they lie.
-use Rattle.std.proofs.Common.{◌≡◌, refl, ap, sym, ◌∙◌, subst, ℕ, ◌+◌, ◌*◌, ◌^◌, ◌<◌, ◌≤◌, true, cond, List, [], ◌∷◌, length, map, get_or, Vec, Result, arith}
+use Rattle.std.proofs.Common.{◌≡◌, refl, ap, sym, ◌∙◌, subst, ℕ, ◌+◌, ◌*◌, ◌<◌, ◌≤◌, true, cond, List, [], ◌∷◌, length, map, get_or, Vec, Result, arith}
 use Rattle.std.specs.Global.{Global}
 use Rattle.std.specs.List.{All}
 use Rattle.std.proofs.lemmas.List.{length-map, get_or-map}
@@ -8,13 +8,13 @@ use Rattle.ghost_model.specs.core.Channel.{Catalog}
 use Rattle.ghost_model.specs.core.Split.{Hidden}
 use Rattle.ghost_model.specs.forms.Runs.{Run, Stores, pages_of, run_pages, run_end, number_cell}
 use Rattle.ghost_model.specs.forms.Flash.{HoldsLists, HoldsIndex, hidden_cells, value_lists}
-use Rattle.ghost_model.specs.forms.Work.{value_count}
+use Rattle.ghost_model.specs.forms.Work.{value_count, values_at, levels_written}
 use Rattle.ghost_model.specs.laws.WorkLaws.{ValuesAreCounted, index_written}
 use Rattle.ghost_model.specs.laws.FlashLaws.{CellsFit}
 use Rattle.ghost_model.proofs.RunLemmas.{run_kept}
 use Rattle.ghost_model.specs.laws.ShortWords as short
 use Rattle.ghost_model.specs.forms.Layout as layout
-use Rattle.ghost_model.specs.forms.Layout.{is_hidden, width_at, count_of, levels_of}
+use Rattle.ghost_model.specs.forms.Layout.{is_hidden, width_at, count_of, levels_of, files_pages}
 use Rattle.ghost_model.specs.laws.LayoutSums.{index_begin, index_pages, directory_pages, directory_width, levels_pages}
 use Rattle.flash_layout.specs.Limits.{HasLayout}
 use Rattle.edge_traits.specs.Devices.{Device, ChangesOnly}
@@ -22,7 +22,7 @@ use Rattle.flash_pages.specs.Filling.{CanFill}
 use Rattle.flash_pages.proofs.RunFrames.{can_fill_part}
 use Rattle.index_lists.specs.Ranks.{Ranks, cells_of_rows}
 use Rattle.index_lists.specs.Laws.{ValueListsByRanks}
-use Rattle.index_files.specs.Files.{AreLevels, counts_of, level_pages}
+use Rattle.index_files.specs.Files.{AreLevels, counts_of, level_pages, written_pages}
 use Rattle.index_files.specs.Laws.{FilesOfTables}
 use Rattle.flash_build.specs.declared.faults.BuildFault.{BuildFault}
 use Rattle.flash_build.specs.Building.{HoldsEntries, Wrote, entries_written}
@@ -61,8 +61,8 @@ module _ (cat : Catalog) (hidden : Hidden) (table column : ℕ) (laid : HasLayou
   many : length all ≡ length (levels_of cat.schema table)
   many = sym (length-map all items_of) ∙ levels.count
 
-  pub few : All (λ (v : Vec ℕ Global). length v.items < 2 ^ 32) all
-  few = all_few cat hidden table ranks laid.few.rows (levels_of cat.schema table) all levels
+  pub small : All (λ (v : Vec ℕ Global). length v.items < 2097152) all
+  small = all_few cat hidden table ranks laid.few.rows (levels_of cat.schema table) all levels
 
   pub each_ranked : (count : ℕ) → count ≡ length shown → All (λ (v : Vec ℕ Global). All (λ rank. rank < count) v.items) all
   each_ranked count e =
@@ -108,11 +108,27 @@ module _ (cat : Catalog) (hidden : Hidden) (table column : ℕ) (laid : HasLayou
         can_as (sym at.begin) (sym pages)
         (can_fill_part c (index_begin cat table column + 1 + directory_pages cat table column) (levels_pages cat (levels_of cat.schema table)) (omega arith) (omega arith))
 
-    pub wrote : {T : Type 0} {a b : Device} (result : Result T BuildFault)
-        → Wrote room.first (first.first + level_pages (counts_of (map items_of all))) (run_pages (directory count) + level_pages (counts_of (map items_of all))) a b result
-        → Wrote (index_begin cat table column + 1) (index_begin cat table column + index_pages cat table column) (entries_written cat table column (length shown)) a b result
-    wrote result w =
-        wrote_as result at.directory (let b = at.begin in let e = at.whole in omega (arith, b, e, pages)) (omega (arith, directory_is, pages)) w
+    levels_are : ValueListsByRanks
+        → AreLevels (map items_of all) count first.first (levels_of cat.schema table) (value_lists cat hidden table column values) (short.index_level cat table column)
+    levels_are law =
+        let lists = value_lists cat hidden table column values in
+        let file = short.index_level cat table column in
+        let tables = levels_of cat.schema table in
+        let begin = index_begin cat table column + 1 + directory_pages cat table column in
+        let long = ranks_long cat hidden table column ranks shown fit h are in
+        let here : AreLevels (map items_of all) (length values) begin tables lists file =
+        are_levels cat hidden table ranks files tables (map items_of all) levels (length values) begin lists file
+        (λ from reached lead. law cat hidden table column from values ranks reached are.values are.ranked long lead) (λ l low. laid.sums.index_level table column l h low) in
+        subst (λ n. AreLevels (map items_of all) n first.first tables lists file) (size ∙ sym e)
+        (subst (λ n. AreLevels (map items_of all) (length values) n tables lists file) (sym at.begin) here)
+
+    pub wrote : {T : Type 0} {a b : Device} (result : Result T BuildFault) → ValueListsByRanks
+        → Wrote room.first (first.first + level_pages (counts_of (map items_of all))) (run_pages (directory count) + written_pages (map items_of all) count) a b result
+        → Wrote (index_begin cat table column + 1) (index_begin cat table column + index_pages cat table column) (entries_written cat hidden table column values) a b result
+    wrote result law w =
+        let entries = ap (λ n. pages_of n (directory_width cat.schema table column)) size in
+        let bytes = files.written (map items_of all) count first.first (levels_of cat.schema table) (value_lists cat hidden table column values) (short.index_level cat table column) (levels_are law) in
+        wrote_as result at.directory (let b = at.begin in let w = at.whole in omega (arith, b, w, pages)) (omega (arith, directory_is, entries, bytes)) w
 
     pub holds : {page : ℕ → List ℕ} (cells : List (List ℕ)) → cells ≡ hidden_cells cat.schema hidden table column → ValueListsByRanks
         → ((tables : List ℕ) (lists : ℕ → List (List ℕ)) (file : ℕ → Run) → AreLevels (map items_of all) count first.first tables lists file
@@ -122,18 +138,10 @@ module _ (cat : Catalog) (hidden : Hidden) (table column : ℕ) (laid : HasLayou
         let lists = value_lists cat hidden table column values in
         let file = short.index_level cat table column in
         let tables = levels_of cat.schema table in
-        let begin = index_begin cat table column + 1 + directory_pages cat table column in
-        let long = ranks_long cat hidden table column ranks shown fit h are in
-        let here : AreLevels (map items_of all) (length values) begin tables lists file =
-        are_levels cat hidden table ranks files tables (map items_of all) levels (length values) begin lists file
-        (λ from reached lead. law cat hidden table column from values ranks reached are.values are.ranked long lead) (λ l low. laid.sums.index_level table column l h low) in
-        let moved : AreLevels (map items_of all) count first.first tables lists file =
-        subst (λ n. AreLevels (map items_of all) n first.first tables lists file) (size ∙ sym e)
-        (subst (λ n. AreLevels (map items_of all) (length values) n tables lists file) (sym at.begin) here) in
         let run : directory count ≡ record (short.index_directory cat table column) { count = length values } =
         runs_same (ap (λ (r : Run). r.first) is) (e ∙ sym size) (ap (λ (r : Run). r.width) is) in
         subst (λ r. HoldsLists page r file values tables lists) run
-        (subst (λ (cs : List (List ℕ)). HoldsLists page (directory count) file (cells_of_rows cs shown) tables lists) same (stand tables lists file moved))
+        (subst (λ (cs : List (List ℕ)). HoldsLists page (directory count) file (cells_of_rows cs shown) tables lists) same (stand tables lists file (levels_are law)))
 
 -- a whole index: its header, and the entries behind it
 module _ (cat : Catalog) (hidden : Hidden) (table column : ℕ) (laid : HasLayout cat) (h : is_hidden cat.schema table column ≡ true)
@@ -164,11 +172,17 @@ module _ (cat : Catalog) (hidden : Hidden) (table column : ℕ) (laid : HasLayou
         entries = entries;
       }
 
-  pub written_is : ValuesAreCounted → 1 + entries_written cat table column (length shown) ≡ index_written cat hidden table column
+  abbrev pages_by : (count : ℕ) → List (List ℕ) → ℕ
+  pages_by count values =
+      1 + (pages_of count (directory_width cat.schema table column) + files_pages (levels_written (value_lists cat hidden table column values) (levels_of cat.schema table)))
+
+  pub written_is : ValuesAreCounted → 1 + entries_written cat hidden table column held ≡ index_written cat hidden table column
   written_is counted =
-      let values = counted.count cat hidden table column held are.values ∙ held_size in
-      ap (λ n. 1 + (pages_of n (directory_width cat.schema table column) + levels_pages cat (levels_of cat.schema table))) (sym values)
-      ∙ sym (ap (λ b. cond b (1 + (pages_of (value_count cat hidden table column) (directory_width cat.schema table column) + levels_pages cat (levels_of cat.schema table))) 0) h)
+      let count = counted.count cat hidden table column held are.values in
+      let same = counted.are cat hidden table column held are.values in
+      ap (λ n. pages_by n held) (sym count)
+      ∙ (ap (λ values. pages_by (value_count cat hidden table column) values) (sym same)
+      ∙ sym (ap (λ b. cond b (pages_by (value_count cat hidden table column) (values_at cat hidden table column)) 0) h))
 
   -- at most as many as there is room for
   pub pages_whole : index_pages cat table column ≡ 1 + (directory_pages cat table column + levels_pages cat (levels_of cat.schema table))

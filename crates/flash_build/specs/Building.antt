@@ -5,10 +5,10 @@ use Rattle.ghost_model.specs.core.Schema.{is_empty}
 use Rattle.ghost_model.specs.core.Channel.{Catalog}
 use Rattle.ghost_model.specs.core.Split.{Hidden}
 use Rattle.ghost_model.specs.forms.Runs.{Stores, pages_of}
-use Rattle.ghost_model.specs.forms.Layout.{is_hidden, count_of, levels_of, above_of, descendants_of}
+use Rattle.ghost_model.specs.forms.Layout.{is_hidden, count_of, levels_of, above_of, descendants_of, files_pages}
 use Rattle.ghost_model.specs.laws.ShortWords.{column_file, subtree_table, index_directory, index_level, id_directory, id_level}
-use Rattle.ghost_model.specs.laws.LayoutSums.{directory_width, levels_pages}
-use Rattle.ghost_model.specs.forms.Work.{pages_built}
+use Rattle.ghost_model.specs.laws.LayoutSums.{directory_width}
+use Rattle.ghost_model.specs.forms.Work.{levels_written, pages_built}
 use Rattle.ghost_model.specs.forms.Flash.{HoldsLists, HoldsIndex, hidden_cells, subtree_record, ids, value_lists, id_lists}
 use Rattle.edge_traits.specs.Devices.{Device, Counts, ChangesOnly}
 use Rattle.flash_build.specs.declared.faults.BuildFault.{BuildFault}
@@ -35,10 +35,11 @@ HoldsEntries page cat hidden table column values =
     HoldsLists page (record (index_directory cat table column) { count = length values }) (index_level cat table column) values
     (levels_of cat.schema table) (value_lists cat hidden table column values)
 
--- the pages of so many entries and of their lists
-abbrev pub entries_written : Catalog → (table column entries : ℕ) → ℕ
-entries_written cat table column entries =
-    pages_of entries (directory_width cat.schema table column) + levels_pages cat (levels_of cat.schema table)
+-- the pages that hold a byte of these entries and of their lists
+abbrev pub entries_written : Catalog → Hidden → (table column : ℕ) → (values : List (List ℕ)) → ℕ
+entries_written cat hidden table column values =
+    pages_of (length values) (directory_width cat.schema table column)
+    + files_pages (levels_written (value_lists cat hidden table column values) (levels_of cat.schema table))
 
 -- the id index of a table has an entry for each row
 abbrev pub HoldsIdIndex : (ℕ → List ℕ) → Catalog → Hidden → (table : ℕ) → Type 0

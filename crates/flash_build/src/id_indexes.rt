@@ -5,6 +5,7 @@ ghost use Rattle.ghost_model.specs.core.Schema as schemas;
 ghost use Rattle.ghost_model.specs.forms.Flash.{IsHidden};
 ghost use Rattle.ghost_model.specs.forms.Layout as layout;
 ghost use Rattle.ghost_model.specs.laws.LayoutSums as sums;
+ghost use Rattle.ghost_model.specs.laws.WorkLaws.{id_index_written};
 ghost use Rattle.index_lists.specs.Lists.{AreListed};
 ghost use Rattle.flash_pages.specs.Filling.{CanFill};
 ghost use Rattle.flash_build.specs.Building.{HoldsIdIndex, Wrote};
@@ -82,7 +83,7 @@ fn write_some<F: Flash>(
     requires some { schemas.is_empty (layout.above_of laid.now.schema table) ≡ false }
     requires can { CanFill (F.state flash.old) (sums.id_index_begin laid.now table) (sums.id_index_pages laid.now table) }
     ensures holds { OnOk result (F.told ≡ true → HoldsIdIndex (F.state flash.new).page laid.now hidden.now table) }
-    ensures wrote { Wrote (sums.id_index_begin laid.now table) (sums.id_index_begin laid.now table + sums.id_index_pages laid.now table) (sums.id_index_pages laid.now table) (F.state flash.old) (F.state flash.new) result }
+    ensures wrote { Wrote (sums.id_index_begin laid.now table) (sums.id_index_begin laid.now table + sums.id_index_pages laid.now table) (id_index_written laid.now hidden.now table) (F.state flash.old) (F.state flash.new) result }
 {
     layout_laws(laid);
     id_lists_by_ranks();
@@ -123,7 +124,7 @@ pub(crate) fn write_id_index<F: Flash>(
     requires there { table < length laid.now.schema }
     requires can { CanFill (F.state flash.old) (sums.id_index_begin laid.now table) (sums.id_index_pages laid.now table) }
     ensures holds { OnOk result (F.told ≡ true → schemas.is_empty (layout.above_of laid.now.schema table) ≡ false → HoldsIdIndex (F.state flash.new).page laid.now hidden.now table) }
-    ensures wrote { Wrote (sums.id_index_begin laid.now table) (sums.id_index_begin laid.now table + sums.id_index_pages laid.now table) (sums.id_index_pages laid.now table) (F.state flash.old) (F.state flash.new) result }
+    ensures wrote { Wrote (sums.id_index_begin laid.now table) (sums.id_index_begin laid.now table + sums.id_index_pages laid.now table) (id_index_written laid.now hidden.now table) (F.state flash.old) (F.state flash.new) result }
 {
     if laid.above(table).is_empty() {
         return Ok(());

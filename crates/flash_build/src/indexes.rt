@@ -48,7 +48,7 @@ fn write_ranked<F: Flash>(
     requires lists { AreListed ranking.ranks.items (length ranking.shown.items) ranking.rows.items }
     requires can { CanFill (F.state flash.old) (sums.index_begin laid.now table column + 1) (sums.directory_pages laid.now table column + sums.levels_pages laid.now (layout.levels_of laid.now.schema table)) }
     ensures holds { OnOk result (F.told ≡ true → HoldsEntries (F.state flash.new).page laid.now hidden.now table column (cells_of_rows (hidden_cells laid.now.schema hidden.now table column) ranking.shown.items)) }
-    ensures wrote { Wrote (sums.index_begin laid.now table column + 1) (sums.index_begin laid.now table column + sums.index_pages laid.now table column) (entries_written laid.now table column (length ranking.shown.items)) (F.state flash.old) (F.state flash.new) result }
+    ensures wrote { Wrote (sums.index_begin laid.now table column + 1) (sums.index_begin laid.now table column + sums.index_pages laid.now table column) (entries_written laid.now hidden.now table column (cells_of_rows (hidden_cells laid.now.schema hidden.now table column) ranking.shown.items)) (F.state flash.old) (F.state flash.new) result }
 {
     layout_laws(laid);
     ghost_model::layout::levels_are_ancestors();

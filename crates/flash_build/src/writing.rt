@@ -1,6 +1,6 @@
 //! A file that is written whole.
 
-ghost use Rattle.std.specs.Prelude.{◌≡◌, ◌<◌, ◌≤◌, ◌+◌, ◌*◌, ◌^◌, ℕ, List, [], ◌∷◌, true, length, get_or, OnOk};
+ghost use Rattle.std.specs.Prelude.{◌≡◌, ◌<◌, ◌≤◌, ◌+◌, ◌*◌, ℕ, List, [], ◌∷◌, true, length, get_or, OnOk};
 ghost use Rattle.std.specs.List.{All};
 ghost use Rattle.ghost_model.specs.forms.Flash.{HoldsLists};
 ghost use Rattle.ghost_model.specs.forms.Runs as runs;
@@ -8,7 +8,7 @@ ghost use Rattle.ghost_model.specs.forms.Runs.{Stores, number_cell, pages_of};
 ghost use Rattle.ghost_base.specs.Runs.{run_of};
 ghost use Rattle.flash_pages.specs.Filling.{CanFill};
 ghost use Rattle.index_lists.specs.Lists.{AreListed};
-ghost use Rattle.index_files.specs.Files.{AreLevels, ranks_of, counts_of, level_pages};
+ghost use Rattle.index_files.specs.Files.{AreLevels, ranks_of, counts_of, level_pages, written_pages};
 ghost use Rattle.flash_build.specs.Building.{Wrote};
 
 use crate::faults::BuildFault;
@@ -72,14 +72,14 @@ pub(crate) fn write_entries<F: Flash, H: Records>(
     requires fits { directory.width ≤ 256 }
     requires entries { directory.count ≡ length (H.records heads.now) }
     requires widths { (entry : ℕ) → entry < length (H.records heads.now) → length (get_or (H.records heads.now) entry []) + 8 * length levels.now ≡ directory.width }
-    requires few { All (λ ranks. length ranks.items < 2 ^ 32) levels.now }
+    requires small { All (λ ranks. length ranks.items < 2097152) levels.now }
     requires ranked { All (λ ranks. All (λ rank. rank < directory.count) ranks.items) levels.now }
     requires rows { 0 < length levels.now → AreListed (get_or (ranks_of levels.now) 0 []) directory.count rows.now }
     requires order { runs.run_end (run_of directory) ≤ begin }
     requires can { CanFill (F.state flash.old) directory.first (runs.run_pages (run_of directory)) }
     requires can_levels { CanFill (F.state flash.old) begin (level_pages (counts_of (ranks_of levels.now))) }
     ensures holds { OnOk result (F.told ≡ true → (tables : List ℕ) (lists : ℕ → List (List ℕ)) (file : ℕ → runs.Run) → AreLevels (ranks_of levels.now) directory.count begin tables lists file → HoldsLists (F.state flash.new).page (run_of directory) file (H.records heads.now) tables lists) }
-    ensures wrote { Wrote directory.first (begin + level_pages (counts_of (ranks_of levels.now))) (runs.run_pages (run_of directory) + level_pages (counts_of (ranks_of levels.now))) (F.state flash.old) (F.state flash.new) result }
+    ensures wrote { Wrote directory.first (begin + level_pages (counts_of (ranks_of levels.now))) (runs.run_pages (run_of directory) + written_pages (ranks_of levels.now) directory.count) (F.state flash.old) (F.state flash.new) result }
 {
     match write_lists(alloc, flash, buf, heads, levels, rows, directory, begin) {
         Ok(()) => Ok(()),

@@ -3,7 +3,9 @@ use Rattle.std.proofs.Common.{◌≡◌, ◌∙◌, subst, ℕ, ◌+◌, ◌≤�
 use Rattle.ghost_model.specs.forms.Runs.{Run, Stores}
 use Rattle.edge_traits.specs.Devices.{Device, Counts, ChangesOnly}
 use Rattle.edge_traits.proofs.DeviceFrames.{changes_wider, changes_joined, counts_more}
+use Rattle.edge_traits.specs.declared.Failed.{Failed}
 use Rattle.flash_pages.specs.Filling.{CanFill}
+use Rattle.flash_pages.specs.Writers as pages
 use Rattle.index_files.specs.declared.faults.IndexFault.{IndexFault}
 use Rattle.index_files.specs.declared.faults.IndexFault.TheVariants as fault
 use Rattle.index_files.specs.Faults.{IndexCause}
@@ -84,6 +86,9 @@ written_as {high = high} {pages = pages} {begin = begin} {end = end} {a = a} {b 
     subst (λ n. Written begin end n a b) p (subst (λ n. Written begin n pages a b) h (subst (λ n. Written n high pages a b) l now))
 
 -- the same run, and the same records
+pub runs_same : {run file : Run} → run.first ≡ file.first → run.count ≡ file.count → run.width ≡ file.width → run ≡ file
+runs_same first count width = λ i. record { first = first i; count = count i; width = width i }
+
 pub stores_as :
     {page : ℕ → List ℕ} {run file : Run} {cells kept : List (List ℕ)} → run ≡ file → cells ≡ kept → Stores page run cells → Stores page file kept
 stores_as {page = page} {run = run} {kept = kept} is same stores =
@@ -97,3 +102,28 @@ can_as {device = device} {pages = pages} {begin = begin} is same can =
 pub on_ok : {T E P Q : Type 0} (result : Result T E) → (P → Q) → OnOk result P → OnOk result Q
 on_ok (Ok x) more is = more is
 on_ok (Err e) more is = tt
+
+-- what a writer of pages wrote, by the answers here
+pub written_ok :
+    {T U : Type 0} {x : T} {a b : Device} {low high count : ℕ} (y : U) → pages.Writes a b low high count (Ok x) → (higher : ℕ) → high ≤ higher
+    → Writes low higher count a b (Ok y)
+written_ok {low = low} y writes higher up = record {
+  others = changes_wider writes.others low higher (omega arith) up;
+  exact = writes.exact;
+  at_most = writes.at_most;
+  deep_reads = writes.deep_reads;
+  cause = record { never_falls = writes.cause.never_falls; tells = writes.cause.other };
+  last = tt;
+}
+
+pub written_err :
+    {T U : Type 0} {a b : Device} {low high count : ℕ} (e : Failed) → pages.Writes {T = T} a b low high count (Err e) → (higher more : ℕ)
+    → high ≤ higher → count ≤ more → Writes {T = U} low higher more a b (Err fault.Flash)
+written_err {low = low} e writes higher more up few = record {
+  others = changes_wider writes.others low higher (omega arith) up;
+  exact = tt;
+  at_most = omega (arith, writes.at_most);
+  deep_reads = writes.deep_reads;
+  cause = record { never_falls = writes.cause.never_falls; tells = writes.cause.failed };
+  last = writes.last;
+}

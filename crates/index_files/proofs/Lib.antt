@@ -1,4 +1,6 @@
 pub mod Frames
-pub mod LevelFiles
 pub mod Starts
+pub mod CodesPut
+pub mod LevelLists
+pub mod LevelFiles
 pub mod DirectoryRecords

@@ -1,5 +1,5 @@
 -- Where lists start at each level.
-use Rattle.std.proofs.Common.{◌≡◌, sym, ap, ◌∙◌, subst, ℕ, ◌+◌, ◌<◌, ◌≤◌, inl, inr, List, [], ◌∷◌, ◌++◌, length, take, get_or, Vec, arith}
+use Rattle.std.proofs.Common.{◌≡◌, sym, ap, ◌∙◌, subst, ℕ, zero, suc, ◌+◌, ◌<◌, ◌≤◌, inl, inr, List, [], ◌∷◌, ◌++◌, length, take, get_or, Vec, arith}
 use Rattle.std.specs.Global.{Global}
 use Rattle.std.specs.List.{concat}
 use Rattle.std.proofs.lemmas.Bool.{cases_lt}
@@ -7,7 +7,13 @@ use Rattle.std.proofs.lemmas.List.{length-append, length_push, get_or_push, get_
 use Rattle.std.proofs.lemmas.List.FromFn.{length-map-range_with_len}
 use Rattle.index_lists.specs.Lists.{lists_of, rows_of_rank, start_of}
 use Rattle.index_files.specs.Files.{items_of, ranks_of}
-use Rattle.index_files.specs.Directory.{AreStartsOf}
+use Rattle.index_files.specs.Directory.{AreBeginsOf, AreStartsOf}
+
+-- a number by its place
+pub number_at : (numbers : List ℕ) (k number : ℕ) → number ≡ get_or numbers k number → k < length numbers → number ≡ get_or numbers k 0
+number_at [] k number is low = absurd (omega (arith, low))
+number_at (n ∷ numbers) zero number is low = is
+number_at (n ∷ numbers) (suc k) number is low = number_at numbers k number is (omega (arith, low))
 
 -- the numbers of a vector by its place
 pub ranks_at :
@@ -21,27 +27,45 @@ pub record StartsBefore (levels : List (List ℕ)) (entries done : ℕ) (starts 
   pub each : (level : ℕ) → level < done → AreStartsOf (lists_of (get_or levels level []) entries) entries (get_or starts level [])
 
 -- one level more
+pub one_more :
+    (Is : ℕ → List ℕ → Type 0) (done : ℕ) (all : List (Vec ℕ Global)) (one : Vec ℕ Global) → length (ranks_of all) ≡ done
+    → ((level : ℕ) → level < done → Is level (get_or (ranks_of all) level [])) → Is done one.items
+    → (level : ℕ) → level < done + 1 → Is level (get_or (ranks_of (all ++ one ∷ [])) level [])
+one_more Is done all one many each here level low =
+    subst (λ columns. Is level (get_or columns level [])) (sym (map_push items_of all one))
+    (elim (cases_lt level done) [
+      | inl before ↦
+          subst (Is level) (sym (get_or_append_left (ranks_of all) (one.items ∷ []) [] level (omega (arith, before, many)))) (each level before)
+      | inr behind ↦
+          let same : done ≡ level = omega (arith, low, behind) in
+          subst (Is level) (sym (get_or_push (ranks_of all) one.items [] level (many ∙ same))) (subst (λ k. Is k one.items) same here)
+    ])
+
+count_more : (done : ℕ) (all : List (Vec ℕ Global)) (one : Vec ℕ Global) → length (ranks_of all) ≡ done → length (ranks_of (all ++ one ∷ [])) ≡ done + 1
+count_more done all one many = ap length (map_push items_of all one) ∙ length_push (ranks_of all) one.items ∙ ap (λ n. n + 1) many
+
 pub starts_more :
     (levels : List (List ℕ)) (entries done : ℕ) (all : List (Vec ℕ Global)) (one : Vec ℕ Global) → StartsBefore levels entries done (ranks_of all)
     → AreStartsOf (lists_of (get_or levels done []) entries) entries one.items
     → StartsBefore levels entries (done + 1) (ranks_of (all ++ one ∷ []))
-starts_more levels entries done all one was here =
-    let grown : ranks_of all ++ one.items ∷ [] ≡ ranks_of (all ++ one ∷ []) = sym (map_push items_of all one) in
-    subst (StartsBefore levels entries (done + 1)) grown (record {
-      many = length_push (ranks_of all) one.items ∙ ap (λ n. n + 1) was.many;
-      each = λ level low.
-          elim (cases_lt level done) [
-            | inl before ↦
-                subst (AreStartsOf (lists_of (get_or levels level []) entries) entries)
-                (sym (get_or_append_left (ranks_of all) (one.items ∷ []) [] level (omega (arith, before, was.many))))
-                (was.each level before)
-            | inr behind ↦
-                let same : done ≡ level = omega (arith, low, behind) in
-                subst (AreStartsOf (lists_of (get_or levels level []) entries) entries)
-                (sym (get_or_push (ranks_of all) one.items [] level (was.many ∙ same)))
-                (let P : ℕ → Type 0 = λ k. AreStartsOf (lists_of (get_or levels k []) entries) entries one.items in subst P same here)
-          ];
-    })
+starts_more levels entries done all one was here = record {
+  many = count_more done all one was.many;
+  each = one_more (λ level column. AreStartsOf (lists_of (get_or levels level []) entries) entries column) done all one was.many was.each here;
+}
+
+-- where the lists begin at the levels before one
+pub record BeginsBefore (levels : List (List ℕ)) (entries done : ℕ) (begins : List (List ℕ)) : Type 0 where
+  pub many : length begins ≡ done
+  pub each : (level : ℕ) → level < done → AreBeginsOf (lists_of (get_or levels level []) entries) entries (get_or begins level [])
+
+pub begins_one_more :
+    (levels : List (List ℕ)) (entries done : ℕ) (all : List (Vec ℕ Global)) (one : Vec ℕ Global) → BeginsBefore levels entries done (ranks_of all)
+    → AreBeginsOf (lists_of (get_or levels done []) entries) entries one.items
+    → BeginsBefore levels entries (done + 1) (ranks_of (all ++ one ∷ []))
+begins_one_more levels entries done all one was here = record {
+  many = count_more done all one was.many;
+  each = one_more (λ level column. AreBeginsOf (lists_of (get_or levels level []) entries) entries column) done all one was.many was.each here;
+}
 
 -- starts rise
 concat_push : (lists : List (List ℕ)) (list : List ℕ) → length (concat (lists ++ list ∷ [])) ≡ length (concat lists) + length list

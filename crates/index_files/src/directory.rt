@@ -1,6 +1,6 @@
 //! The records of a directory.
 
-ghost use Rattle.std.specs.Prelude.{◌≡◌, ◌<◌, ◌≤◌, ◌+◌, ◌-◌, ◌*◌, ◌^◌, ◌++◌, ℕ, [], length, map, take, get_or, slice_index, replicate, IfOk};
+ghost use Rattle.std.specs.Prelude.{◌≡◌, ◌<◌, ◌≤◌, ◌+◌, ◌*◌, ◌++◌, ℕ, [], length, map, take, get_or, slice_index, replicate, IfOk};
 ghost use Rattle.std.specs.List.{All};
 ghost use Rattle.ghost_model.specs.forms.Runs.{number_cell};
 ghost use Rattle.index_files.specs.Files.{ranks_of};
@@ -35,7 +35,7 @@ pub(crate) fn level_starts(
     levels: &[Vec<u32>],
     entries: u32,
 ) -> Result<Vec<Vec<u32>>, AllocError>
-    requires few { All (λ ranks. length ranks.items < 2 ^ 32) levels.now }
+    requires small { All (λ ranks. length ranks.items < 2097152) levels.now }
     requires ranked { All (λ ranks. All (λ rank. rank < entries) ranks.items) levels.now }
     ensures starts { IfOk result (λ starts. AreStarts (ranks_of levels.now) entries (ranks_of starts.items)) }
 {
@@ -51,13 +51,15 @@ pub(crate) fn level_starts(
 pub(crate) struct Entries<'e, H: Records> {
     /// The entries' own bytes.
     pub heads: &'e H,
-    /// For each level where the lists start.
+    /// For each level how many rows come before each list, and how many there are.
     pub starts: &'e [Vec<u32>],
-    ghost readable: { CanBeRead (H.records heads.now) (ranks_of starts.now) },
+    /// For each level where the lists begin in the bytes of its file.
+    pub begins: &'e [Vec<u32>],
+    ghost readable: { CanBeRead (H.records heads.now) (ranks_of starts.now) (ranks_of begins.now) },
 }
 
 impl<'e, H: Records> Records for Entries<'e, H> {
-    ghost records = { λ source. entry_records (H.records source.heads.now) (ranks_of source.starts.now) };
+    ghost records = { λ source. entry_records (H.records source.heads.now) (ranks_of source.starts.now) (ranks_of source.begins.now) };
 
     fn count(&self) -> u32 {
         self.heads.count()
@@ -65,7 +67,7 @@ impl<'e, H: Records> Records for Entries<'e, H> {
 
     fn record<'a>(&'a self, i: u32, room: &'a mut [u8; 256]) -> &'a [u8] {
         let head = put_head(self.heads, i, room);
-        let width = put_places(self.starts, i as usize, head, room);
+        let width = put_places(self.starts, self.begins, i as usize, head, room);
         &room[..width]
     }
 }
@@ -84,28 +86,40 @@ fn put_head<H: Records>(heads: &H, entry: u32, out: &mut [u8; 256]) -> usize
 }
 
 /// Puts the places of an entry's lists behind so many bytes of its record, and tells how many bytes the record has.
-fn put_places(starts: &[Vec<u32>], entry: usize, at: usize, out: &mut [u8; 256]) -> usize
+fn put_places(
+    starts: &[Vec<u32>],
+    begins: &[Vec<u32>],
+    entry: usize,
+    at: usize,
+    out: &mut [u8; 256],
+) -> usize
     requires fits { at + 8 * length starts.now ≤ 256 }
+    requires many { length begins.now ≡ length starts.now }
     requires long { (level : ℕ) → level < length starts.now → entry + 1 < length (get_or (ranks_of starts.now) level []) }
+    requires wide { (level : ℕ) → level < length starts.now → entry < length (get_or (ranks_of begins.now) level []) }
     requires rise { (level : ℕ) → level < length starts.now → slice_index (get_or (ranks_of starts.now) level []) entry ≤ slice_index (get_or (ranks_of starts.now) level []) (entry + 1) }
     ensures width { result ≡ at + 8 * length starts.now }
-    ensures put { take result out.new ≡ take at out.old ++ entry_places (ranks_of starts.now) entry }
+    ensures put { take result out.new ≡ take at out.old ++ entry_places (ranks_of starts.now) (ranks_of begins.now) entry (length starts.now) }
 {
     for level in 0..starts.len() {
         let column = &starts[level];
-        put_place(out, at + 8 * level, column[entry], column[entry + 1]);
+        put_place(
+            out,
+            at + 8 * level,
+            begins[level][entry],
+            column[entry + 1] - column[entry],
+        );
     }
     at + 8 * starts.len()
 }
 
-/// Puts the place of a list that stands between two places of a level's file: where it begins, and how many rows it has.
-fn put_place(out: &mut [u8; 256], at: usize, begin: u32, end: u32)
+/// Puts the place of a list: where it begins in its level's file, and how many rows it has.
+fn put_place(out: &mut [u8; 256], at: usize, begin: u32, count: u32)
     requires fits { at + 8 ≤ 256 }
-    requires order { begin ≤ end }
-    ensures put { take (at + 8) out.new ≡ take at out.old ++ (number_cell begin ++ number_cell (end - begin)) }
+    ensures put { take (at + 8) out.new ≡ take at out.old ++ (number_cell begin ++ number_cell count) }
 {
     put_number(out, at, begin);
-    put_number(out, at + 4, end - begin);
+    put_number(out, at + 4, count);
 }
 
 /// Puts a number at a place of a record in four bytes, most significant first.

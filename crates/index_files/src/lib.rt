@@ -2,7 +2,7 @@
 //!
 //! An index has entries, and at each of its levels a list of rows for each entry. The directory has a record for each entry:
 //! the entry's own bytes, and for each level where its list begins and how many rows it has. A level file has the
-//! identifiers of all lists of its level, one list after another. All of it is written from the ranks of the rows at each
+//! identifiers of all lists of its level as gaps, one list after another. All of it is written from the ranks of the rows at each
 //! level, each page once: for a climbing index and for an id index alike.
 #![tactic(auto)]
 

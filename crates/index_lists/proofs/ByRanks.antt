@@ -1,14 +1,13 @@
 -- The laws of lists by ranks.
-use Rattle.std.proofs.Common.{◌≡◌, refl, sym, ap, ◌∙◌, ℕ, ◌+◌, ◌-◌, ◌<◌, ◌≤◌, Bool, true, false, cond, inl, inr, List, [], ◌∷◌, ◌++◌, length, map, filter, take, get_or, bytes_eq, Some, slice_get, arith}
+use Rattle.std.proofs.Common.{◌≡◌, refl, sym, ap, ◌∙◌, ℕ, zero, suc, ◌+◌, ◌-◌, ◌<◌, ◌≤◌, Bool, true, false, cond, inl, inr, List, [], ◌∷◌, ◌++◌, length, map, filter, take, drop, get_or, bytes_eq, Some, slice_get, arith}
 use Rattle.std.specs.Prelude.{◌==◌}
 use Rattle.std.specs.List.{All, AllByRecursion, concat}
 use Rattle.std.specs.Option.{option_map_or}
 use Rattle.std.proofs.lemmas.Bool.{cases_lt, cases_eq}
 use Rattle.std.proofs.lemmas.Bool.Decides.{nat_tests}
-use Rattle.std.proofs.lemmas.List.{length-append, length-map, get_or-map, take_more}
+use Rattle.std.proofs.lemmas.List.{length-append, length-map, get_or-map, take_more, drop-drop, drop_at, take_at}
 use Rattle.std.proofs.lemmas.List.Elements.{All-get_or, All-tail}
-use Rattle.ghost_model.specs.forms.Runs.{number_cell}
-use Rattle.ghost_model.specs.forms.Flash.{list_place, ids, hidden_cells, leads_to, cell_led_to, value_lists, id_lists, AreValues}
+use Rattle.ghost_model.specs.forms.Flash.{ids, hidden_cells, leads_to, cell_led_to, value_lists, id_lists, AreValues}
 use Rattle.std.specs.List.Sorted.{IsStrictlySortedBy}
 use Rattle.std.specs.Cmp.Lexicographic.{slice_cmp}
 use Rattle.std.specs.Ordering.{nat_cmp, is_eq, ordering_reverse}
@@ -25,7 +24,7 @@ use Rattle.ghost_model.specs.core.Split.{Hidden}
 use Rattle.ghost_model.specs.forms.Layout.{count_of}
 use Rattle.index_lists.specs.Ranks.{AreRanks, of_referred}
 use Rattle.index_lists.specs.Lists.{rank_of, rows_of_rank, lists_of, start_of}
-use Rattle.index_lists.specs.Laws.{LeadAs}
+use Rattle.index_lists.specs.Laws.{LeadAs, StandsBetween}
 use Rattle.index_lists.proofs.SortedRows.{all_of_range}
 
 -- a list more
@@ -37,11 +36,39 @@ concat_push (one ∷ lists) list =
 pub start_after : (lists : List (List ℕ)) (entry : ℕ) → entry < length lists → start_of lists (entry + 1) ≡ start_of lists entry + length (get_or lists entry [])
 start_after lists entry low = ap (λ ls. length (concat ls)) (take_more lists entry [] low) ∙ concat_push (take entry lists) (get_or lists entry [])
 
-pub stand_between : (lists : List (List ℕ)) (entry : ℕ) → entry < length lists
-    → list_place lists entry ≡ number_cell (start_of lists entry) ++ number_cell (start_of lists (entry + 1) - start_of lists entry)
+-- all lists: those before an entry, its own, and those behind
+concat_drop : (lists : List (List ℕ)) (k : ℕ) → drop (start_of lists k) (concat lists) ≡ concat (drop k lists)
+concat_drop lists zero = refl
+concat_drop [] (suc k) = refl
+concat_drop (one ∷ lists) (suc k) =
+    let size : start_of (one ∷ lists) (suc k) ≡ length one + start_of lists k = omega (arith, length-append one (concat (take k lists))) in
+    ap (λ n. drop n (one ++ concat lists)) size
+    ∙ sym (drop-drop (start_of lists k) (length one) (one ++ concat lists))
+    ∙ ap (λ ids. drop (start_of lists k) ids) (drop_at one (concat lists) (length one) refl)
+    ∙ concat_drop lists k
+
+first_of : (lists : List (List ℕ)) (k : ℕ) → k < length lists → take (length (get_or lists k [])) (concat (drop k lists)) ≡ get_or lists k []
+first_of [] k low = absurd (omega (arith, low))
+first_of (one ∷ lists) zero low = take_at one (concat lists) (length one) refl
+first_of (one ∷ lists) (suc k) low = first_of lists k (omega (arith, low))
+
+start_within : (lists : List (List ℕ)) (k : ℕ) → start_of lists k ≤ length (concat lists)
+start_within lists zero = omega arith
+start_within [] (suc k) = omega arith
+start_within (one ∷ lists) (suc k) =
+    omega (arith, length-append one (concat (take k lists)), length-append one (concat lists), start_within lists k)
+
+pub stand_between : (lists : List (List ℕ)) (entry : ℕ) → entry < length lists → StandsBetween lists entry
 stand_between lists entry low =
-    let count : length (get_or lists entry []) ≡ start_of lists (entry + 1) - start_of lists entry = omega (arith, start_after lists entry low) in
-    ap (λ n. number_cell (start_of lists entry) ++ number_cell n) count
+    let size : start_of lists (entry + 1) - start_of lists entry ≡ length (get_or lists entry []) = omega (arith, start_after lists entry low) in
+    record {
+      rises = start_after lists entry low;
+      within = start_within lists (entry + 1);
+      between =
+          ap (λ n. take n (drop (start_of lists entry) (concat lists))) size
+          ∙ ap (λ ids. take (length (get_or lists entry [])) ids) (concat_drop lists entry)
+          ∙ first_of lists entry low;
+    }
 
 pub levels_compose : (held reached identifiers : List ℕ) → All (λ identifier. 0 < identifier) identifiers → All (λ identifier. identifier ≤ length reached) identifiers
     → of_referred (of_referred held reached) identifiers ≡ of_referred held (of_referred reached identifiers)

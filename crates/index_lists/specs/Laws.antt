@@ -1,6 +1,6 @@
 -- What is computed by ranks, level by level, are the lists that an index holds.
-use Rattle.std.specs.Prelude.{◌≡◌, ℕ, suc, ◌+◌, ◌-◌, ◌^◌, ◌<◌, ◌≤◌, ℤ, pos, List, ◌++◌, length, map, Some, slice_index, get_or, IsTrue}
-use Rattle.std.specs.List.{All}
+use Rattle.std.specs.Prelude.{◌≡◌, ℕ, suc, ◌+◌, ◌-◌, ◌^◌, ◌<◌, ◌≤◌, ℤ, pos, List, [], length, map, Some, slice_index, get_or, IsTrue}
+use Rattle.std.specs.List.{All, concat, slice_range}
 use Rattle.ghost_model.specs.core.Channel.{Catalog}
 use Rattle.ghost_model.specs.core.Schema.{parent}
 use Rattle.ghost_model.specs.core.Values.{Number}
@@ -9,9 +9,8 @@ use Rattle.ghost_model.specs.core.Split.{Hidden}
 use Rattle.ghost_model.specs.core.Replies.{hidden_value}
 use Rattle.ghost_model.specs.laws.SchemaTrees.{IsTree}
 use Rattle.ghost_model.specs.laws.MeaningLaws.{IsAtOrBelow}
-use Rattle.ghost_model.specs.forms.Runs.{number_cell}
 use Rattle.ghost_model.specs.forms.Layout.{count_of}
-use Rattle.ghost_model.specs.forms.Flash.{IsHidden, ids, hidden_cells, leads_to, value_lists, id_lists, list_place, AreValues}
+use Rattle.ghost_model.specs.forms.Flash.{IsHidden, ids, hidden_cells, leads_to, value_lists, id_lists, AreValues}
 use Rattle.index_lists.specs.Ranks.{AreRanks, identifier_of, number_cells, of_referred}
 use Rattle.index_lists.specs.Numbering.{InOrder, front, head_of}
 use Rattle.index_lists.specs.Lists.{AreListed, lists_of, start_of}
@@ -49,10 +48,13 @@ LevelsCompose =
     → of_referred (of_referred held reached) identifiers ≡ of_referred held (of_referred reached identifiers)
 
 -- the list of an entry stands between its start and the next one's
+pub record StandsBetween (lists : List (List ℕ)) (entry : ℕ) : Type 0 where
+  pub rises : start_of lists (entry + 1) ≡ start_of lists entry + length (get_or lists entry [])
+  pub within : start_of lists (entry + 1) ≤ length (concat lists)
+  pub between : slice_range (concat lists) (start_of lists entry) (start_of lists (entry + 1)) ≡ get_or lists entry []
+
 abbrev pub ListsStandBetween : Type 0
-ListsStandBetween =
-    (lists : List (List ℕ)) (entry : ℕ) → entry < length lists
-    → list_place lists entry ≡ number_cell (start_of lists entry) ++ number_cell (start_of lists (entry + 1) - start_of lists entry)
+ListsStandBetween = (lists : List (List ℕ)) (entry : ℕ) → entry < length lists → StandsBetween lists entry
 
 -- each row leads to itself
 abbrev pub RowsLeadToThemselves : Type 0

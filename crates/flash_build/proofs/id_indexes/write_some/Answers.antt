@@ -30,9 +30,9 @@ write_entries-requires-clause-widths g c =
     entries.widths c.args.laid.now c.args.hidden.now c.args.table c.layout_laws.ensures.layout c.requires.there c.requires.some _ _ c.id_directory-directory.ensures.run c.id_level-lowest.ensures.run
     c.in-Ok.all.items c.but_first-levels.result.now c.in-Ok.ensures.ranked (c.but_first-levels.ensures.levels ∙ ap (drop 1) c.deref.ensures.value)
 
-pub write_entries-requires-clause-few : goal.write_entries-requires-clause-few
-write_entries-requires-clause-few g c =
-    entries.few c.args.laid.now c.args.hidden.now c.args.table c.layout_laws.ensures.layout c.requires.there c.requires.some _ _ c.id_directory-directory.ensures.run c.id_level-lowest.ensures.run
+pub write_entries-requires-clause-small : goal.write_entries-requires-clause-small
+write_entries-requires-clause-small g c =
+    entries.small c.args.laid.now c.args.hidden.now c.args.table c.layout_laws.ensures.layout c.requires.there c.requires.some _ _ c.id_directory-directory.ensures.run c.id_level-lowest.ensures.run
     c.in-Ok.all.items c.but_first-levels.result.now c.in-Ok.ensures.ranked (c.but_first-levels.ensures.levels ∙ ap (drop 1) c.deref.ensures.value)
 
 pub write_entries-requires-clause-ranked : goal.write_entries-requires-clause-ranked
@@ -70,4 +70,4 @@ pub returns-in-Ok-clause-wrote : goal.returns-in-Ok-clause-wrote
 returns-in-Ok-clause-wrote g c =
     entries.wrote c.args.laid.now c.args.hidden.now c.args.table c.layout_laws.ensures.layout c.requires.there c.requires.some _ _ c.id_directory-directory.ensures.run c.id_level-lowest.ensures.run
     c.in-Ok.all.items c.but_first-levels.result.now c.in-Ok.ensures.ranked (c.but_first-levels.ensures.levels ∙ ap (drop 1) c.deref.ensures.value)
-    c.level_files_of_tables.ensures.tables c.write_entries.result c.write_entries.ensures.wrote
+    c.level_files_of_tables.ensures.tables c.write_entries.result c.id_lists_by_ranks.ensures c.write_entries.ensures.wrote

@@ -79,8 +79,8 @@ write_entries-requires-clause-widths g c =
     subst (λ (xs : List ℕ). (entry : ℕ) → entry < length (cells_of_rows (cells_of c.column_cells-cells.result) xs) → length (get_or (cells_of_rows (cells_of c.column_cells-cells.result) xs) entry []) + 8 * length c.deref-in-Ok.result.now ≡ c.index_directory-room.result.width) (sym shown)
     (entries.widths cat c.args.hidden.now table c.args.column laid c.requires.hidden own fit c.args.ranking.ranks.items c.args.ranking.shown.items c.requires.ranks c.requires.below c.requires.few _ _ c.index_directory-room.ensures.run c.index_level-own.ensures.run c.deref-in-Ok.result.now levels (cells_of c.column_cells-cells.result) c.column_cells-cells.ensures.cells c.column_cells-cells.ensures.widths)
 
-pub write_entries-requires-clause-few : goal.write_entries-requires-clause-few
-write_entries-requires-clause-few g c =
+pub write_entries-requires-clause-small : goal.write_entries-requires-clause-small
+write_entries-requires-clause-small g c =
     let cat = c.args.laid.now in
     let table = c.args.table in
     let laid = c.layout_laws.ensures.layout in
@@ -88,7 +88,7 @@ write_entries-requires-clause-few g c =
     let own = own_there cat.schema c.levels_are_ancestors.ensures laid.tree table there in
     let fit = part_fits cat c.args.hidden.now laid.tree c.hidden_parts_go_with_catalogs.ensures c.hidden_cells_fit.ensures c.requires.part in
     let levels = subst (λ (vs : List (Vec ℕ Global)). AreRankedAbove cat c.args.hidden.now table c.args.ranking.ranks.items (layout.levels_of cat.schema table) (map items_of vs)) (sym c.deref-in-Ok.ensures.value) c.in-Ok.ensures.ranked in
-    entries.few cat c.args.hidden.now table c.args.column laid c.requires.hidden own fit c.args.ranking.ranks.items c.args.ranking.shown.items c.requires.ranks c.requires.below c.requires.few _ _ c.index_directory-room.ensures.run c.index_level-own.ensures.run c.deref-in-Ok.result.now levels
+    entries.small cat c.args.hidden.now table c.args.column laid c.requires.hidden own fit c.args.ranking.ranks.items c.args.ranking.shown.items c.requires.ranks c.requires.below c.requires.few _ _ c.index_directory-room.ensures.run c.index_level-own.ensures.run c.deref-in-Ok.result.now levels
 
 pub write_entries-requires-clause-ranked : goal.write_entries-requires-clause-ranked
 write_entries-requires-clause-ranked g c =
@@ -185,4 +185,4 @@ returns-clause-wrote g c =
     let fit = part_fits cat c.args.hidden.now laid.tree c.hidden_parts_go_with_catalogs.ensures c.hidden_cells_fit.ensures c.requires.part in
     let levels = subst (λ (vs : List (Vec ℕ Global)). AreRankedAbove cat c.args.hidden.now table c.args.ranking.ranks.items (layout.levels_of cat.schema table) (map items_of vs)) (sym c.deref-in-Ok.ensures.value) c.in-Ok.ensures.ranked in
     let count : c.len-values.result ≡ length c.args.ranking.shown.items = c.len-values.ensures ∙ c.args.ranking.shown.ok.0 in
-    entries.wrote cat c.args.hidden.now table c.args.column laid c.requires.hidden own fit c.args.ranking.ranks.items c.args.ranking.shown.items c.requires.ranks c.requires.below c.requires.few _ _ c.index_directory-room.ensures.run c.index_level-own.ensures.run c.deref-in-Ok.result.now levels c.level_files_of_tables.ensures.tables c.len-values.result count c.write_entries.result c.write_entries.ensures.wrote
+    entries.wrote cat c.args.hidden.now table c.args.column laid c.requires.hidden own fit c.args.ranking.ranks.items c.args.ranking.shown.items c.requires.ranks c.requires.below c.requires.few _ _ c.index_directory-room.ensures.run c.index_level-own.ensures.run c.deref-in-Ok.result.now levels c.level_files_of_tables.ensures.tables c.len-values.result count c.write_entries.result c.value_lists_by_ranks.ensures c.write_entries.ensures.wrote

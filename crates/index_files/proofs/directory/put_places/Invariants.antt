@@ -5,5 +5,5 @@ use Rattle.index_files.proofs.directory.put_places.Given as goal
 
 abbrev pub invariant-loop-level : goal.invariant-loop-level
 invariant-loop-level l = record {
-  put : take (l.at + 8 * l.level) l.out ≡ take l.at l.fn.out ++ entry_places (take l.level (ranks_of l.starts)) l.entry;
+  put : take (l.at + 8 * l.level) l.out ≡ take l.at l.fn.out ++ entry_places (ranks_of l.starts) (ranks_of l.begins) l.entry l.level;
 }

@@ -5,4 +5,5 @@ use Rattle.index_files.proofs.directory.EntriesRecords.count.Goals as goal
 
 pub returns : goal.returns
 returns g c =
-    c.count.ensures ∙ sym (records_count (g.H.Records.records c.args.self.now.heads.now) (ranks_of c.args.self.now.starts.now))
+    let source = c.args.self.now in
+    c.count.ensures ∙ sym (records_count (g.H.Records.records source.heads.now) (ranks_of source.starts.now) (ranks_of source.begins.now))
