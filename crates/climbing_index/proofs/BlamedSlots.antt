@@ -1,13 +1,14 @@
 -- A slot that a search blames is a damaged one.
 use Rattle.std.proofs.Common.{◌≡◌, sym, ap, ◌∙◌, ℕ, ◌^◌, ◌<◌, Bool, true, false, not, inl, inr, List, length, arith}
 use Rattle.ghost_model.specs.core.Schema.{is_empty}
-use Rattle.ghost_model.specs.core.Split.{Hidden}
+use Rattle.ghost_model.specs.core.Values.{Database}
+use Rattle.ghost_model.specs.core.Split.{Hidden, hidden_of}
 use Rattle.ghost_model.specs.core.Channel.{Catalog}
 use Rattle.ghost_model.specs.laws.LayoutLaws.{FilesLieAsSummed, LayoutIsSmall}
 use Rattle.ghost_model.specs.laws.RunLaws.{NumbersAreRead}
 use Rattle.ghost_model.specs.forms.Runs.{Run, record_at, number_in, page_of, slot_of, found_in}
-use Rattle.ghost_model.specs.forms.Layout.{is_hidden, count_of, above_of, IndexHeader, IndexDirectory, IdDirectory}
-use Rattle.ghost_model.specs.forms.Slots.{IsDamagedSlot}
+use Rattle.ghost_model.specs.forms.Layout.{is_hidden, count_of, levels_of, above_of, IndexHeader, IndexDirectory, IndexLevel, IdDirectory, IdLevel}
+use Rattle.ghost_model.specs.forms.Slots.{IsDamagedSlot, IsWrong}
 use Rattle.ghost_base.specs.Runs.{run_of}
 use Rattle.flash_pages.specs.declared.fault.PageFault.TheVariants.{Damaged}
 use Rattle.climbing_index.specs.declared.index.ClimbingIndex.{ClimbingIndex}
@@ -16,7 +17,7 @@ use Rattle.climbing_index.specs.Directories.{HasDamage, FailsAt, entry_stands}
 use Rattle.climbing_index.specs.Indexes.{IsIndexOf, IsIdIndexOf}
 use Rattle.climbing_index.specs.Searches.{FailsIn, header_stands, header_count, rows_of}
 use Rattle.climbing_index.specs.Holding.{HoldsIndexWhole, HoldsIdIndexWhole}
-use Rattle.climbing_index.specs.Laws.{DamageIsOfSlots, WholeIndexesHaveNoDamage}
+use Rattle.climbing_index.specs.Laws.{IsOf, DamageIsOfSlots, WholeIndexesHaveNoDamage}
 use Rattle.climbing_index.proofs.HeldIndexes.{same_entry, same_id_entry}
 
 pub in_index : FilesLieAsSummed → (page : ℕ → List ℕ) (cat : Catalog) (table column : ℕ) → is_hidden cat.schema table column ≡ true
@@ -127,8 +128,26 @@ module _ (laid : FilesLieAsSummed) (page : ℕ → List ℕ) (cat : Catalog) (hi
       ∙ (same_id_entry cat (laid cat) table there index is (record_at page _ entry) ∙ (whole.entries entry low).stands) in
       not_wrong page (run_of index.directory.run) (entry_stands index.directory) entry number slot found good bad
 
-pub no_damage : FilesLieAsSummed → LayoutIsSmall → NumbersAreRead → WholeIndexesHaveNoDamage
-no_damage laid small read = record {
+-- no code that reading a list gets to is broken
+abbrev CodesStand : Type 0
+CodesStand =
+    (page : ℕ → List ℕ) (cat : Catalog) (database : Database) → IsOf cat database
+    → (table column : ℕ) → is_hidden cat.schema table column ≡ true
+    → (values : List (List ℕ)) → HoldsIndexWhole page cat (hidden_of cat.schema database) table column values
+    → (level : ℕ) → level < length (levels_of cat.schema table) → (place : ℕ)
+    → IsWrong page cat (IndexLevel table column level) place → ⊥
+
+abbrev IdCodesStand : Type 0
+IdCodesStand =
+    (page : ℕ → List ℕ) (cat : Catalog) (database : Database) → IsOf cat database → (table : ℕ) → table < length cat.schema
+    → HoldsIdIndexWhole page cat (hidden_of cat.schema database) table
+    → (level : ℕ) → level < length (above_of cat.schema table) → (place : ℕ)
+    → IsWrong page cat (IdLevel table level) place → ⊥
+
+pub no_damage : FilesLieAsSummed → LayoutIsSmall → NumbersAreRead → CodesStand → IdCodesStand → WholeIndexesHaveNoDamage
+no_damage laid small read codes id_codes = record {
+  code = codes;
+  id_code = id_codes;
   search = λ page cat hidden limited table column h values whole index is number slot found.
       let million = (small.few cat limited).rows table in
       let most = whole.few in

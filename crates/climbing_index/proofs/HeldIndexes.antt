@@ -20,7 +20,7 @@ use Rattle.ghost_model.specs.laws.RunLaws.{NumbersAreRead}
 use Rattle.ghost_model.specs.forms.Runs.{record_at, number_in}
 use Rattle.ghost_model.specs.forms.Layout.{is_hidden, width_at, count_of, levels_of, above_of}
 use Rattle.ghost_model.specs.laws.ShortWords.{index_directory, index_level, id_level}
-use Rattle.ghost_model.specs.forms.Flash.{hidden_cells, directory_record, value_lists}
+use Rattle.ghost_model.specs.forms.Flash.{AreValues, hidden_cells, directory_record, value_lists}
 use Rattle.ghost_model.specs.forms.Slots as slots
 use Rattle.ghost_base.specs.Views.{kind_of}
 use Rattle.ghost_base.specs.declared.kind.Kind.{Kind}
@@ -32,7 +32,7 @@ use Rattle.climbing_index.specs.Indexes.{IsIndexOf, IsIdIndexOf}
 use Rattle.climbing_index.specs.Searches.{HasIndex, entries_told, header_bytes, header_count, header_stands, rows_of}
 use Rattle.climbing_index.specs.Holding.{HoldsIndexBut}
 use Rattle.climbing_index.specs.Laws.{IsOfValues, SearchesFindByValues}
-use Rattle.climbing_index.proofs.LevelFiles.{how_many, at_level, its_level}
+use Rattle.climbing_index.proofs.LevelFiles.{how_many, at_level, its_level, index_level_room, id_level_room}
 
 -- so few entries are told
 told_few : (page : ℕ → List ℕ) (index : ClimbingIndex) (cells : List (List ℕ)) → HasIndex page index cells → (k : ℕ) → length cells < 2 ^ k
@@ -57,7 +57,7 @@ spells_by None bytes = refl
 spells_by (Some kind) bytes = refl
 
 same_places : (cat : Catalog) (levels : List LevelFile) (tables : List ℕ) → length levels ≡ length tables
-    → ((level : ℕ) (file : LevelFile) → slice_get levels level ≡ Some file → file.count ≡ count_of cat (get_or tables level 0))
+    → ((level : ℕ) (file : LevelFile) → slice_get levels level ≡ Some file → file.count ≡ slots.level_room cat (get_or tables level 0))
     → (bytes : List ℕ) → are_places levels bytes ≡ slots.are_places cat tables bytes
 same_places cat [] [] size counts bytes = refl
 same_places cat [] (table ∷ tables) size counts bytes = absurd (omega (arith, size))
@@ -66,7 +66,7 @@ same_places cat (level ∷ levels) (table ∷ tables) size counts bytes =
     let here = counts 0 level refl in
     let rest = same_places cat levels tables (omega (arith, size)) (λ k file at. counts (suc k) file at) (drop 8 bytes) in
     ap (λ n. nat_le (slots.list_end bytes) n && are_places levels (drop 8 bytes)) here
-    ∙ ap (λ b. nat_le (slots.list_end bytes) (count_of cat table) && b) rest
+    ∙ ap (λ b. nat_le (slots.list_end bytes) (slots.level_room cat table) && b) rest
 
 -- and those of an id index
 pub same_id_entry : (cat : Catalog) → LieAsSummed cat → (table : ℕ) → table < length cat.schema → (index : IdIndex) → IsIdIndexOf cat table index
@@ -78,9 +78,19 @@ same_id_entry cat laid table there index is bytes =
     let places = same_places cat levels (above_of cat.schema table) size
     (λ level one at.
     let low = its_level (id_level cat table) count levels is.levels_are level one at in
-    ap (λ r. r.count) (at_level (id_level cat table) count levels is.levels_are level one at ∙ laid.id_level table level there low)) in
+    ap (λ r. r.count) (at_level (id_level cat table) count levels is.levels_are level one at) ∙ id_level_room cat table level low) in
     ap (λ n. spells index.directory.kind (take n bytes) && are_places levels (drop n bytes)) is.cell_is
     ∙ (ap (λ k. spells k (take 0 bytes) && are_places levels (drop 0 bytes)) is.kind_is ∙ places bytes)
+
+-- a value is as wide as its column
+pub value_wide : (cat : Catalog) (hidden : Hidden) → CellsFit cat hidden → (table column : ℕ) → is_hidden cat.schema table column ≡ true
+    → (values : List (List ℕ)) → AreValues (hidden_cells cat.schema hidden table column) values → (entry : ℕ) → entry < length values
+    → length (get_or values entry []) ≡ width_at cat.schema table column
+value_wide cat hidden fit table column h values are entry low =
+    let value = get_or values entry [] in
+    let cells = hidden_cells cat.schema hidden table column in
+    let has = are.only value (Contains-get_or values entry [] low) in
+    fit.width table column has.0 value h (slice_get-get_or cells has.0 value has.1 ∙ ap Some has.2)
 
 module _ (cat : Catalog) (laid : LieAsSummed cat) (table column : ℕ) (hidden_is : is_hidden cat.schema table column ≡ true)
     (index : ClimbingIndex) (is : IsIndexOf cat table column index) where
@@ -92,7 +102,7 @@ module _ (cat : Catalog) (laid : LieAsSummed cat) (table column : ℕ) (hidden_i
       let places = same_places cat levels (levels_of cat.schema table) size
       (λ level one at.
       let low = its_level (index_level cat table column) count levels is.levels_are level one at in
-      ap (λ r. r.count) (at_level (index_level cat table column) count levels is.levels_are level one at ∙ laid.index_level table column level hidden_is low)) in
+      ap (λ r. r.count) (at_level (index_level cat table column) count levels is.levels_are level one at) ∙ index_level_room cat table column level low) in
       ap (λ n. spells index.directory.kind (take n bytes) && are_places levels (drop n bytes)) is.cell_is
       ∙ (ap (λ b. b && are_places levels (drop (width_at cat.schema table column) bytes))
       (spells_by index.directory.kind (take (width_at cat.schema table column) bytes)
@@ -103,11 +113,7 @@ module _ (cat : Catalog) (laid : LieAsSummed cat) (table column : ℕ) (hidden_i
   module _ (page : ℕ → List ℕ) (hidden : Hidden) (few : AreFew cat) (fit : CellsFit cat hidden) (read : NumbersAreRead) (values : List (List ℕ))
       (holds : HoldsIndexBut page cat hidden table column values) where
     pub value_width : (entry : ℕ) → entry < length values → length (get_or values entry []) ≡ width_at cat.schema table column
-    value_width entry low =
-        let value = get_or values entry [] in
-        let cells = hidden_cells cat.schema hidden table column in
-        let has = holds.are_values.only value (Contains-get_or values entry [] low) in
-        fit.width table column has.0 value hidden_is (slice_get-get_or cells has.0 value has.1 ∙ ap Some has.2)
+    value_width entry low = value_wide cat hidden fit table column hidden_is values holds.are_values entry low
 
     pub of_values : IsOfValues page index values
     of_values =

@@ -1,12 +1,15 @@
 -- Level files one after another.
-use Rattle.std.proofs.Common.{◌≡◌, ap, sym, ◌∙◌, ℕ, zero, suc, ◌+◌, ◌<◌, List, [], ◌∷◌, ◌++◌, length, map, get_or, Some, slice_get, unwrap_or, arith}
+use Rattle.std.proofs.Common.{◌≡◌, ap, sym, ◌∙◌, ℕ, zero, suc, ◌+◌, ◌*◌, ◌<◌, List, [], ◌∷◌, ◌++◌, length, map, get_or, Some, slice_get, slice_index, unwrap_or, arith}
 use Rattle.std.specs.Option.{option_map}
 use Rattle.std.specs.List.{range_with_len}
-use Rattle.std.proofs.lemmas.List.{map-append, length-map}
+use Rattle.std.proofs.lemmas.List.{get_or-map, map-append, length-map}
 use Rattle.std.proofs.lemmas.List.FromFn.{length-range_with_len, get_or-map-range_with_len}
 use Rattle.std.proofs.lemmas.Option.{unwrap_or-slice_get, slice_get_within, slice_get-map}
-use Rattle.ghost_model.specs.forms.Runs.{Run}
-use Rattle.ghost_model.specs.forms.Layout.{below}
+use Rattle.ghost_model.specs.core.Channel.{Catalog}
+use Rattle.ghost_model.specs.forms.Runs.{Run, page_bytes, pages_of}
+use Rattle.ghost_model.specs.forms.Layout.{above_of, below, count_of, files_of, levels_of, ClimbingIndex, IdIndex}
+use Rattle.ghost_model.specs.forms.Slots.{level_room}
+use Rattle.ghost_model.specs.laws.ShortWords.{id_level, index_level}
 use Rattle.climbing_index.specs.declared.directory.LevelFile.{LevelFile}
 use Rattle.climbing_index.specs.Directories.{file_of}
 
@@ -52,3 +55,21 @@ its_level file count files are level one at =
     let size = how_many file count files are in
     let low = slice_get_within files level one at in
     omega (arith, size, low)
+
+-- a level file has the bytes of its table's room
+abbrev room_of_file : ℕ × ℕ → ℕ
+room_of_file file = page_bytes * pages_of file.0 file.1
+
+pub index_level_room : (cat : Catalog) (table column level : ℕ) → level < length (levels_of cat.schema table)
+    → (index_level cat table column level).count ≡ level_room cat (slice_index (levels_of cat.schema table) level)
+index_level_room cat table column level low =
+    let e : 2 + level ≡ suc (suc level) = omega arith in
+    let files = files_of cat (ClimbingIndex table column) in
+    ap room_of_file (ap (λ n. get_or files n (0, 0)) e ∙ get_or-map (λ other. (count_of cat other, 4)) (levels_of cat.schema table) level 0 (0, 0) low)
+
+pub id_level_room : (cat : Catalog) (table level : ℕ) → level < length (above_of cat.schema table)
+    → (id_level cat table level).count ≡ level_room cat (slice_index (above_of cat.schema table) level)
+id_level_room cat table level low =
+    let e : 1 + level ≡ suc level = omega arith in
+    let files = files_of cat (IdIndex table) in
+    ap room_of_file (ap (λ n. get_or files n (0, 0)) e ∙ get_or-map (λ other. (count_of cat other, 4)) (above_of cat.schema table) level 0 (0, 0) low)

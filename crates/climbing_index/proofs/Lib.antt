@@ -12,3 +12,8 @@ pub mod HeldIndexes
 pub mod ListedValues
 pub mod Cuts
 pub mod BlamedSlots
+pub mod Codes
+pub mod Readings
+pub mod ReadLists
+pub mod StayingIndexes
+pub mod BrokenCodes

@@ -7,10 +7,10 @@ use Rattle.std.proofs.lemmas.Bool.{le-leb}
 use Rattle.std.proofs.lemmas.List.{drop-drop, take-append-le, get_or_append_left, get_or-append-add, append_assoc}
 use Rattle.ghost_model.specs.core.Channel.{Catalog}
 use Rattle.ghost_model.specs.laws.RunLaws.{NumbersAreRead}
-use Rattle.ghost_model.specs.forms.Layout.{count_of}
-use Rattle.ghost_model.specs.forms.Runs.{Run, number_in, number_cell, id_at, ids_from}
+use Rattle.ghost_model.specs.forms.Runs.{number_in, number_cell}
+use Rattle.ghost_model.specs.forms.Gaps.{list_begin}
 use Rattle.ghost_model.specs.forms.Flash.{list_place}
-use Rattle.ghost_model.specs.forms.Slots.{list_end, are_places}
+use Rattle.ghost_model.specs.forms.Slots.{list_end, are_places, level_room}
 
 -- lists before an entry, and that of the entry, are no longer than all together
 pub ends : (lists : List (List ℕ)) (entry : ℕ) → length (concat (take entry lists)) + length (get_or lists entry []) ≤ length (concat lists)
@@ -33,17 +33,6 @@ part (list ∷ lists) (suc entry) place low =
     let before = length-append list (concat (take entry lists)) in
     let at : length (list ++ concat (take entry lists)) + place ≡ length list + (length (concat (take entry lists)) + place) = omega (arith, before) in
     ap (λ n. slice_index (list ++ concat lists) n) at ∙ (get_or-append-add list (concat lists) (length (concat (take entry lists)) + place) 0 ∙ part lists entry place low)
-
--- so many identifiers one after another
-pub ids_are : (page : ℕ → List ℕ) (run : Run) (place : ℕ) (ids : List ℕ)
-    → ((at : ℕ) → at < length ids → id_at page run (place + at) ≡ slice_index ids at) → ids_from page run place (length ids) ≡ ids
-unfolding ids_from
-ids_are page run place [] each = refl
-ids_are page run place (id ∷ ids) each =
-    let here : place + 0 ≡ place = omega arith in
-    let first : id_at page run place ≡ id = sym (ap (id_at page run) here) ∙ each 0 (omega arith) in
-    let rest = ids_are page run (place + 1) ids (λ at low. let next : place + 1 + at ≡ place + suc at = omega arith in ap (id_at page run) next ∙ each (suc at) (omega (arith, low))) in
-    λ i. first i ∷ rest i
 
 module _ (read : NumbersAreRead) (wide : (number : ℕ) → length (number_cell number) ≡ 4) where
   -- two numbers before other bytes
@@ -86,26 +75,26 @@ module _ (read : NumbersAreRead) (wide : (number : ℕ) → length (number_cell 
     at_place (table ∷ tables) zero low = refl
     at_place (table ∷ tables) (suc level) low =
         let n : 8 * suc level ≡ 8 + 8 * level = omega arith in
-        let here = after_both (length (concat (take entry (lists table)))) (length (get_or (lists table) entry [])) (places tables) in
+        let here = after_both (list_begin (lists table) entry) (length (get_or (lists table) entry [])) (places tables) in
         ap (λ k. drop k (places (table ∷ tables))) n
         ∙ (sym (drop-drop (8 * level) 8 (places (table ∷ tables)))
         ∙ (ap (drop (8 * level)) here ∙ at_place tables level (omega (arith, low))))
 
     -- and they stand where their level files have room
-    pub stand : (cat : Catalog) (tables : List ℕ) → ((table : ℕ) → count_of cat table < 2 ^ 32)
-        → ((level : ℕ) → level < length tables → length (concat (lists (slice_index tables level))) ≤ count_of cat (slice_index tables level))
+    pub stand : (cat : Catalog) (tables : List ℕ) → ((table : ℕ) → level_room cat table < 2 ^ 32)
+        → ((level : ℕ) → level < length tables
+        → list_begin (lists (slice_index tables level)) entry + length (get_or (lists (slice_index tables level)) entry []) ≤ level_room cat (slice_index tables level))
         → are_places cat tables (places tables) ≡ true
     stand cat [] small room = refl
     stand cat (table ∷ tables) small room =
-        let first = length (concat (take entry (lists table))) in
+        let first = list_begin (lists table) entry in
         let count = length (get_or (lists table) entry []) in
-        let end = ends (lists table) entry in
         let most = room 0 (omega arith) in
         let few = small table in
-        let a = first_in first count (places tables) (omega (arith, end, most, few)) in
-        let b = second_in first count (places tables) (omega (arith, end, most, few)) in
+        let a = first_in first count (places tables) (omega (arith, most, few)) in
+        let b = second_in first count (places tables) (omega (arith, most, few)) in
         let e : list_end (places (table ∷ tables)) ≡ first + count = λ i. a i + b i in
-        ap (λ n. nat_le n (count_of cat table) && are_places cat tables (drop 8 (places (table ∷ tables)))) e
-        ∙ (ap (λ t. t && are_places cat tables (drop 8 (places (table ∷ tables)))) (le-leb (first + count) (count_of cat table) (omega (arith, end, most)))
+        ap (λ n. nat_le n (level_room cat table) && are_places cat tables (drop 8 (places (table ∷ tables)))) e
+        ∙ (ap (λ t. t && are_places cat tables (drop 8 (places (table ∷ tables)))) (le-leb (first + count) (level_room cat table) most)
         ∙ (ap (are_places cat tables) (after_both first count (places tables))
         ∙ stand cat tables small (λ level low. room (suc level) (omega (arith, low)))))

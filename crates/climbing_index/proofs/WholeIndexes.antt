@@ -1,16 +1,17 @@
 -- What the slots of an index have where pages hold it.
-use Rattle.std.proofs.Common.{◌≡◌, sym, ap, ◌∙◌, ℕ, zero, suc, ◌+◌, ◌<◌, ◌≤◌, Bool, true, false, ◌&&◌, ◌||◌, nat_le, nat_lt, inl, List, [], ◌∷◌, ◌++◌, length, take, drop, replicate, get_or, slice_index, Contains, Some, is_some, slice_get, option_and_then, arith}
+use Rattle.std.proofs.Common.{◌≡◌, refl, sym, ap, ◌∙◌, ℕ, zero, suc, ◌+◌, ◌*◌, ◌<◌, ◌≤◌, Bool, true, false, ◌&&◌, ◌||◌, nat_le, nat_lt, inl, List, [], ◌∷◌, ◌++◌, length, take, drop, replicate, get_or, slice_index, Contains, Some, is_some, slice_get, option_and_then, filter, bytes_eq, arith}
 use Rattle.std.specs.Prelude.{◌==◌}
 use Rattle.std.specs.List.{concat}
 use Rattle.std.specs.List.Sorted.{IsPermutation}
 use Rattle.std.proofs.Math.Seq.{take-append_seam, drop-append_seam}
 use Rattle.std.proofs.lemmas.Bool.{le-leb, lt-ltb}
-use Rattle.std.proofs.lemmas.List.{get_or-map, get_or-replicate, length-replicate, length-map}
+use Rattle.std.proofs.lemmas.List.{get_or-replicate, length-replicate, length-map}
 use Rattle.std.proofs.lemmas.List.Elements.{Contains-get_or}
 use Rattle.std.proofs.lemmas.List.FromFn.{get_or-map-range_with_len, get_or-range_with_len, length-range_with_len}
 use Rattle.std.proofs.lemmas.List.Sorted.{IsPermutation-sym, Contains-permutation, length_permutation}
 use Rattle.std.proofs.lemmas.Option.{slice_get-get_or}
-use Rattle.ghost_model.specs.core.Schema.{is_empty}
+use Rattle.ghost_model.specs.core.Schema.{is_empty, is_table}
+use Rattle.ghost_model.specs.laws.ShortWords.{id_level, index_level}
 use Rattle.ghost_model.specs.core.Values.{Database}
 use Rattle.ghost_model.specs.core.Channel.{Catalog}
 use Rattle.ghost_model.specs.core.Asks.{kind_at}
@@ -19,18 +20,23 @@ use Rattle.ghost_model.specs.core.Split.{Hidden, hidden_of}
 use Rattle.ghost_model.specs.readings.CellReading.{decode_cell}
 use Rattle.ghost_model.specs.laws.MeaningLaws.{IsAtOrBelow}
 use Rattle.ghost_model.specs.laws.LayoutLaws.{LieAsSummed, LieInOrder, AreFew, LevelsAreAncestors, FilesLieAsSummed, FilesLieInOrder, LayoutIsSmall}
-use Rattle.ghost_model.specs.laws.ListLaws.{ListsPartition, IdListsPartition}
+use Rattle.ghost_model.specs.laws.ListLaws.{ListsPartition, IdListsPartition, ListsAscend}
+use Rattle.ghost_model.specs.laws.GapLaws.{AreLevelLists, CodesAreReadFromPages, LevelFilesFit, LevelListsHaveCodes, ReadsCode}
 use Rattle.ghost_model.specs.laws.FlashLaws.{CellsFit, HiddenValuesOfDatabases, HiddenCellsFit, HiddenPartsGoWithCatalogs}
 use Rattle.ghost_model.specs.laws.RunLaws.{NumbersAreRead}
-use Rattle.ghost_model.specs.forms.Runs.{record_at, number_in, number_cell}
+use Rattle.ghost_model.specs.forms.Runs.{Run, page_bytes, pages_of, record_at, number_in, number_cell}
+use Rattle.ghost_model.specs.forms.Gaps.{StoresBytes, code_in, code_of, code_place, gaps_of, level_bytes, rest_at}
 use Rattle.ghost_model.specs.forms.Layout.{is_hidden, width_at, count_of, levels_of, above_of, IndexHeader, IndexDirectory, IndexLevel, IdDirectory, IdLevel}
-use Rattle.ghost_model.specs.forms.Flash.{HoldsIndex, HoldsIdIndexes, AreValues, hidden_cells, directory_record, value_lists, id_lists, ids}
-use Rattle.ghost_model.specs.forms.Slots.{in_slot, may_stand, is_row, are_places}
+use Rattle.ghost_model.specs.forms.Flash.{HoldsIndex, HoldsIdIndexes, AreValues, cell_led_to, hidden_cells, directory_record, leads_to, value_lists, id_lists, ids}
+use Rattle.ghost_model.specs.forms.Slots.{in_slot, may_stand, code_stands, are_places}
 use Rattle.ghost_model.proofs.MeaningLemmas.Leading.{get_within}
 use Rattle.ghost_model.proofs.FlashLemmas.Values.{count_there}
-use Rattle.climbing_index.specs.Holding.{HasRecord, HoldsIndexWhole, HoldsIdIndexWhole, values_at, ids_at}
+use Rattle.climbing_index.specs.Holding.{HasGap, HasRecord, HoldsIndexWhole, HoldsIdIndexWhole, values_at, ids_at}
 use Rattle.climbing_index.specs.Laws.{IsOf, HeldIndexesAreWhole, HeldIdIndexesAreWhole, WholeIndexesAreHeldBut}
+use Rattle.climbing_index.proofs.LevelFiles.{id_level_room, index_level_room}
 use Rattle.climbing_index.proofs.ListPlaces.{places, stand}
+use Rattle.climbing_index.proofs.Codes.{bytes_fit, gap_within, list_ends}
+use Rattle.climbing_index.proofs.Readings.{code_inside}
 
 pub held_but : WholeIndexesAreHeldBut
 held_but = record {
@@ -39,11 +45,11 @@ held_but = record {
     few = whole.few;
     header = inl whole.header.is;
     entries = λ entry low. inl (whole.entries entry low).is;
-    lists = λ level low place within. inl (whole.lists level low place within).is;
+    lists = λ level low k within. inl (whole.lists level low k within).reads;
   };
   id_index = λ page cat hidden table whole. record {
     entries = λ entry low. inl (whole.entries entry low).is;
-    lists = λ level low place within. inl (whole.lists level low place within).is;
+    lists = λ level low k within. inl (whole.lists level low k within).reads;
   };
 }
 
@@ -63,8 +69,25 @@ may_count (suc n) (suc count) few some =
     both (nat_le (suc n) (suc count)) (nat_lt 0 (suc n) || suc count == 0) (le-leb (suc n) (suc count) few)
     (ap (λ b. b || suc count == 0) (lt-ltb 0 (suc n) (omega arith)))
 
-pub row_within : (cat : Catalog) (from n : ℕ) → 1 ≤ n → n ≤ count_of cat from → is_row cat from n ≡ true
-row_within cat from n some most = both (nat_le 1 n) (nat_le n (count_of cat from)) (le-leb 1 n some) (le-leb n (count_of cat from) most)
+-- a code that is read may stand where it does
+stands_by : (page : ℕ → List ℕ) (run : Run) (rows : ℕ) (lists : List (List ℕ)) → AreLevelLists rows lists → (k : ℕ) → k < length (gaps_of lists)
+    → ReadsCode page run (gaps_of lists) k → code_stands rows (code_in (rest_at page run.first (code_place (gaps_of lists) k))) ≡ true
+stands_by page run rows lists are k low reads =
+    let gap = get_or (gaps_of lists) k 0 in
+    ap (code_stands rows) (code_inside page run.first run.count (code_place (gaps_of lists) k) (gap, length (code_of gap)) reads.code).0
+    ∙ le-leb gap rows (gap_within rows lists are k low)
+
+-- all codes of a level file are read
+module _ (have_codes : LevelListsHaveCodes) (are_read : CodesAreReadFromPages) (fit : LevelFilesFit) where
+  reads_by : (page : ℕ → List ℕ) (run : Run) (rows : ℕ) (lists : List (List ℕ)) → AreLevelLists rows lists → run.width ≡ 1
+      → run.count ≡ page_bytes * pages_of rows 4 → StoresBytes page run (level_bytes lists)
+      → (k : ℕ) → k < length (gaps_of lists) → ReadsCode page run (gaps_of lists) k
+  reads_by page run rows lists are width room stores k low =
+      let codes = have_codes rows lists are in
+      let count = codes.count in
+      let few = are.few in
+      let spare = fit rows lists are (omega (arith, low, count, few)) in
+      are_read page run lists width codes (omega (arith, spare, room)) stores k low
 
 module _ (cat : Catalog) (database : Database) (of : IsOf cat database) (levels : LevelsAreAncestors) (few : AreFew cat) (read : NumbersAreRead) where
   abbrev pub hidden : Hidden
@@ -122,6 +145,7 @@ module _ (cat : Catalog) (database : Database) (of : IsOf cat database) (levels 
 
   -- the directory of a climbing index
   module _ (laid : LieAsSummed cat) (order : LieInOrder cat) (fit : CellsFit cat hidden) (values_are : HiddenValuesOfDatabases)
+      (ascend : ListsAscend) (have_codes : LevelListsHaveCodes) (are_read : CodesAreReadFromPages) (room : LevelFilesFit)
       (wide : (number : ℕ) → length (number_cell number) ≡ 4) (table column : ℕ) (h : is_hidden cat.schema table column ≡ true) where
     there : table < length cat.schema
     there = (order.there_are table column h).0
@@ -144,16 +168,9 @@ module _ (cat : Catalog) (database : Database) (of : IsOf cat database) (levels 
         ap (option_and_then (λ r. slice_get r column)) row.1 ∙ held.1 in
         ap is_some (fit.value table column place cell h at ∙ (values_are cat.schema database of.limited.tree of.is table (suc place) column h ∙ value))
 
-    module _ (page : ℕ → List ℕ) (partition : ListsPartition) (holds : HoldsIndex page cat (hidden_of cat.schema database) table column) where
-      heads : List (List ℕ)
-      heads = holds.values
-
-      lists : ℕ → List (List ℕ)
-      lists = value_lists cat hidden table column holds.values
-
-      rows : (level : ℕ) → level < length (levels_of cat.schema table)
-          → HasRows (slice_index (levels_of cat.schema table) level) (concat (values_at cat hidden table column holds.values level))
-      rows level low = value_rows partition table column level h there low holds.values holds.are_values
+    module _ (page : ℕ → List ℕ) (holds : HoldsIndex page cat (hidden_of cat.schema database) table column) where
+      level_lists : (from : ℕ) → AreLevelLists (count_of cat from) (value_lists cat hidden table column holds.values from)
+      level_lists from = let million = few.rows from in ascend.of_values cat hidden table column from holds.values (omega (arith, million)) holds.are_values
 
       whole_header : HasRecord page cat (IndexHeader table column) 0 (number_cell (length holds.values))
       whole_header =
@@ -188,8 +205,13 @@ module _ (cat : Catalog) (database : Database) (of : IsOf cat database) (levels 
           let bytes = directory_record holds.values tables (value_lists cat hidden table column holds.values) entry in
           let front : take w bytes ≡ value = ap (λ n. take n bytes) (sym size) ∙ take-append_seam value _ in
           let stands = stand read wide (value_lists cat hidden table column holds.values) entry cat tables
-          (λ other. let million = few.rows other in omega (arith, million))
-          (λ level under. let all = (rows level under).size in omega (arith, all)) in
+          (λ other. let pages = few.level other in omega (arith, pages))
+          (λ level under.
+          let own = values_at cat hidden table column holds.values level in
+          let size = length-map holds.values (λ v. filter (λ identifier. bytes_eq (cell_led_to cat.schema hidden table column (slice_index tables level) identifier) v) (ids (count_of cat (slice_index tables level)))) in
+          let end = list_ends own entry (omega (arith, size, low)) in
+          let all = bytes_fit room (count_of cat (slice_index tables level)) own (level_lists (slice_index tables level)) in
+          omega (arith, end, all)) in
           let back = ap (λ n. drop n bytes) (sym size) ∙ drop-append_seam value _ in
           record {
             is = is;
@@ -200,28 +222,26 @@ module _ (cat : Catalog) (database : Database) (of : IsOf cat database) (levels 
                 (ap (are_places cat tables) back ∙ stands);
           }
 
-      whole_list : (level : ℕ) → level < length (levels_of cat.schema table) → (place : ℕ) → place < length (concat (values_at cat hidden table column holds.values level))
-          → HasRecord page cat (IndexLevel table column level) place (number_cell (slice_index (concat (values_at cat hidden table column holds.values level)) place))
-      whole_list level low place within =
-          let all = concat (values_at cat hidden table column holds.values level) in
+      whole_list : (level : ℕ) → level < length (levels_of cat.schema table) → (k : ℕ) → k < length (gaps_of (values_at cat hidden table column holds.values level))
+          → HasGap page cat (IndexLevel table column level) (gaps_of (values_at cat hidden table column holds.values level)) k
+      whole_list level low k within =
+          let own = values_at cat hidden table column holds.values level in
           let from = slice_index (levels_of cat.schema table) level in
-          let stores = holds.entries.levels level low in
-          let size = stores.has.count ∙ length-map all number_cell in
-          let is = stores.has.each place (omega (arith, size, within)) ∙ get_or-map number_cell all place 0 [] within in
-          let id = slice_index all place in
-          let some = (rows level low).some place within in
-          let most = (rows level low).most place within in
-          let million = few.rows from in
-          let number = ap (λ b. number_in b 0) is ∙ read id (omega (arith, most, million)) in
-          record { is = is; stands = ap (is_row cat from) number ∙ row_within cat from id some most }
+          let reads = reads_by have_codes are_read room page (index_level cat table column level) (count_of cat from) own (level_lists from) refl
+          (index_level_room cat table column level low) (holds.entries.levels level low) k within in
+          record { reads = reads; stands = stands_by page (index_level cat table column level) (count_of cat from) own (level_lists from) k within reads }
 
       pub whole : HoldsIndexWhole page cat (hidden_of cat.schema database) table column holds.values
       whole = record { are_values = holds.are_values; few = holds.fits; header = whole_header; entries = whole_entry; lists = whole_list }
 
   -- and that of an id index
-  module _ (wide : (number : ℕ) → length (number_cell number) ≡ 4) (page : ℕ → List ℕ) (partition : IdListsPartition)
+  module _ (ascend : ListsAscend) (have_codes : LevelListsHaveCodes) (are_read : CodesAreReadFromPages) (room : LevelFilesFit)
+      (wide : (number : ℕ) → length (number_cell number) ≡ 4) (page : ℕ → List ℕ)
       (all_hold : HoldsIdIndexes page cat (hidden_of cat.schema database)) (table : ℕ) (there : table < length cat.schema)
       (above : is_empty (above_of cat.schema table) ≡ false) where
+    id_level_lists : (from : ℕ) → AreLevelLists (count_of cat from) (id_lists cat hidden table from)
+    id_level_lists from = let million = few.rows from in ascend.of_ids cat hidden table from (omega (arith, million))
+
     id_entry : (entry : ℕ) → entry < count_of cat table
         → HasRecord page cat (IdDirectory table) entry (directory_record (replicate (count_of cat table) []) (above_of cat.schema table) (id_lists cat hidden table) entry)
     id_entry entry low =
@@ -235,35 +255,35 @@ module _ (cat : Catalog) (database : Database) (of : IsOf cat database) (levels 
         let bytes = directory_record heads tables (id_lists cat hidden table) entry in
         let head : get_or heads entry [] ≡ [] = get_or-replicate (count_of cat table) entry [] [] low in
         let stands = stand read wide (id_lists cat hidden table) entry cat tables
-        (λ other. let million = few.rows other in omega (arith, million))
-        (λ level under. let all = (id_rows partition table level there under).size in omega (arith, all)) in
+        (λ other. let pages = few.level other in omega (arith, pages))
+        (λ level under.
+        let own = ids_at cat hidden table level in
+        let size = length-map (ids (count_of cat table)) (λ v. filter (λ other. is_table v (leads_to cat.schema hidden (slice_index tables level) other table)) (ids (count_of cat (slice_index tables level)))) in
+        let rows = length-range_with_len 1 (count_of cat table) in
+        let end = list_ends own entry (omega (arith, size, rows, low)) in
+        let all = bytes_fit room (count_of cat (slice_index tables level)) own (id_level_lists (slice_index tables level)) in
+        omega (arith, end, all)) in
         record { is = is; stands = ap (are_places cat tables) is ∙ (ap (λ front. are_places cat tables (front ++ places read wide (id_lists cat hidden table) entry tables)) head ∙ stands) }
 
-    id_list : (level : ℕ) → level < length (above_of cat.schema table) → (place : ℕ) → place < length (concat (ids_at cat hidden table level))
-        → HasRecord page cat (IdLevel table level) place (number_cell (slice_index (concat (ids_at cat hidden table level)) place))
-    id_list level low place within =
-        let all = concat (ids_at cat hidden table level) in
+    id_list : (level : ℕ) → level < length (above_of cat.schema table) → (k : ℕ) → k < length (gaps_of (ids_at cat hidden table level))
+        → HasGap page cat (IdLevel table level) (gaps_of (ids_at cat hidden table level)) k
+    id_list level low k within =
+        let own = ids_at cat hidden table level in
         let from = slice_index (above_of cat.schema table) level in
-        let stores = (all_hold table there above).levels level low in
-        let size = stores.has.count ∙ length-map all number_cell in
-        let is = stores.has.each place (omega (arith, size, within)) ∙ get_or-map number_cell all place 0 [] within in
-        let id = slice_index all place in
-        let has = id_rows partition table level there low in
-        let some = has.some place within in
-        let most = has.most place within in
-        let million = few.rows from in
-        let number = ap (λ b. number_in b 0) is ∙ read id (omega (arith, most, million)) in
-        record { is = is; stands = ap (is_row cat from) number ∙ row_within cat from id some most }
+        let reads = reads_by have_codes are_read room page (id_level cat table level) (count_of cat from) own (id_level_lists from) refl
+        (id_level_room cat table level low) ((all_hold table there above).levels level low) k within in
+        record { reads = reads; stands = stands_by page (id_level cat table level) (count_of cat from) own (id_level_lists from) k within reads }
 
     pub id_whole : HoldsIdIndexWhole page cat (hidden_of cat.schema database) table
     id_whole = record { entries = id_entry; lists = id_list }
 
-pub whole_indexes : LevelsAreAncestors → FilesLieAsSummed → FilesLieInOrder → LayoutIsSmall → HiddenCellsFit → HiddenPartsGoWithCatalogs → HiddenValuesOfDatabases
-    → NumbersAreRead → ((number : ℕ) → length (number_cell number) ≡ 4) → ListsPartition → HeldIndexesAreWhole
-whole_indexes levels laid order small fit parts values read wide partition page cat database of table column h holds =
-    whole cat database of levels (small.few cat of.limited) read (laid cat) (order cat) (fit cat _ of.limited.tree (parts cat database of.is of.counts)) values wide
-    table column h page partition holds
+module _ (levels : LevelsAreAncestors) (small : LayoutIsSmall) (read : NumbersAreRead) (wide : (number : ℕ) → length (number_cell number) ≡ 4) (ascend : ListsAscend)
+    (have_codes : LevelListsHaveCodes) (are_read : CodesAreReadFromPages) (room : LevelFilesFit) where
+  pub whole_indexes : FilesLieAsSummed → FilesLieInOrder → HiddenCellsFit → HiddenPartsGoWithCatalogs → HiddenValuesOfDatabases → HeldIndexesAreWhole
+  whole_indexes laid order fit parts values page cat database of table column h holds =
+      whole cat database of levels (small.few cat of.limited) read (laid cat) (order cat) (fit cat _ of.limited.tree (parts cat database of.is of.counts)) values
+      ascend have_codes are_read room wide table column h page holds
 
-pub whole_id_indexes : LevelsAreAncestors → LayoutIsSmall → NumbersAreRead → ((number : ℕ) → length (number_cell number) ≡ 4) → IdListsPartition → HeldIdIndexesAreWhole
-whole_id_indexes levels small read wide partition page cat database of holds table there above =
-    id_whole cat database of levels (small.few cat of.limited) read wide page partition holds table there above
+  pub whole_id_indexes : HeldIdIndexesAreWhole
+  whole_id_indexes page cat database of holds table there above =
+      id_whole cat database of levels (small.few cat of.limited) read ascend have_codes are_read room wide page holds table there above

@@ -18,9 +18,9 @@ use Rattle.flash_pages.specs.Reads.{WasRead}
 use Rattle.climbing_index.specs.declared.directory.Directory.{Directory}
 use Rattle.climbing_index.specs.declared.directory.LevelFile.{LevelFile}
 
--- the run of a level file
+-- the run of a level file: its single bytes
 abbrev pub file_of : LevelFile → runs.Run
-file_of file = record { first = file.first; count = file.count; width = 4 }
+file_of file = record { first = file.first; count = file.count; width = 1 }
 
 -- the width of the cells of a kind, 0 where there is none
 abbrev pub most_cell : Option Kind → ℕ

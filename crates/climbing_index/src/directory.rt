@@ -20,24 +20,24 @@ use page_pool::{Lease, PagePool};
 /// The most bytes of an entry: a cell, and eight bytes for each level.
 pub const MAX_ENTRY: usize = MAX_CHARS + 8 * MAX_TABLES;
 
-/// A level file: identifiers of four bytes each.
+/// A level file: lists of identifiers as gaps.
 #[derive(Clone, Copy, Default)]
 pub struct LevelFile {
     /// The number of the first page.
     pub first: u32,
-    /// How many identifiers there are, one for each row of the level's table.
+    /// How many bytes it has room for.
     pub count: u32,
 }
 
 impl LevelFile {
-    /// Its run.
+    /// Its run, of single bytes.
     pub fn run(&self) -> Run
         ensures run { run_of result ≡ file_of self.now }
     {
         Run {
             first: self.first,
             count: self.count,
-            width: 4,
+            width: 1,
         }
     }
 }

@@ -1,6 +1,5 @@
 use Rattle.std.proofs.Common.{◌∙◌, arith}
 use Rattle.ghost_model.specs.laws.ShortWords as short
-use Rattle.ghost_model.specs.forms.Layout as layout
 use Rattle.climbing_index.proofs.LevelFiles.{one_more}
 use Rattle.climbing_index.proofs.index.id_levels.Goals as goal
 

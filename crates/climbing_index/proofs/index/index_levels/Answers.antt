@@ -1,17 +1,10 @@
-use Rattle.std.proofs.Common.{◌<◌, ap, ◌∙◌, subst, length, arith}
+use Rattle.std.proofs.Common.{ap, ◌∙◌, arith}
 use Rattle.ghost_model.specs.laws.ShortWords as short
-use Rattle.ghost_model.specs.forms.Layout as layout
-use Rattle.flash_layout.specs.Limits.{HasLayout}
 use Rattle.climbing_index.proofs.LevelFiles.{one_more}
 use Rattle.climbing_index.proofs.index.index_levels.Goals as goal
 
 pub level_file-requires : goal.level_file-requires
-level_file-requires c =
-    let cat = c.args.laid.now in
-    let level = c.loop-level.level in
-    let laid : HasLayout cat = subst HasLayout c.catalog.ensures.catalog c.a_catalog_has_a_layout.ensures.layout in
-    let low : level < length (layout.levels_of cat.schema c.args.table) = let size = ap length c.levels-level-end.ensures.tables in omega (arith, size) in
-    record { width = ap (λ r. r.width) (c.index_level.ensures.run ∙ laid.sums.index_level c.args.table c.args.column level c.requires.hidden low) }
+level_file-requires c = record { width = ap (λ r. r.width) c.index_level.ensures.run }
 
 pub loop-level-preserved : goal.loop-level-preserved
 loop-level-preserved c = record {
