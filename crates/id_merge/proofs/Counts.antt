@@ -13,21 +13,21 @@ pub one_made : {a b : Device} {u v : ℕ} {called : Bool} → called ≡ true �
 one_made {a = a} {b = b} {u = u} {v = v} is made = let P : Bool → Type 0 = λ called. CallIf called a b u v in subst P is made
 
 pub made_none : (a : Device) (u : ℕ) → MadeNone a a u u
-made_none a u = record { calls = refl; deep_reads = refl; faults = refl; as_many = refl }
+made_none a u = record { calls = refl; deep_reads = refl; faults = refl; as_many = omega arith }
 
 pub none_trans : {a b c : Device} {u v w : ℕ} → MadeNone a b u v → MadeNone b c v w → MadeNone a c u w
 none_trans first second = record {
   calls = second.calls ∙ first.calls;
   deep_reads = second.deep_reads ∙ first.deep_reads;
   faults = second.faults ∙ first.faults;
-  as_many = second.as_many ∙ first.as_many;
+  as_many = omega (arith, first.as_many, second.as_many);
 }
 
 pub one_after : {a b c : Device} {u v w : ℕ} → MadeNone a b u v → MadeOne b c v w → MadeOne a c u w
 one_after first second = record {
   calls = second.calls ∙ ap next first.calls;
   faults = second.faults ∙ first.faults;
-  fewer = second.fewer ∙ first.as_many;
+  fewer = omega (arith, second.fewer, first.as_many);
 }
 
 pub failed_after : {a b c : Device} {u v w : ℕ} → MadeNone a b u v → FailedOne b c v w → FailedOne a c u w
@@ -35,7 +35,7 @@ failed_after first second = record {
   calls = second.calls ∙ ap next first.calls;
   cause = omega (arith, second.cause, first.faults);
   last = second.last;
-  as_many = second.as_many ∙ first.as_many;
+  as_many = omega (arith, first.as_many, second.as_many);
 }
 
 pub fails_after : {a b : Device} {u v : ℕ} (c : Device) (w : ℕ) (fault : PageFault) → MadeNone a b u v → FailTells b c v w fault → FailTells a c u w fault
@@ -46,28 +46,25 @@ fails_after c w (Damaged number slot found) first second = none_trans first seco
 pub call_of :
     (before now : Device) (deep : Bool) {u : ℕ} (v : ℕ) (reads : Bool)
     → now.calls ≡ next_if reads before.calls → now.deep_reads ≡ next_if (reads && deep) before.deep_reads
-    → now.faults ≡ before.faults → v + (if reads then 1 else 0) ≡ u
+    → now.faults ≡ before.faults → v + (if reads then 1 else 0) ≤ u
     → CallIf reads before now u v
-call_of before now deep v true calls deep_reads faults fewer = record { calls = calls; faults = faults; fewer = fewer }
+call_of before now deep v true calls deep_reads faults fewer = record { calls = calls; faults = faults; fewer = omega (arith, fewer) }
 call_of before now deep v false calls deep_reads faults fewer = record { calls = calls; deep_reads = deep_reads; faults = faults; as_many = omega (arith, fewer) }
 
 -- several calls
 pub some_none : {a b : Device} {u v : ℕ} → MadeNone a b u v → MadeSome a b u v
-some_none {a = a} made =
+some_none made =
     record {
-      calls = record { most = omega (arith, made.calls); exact = λ below. omega (arith, made.calls, made.as_many) };
+      calls = omega (arith, made.calls, made.as_many);
       deep_reads = omega (arith, made.deep_reads, made.as_many);
       faults = made.faults;
-      fewer = omega (arith, made.as_many);
+      fewer = made.as_many;
     }
 
 pub some_one : {a b c : Device} {u v w : ℕ} → MadeSome a b u v → MadeOne b c v w → c.deep_reads ≤ b.deep_reads + 1 → MadeSome a c u w
 some_one first second deep =
     record {
-      calls = record {
-        most = omega (arith, first.calls.most, second.calls, first.fewer, second.fewer);
-        exact = λ below. omega (arith, first.calls.exact, second.calls, first.fewer, second.fewer);
-      };
+      calls = omega (arith, first.calls, second.calls, second.fewer);
       deep_reads = omega (arith, first.deep_reads, second.fewer, deep);
       faults = second.faults ∙ first.faults;
       fewer = omega (arith, first.fewer, second.fewer);
@@ -76,10 +73,7 @@ some_one first second deep =
 pub some_after : {a b c : Device} {u v w : ℕ} → MadeSome a b u v → MadeNone b c v w → MadeSome a c u w
 some_after first second =
     record {
-      calls = record {
-        most = omega (arith, first.calls.most, second.calls, second.as_many);
-        exact = λ below. omega (arith, first.calls.exact, second.calls, second.as_many);
-      };
+      calls = omega (arith, first.calls, second.calls, second.as_many);
       deep_reads = omega (arith, first.deep_reads, second.deep_reads, second.as_many);
       faults = second.faults ∙ first.faults;
       fewer = omega (arith, first.fewer, second.as_many);
@@ -88,10 +82,7 @@ some_after first second =
 pub failed_last : {a b c : Device} {u v w : ℕ} → MadeSome a b u v → FailedOne b c v w → c.deep_reads ≤ b.deep_reads + 1 → FailedLast a c u w
 failed_last first second deep =
     record {
-      calls = record {
-        most = omega (arith, first.calls.most, second.calls, second.as_many);
-        exact = λ below. omega (arith, first.calls.exact, second.calls, second.as_many);
-      };
+      calls = omega (arith, first.calls, second.calls, second.as_many);
       deep_reads = omega (arith, first.deep_reads, deep, second.as_many);
       cause = omega (arith, second.cause, first.faults);
       last = second.last;

@@ -1,12 +1,10 @@
 -- Laws for those who make a merge, or do other work between its steps.
-use Rattle.std.proofs.Common.{◌≡◌, ◌∙◌, ℕ, zero, suc, ◌+◌, ◌-◌, ◌*◌, ◌/◌, ◌<◌, ◌≤◌, inl, inr, Bool, true, false, if◌then◌else◌, nat_lt, List, [], ◌∷◌, ◌++◌, length, ap, sym, refl, subst, IfSome, Option, None, Some, Result, Ok, Err, arith}
+use Rattle.std.proofs.Common.{◌≡◌, ◌∙◌, ℕ, zero, suc, ◌+◌, ◌-◌, ◌*◌, ◌/◌, ◌<◌, ◌≤◌, ◌⊎◌, inl, inr, Bool, true, false, if◌then◌else◌, nat_lt, List, [], ◌∷◌, ◌++◌, length, ap, sym, refl, subst, IfSome, Option, None, Some, Result, Ok, Err, arith}
 use Rattle.std.specs.Bool.{⊤}
 use Rattle.std.proofs.lemmas.Bool.{ltb-true}
-use Rattle.std.proofs.lemmas.Nat.{div-add-mod', div_below}
-use Rattle.std.proofs.Math.Nat.{mod-lt}
 use Rattle.std.proofs.lemmas.List.Sums.{sum_by-cons}
 use Rattle.ghost_model.specs.forms.Runs as runs
-use Rattle.ghost_model.specs.forms.Runs.{record_at, per_page}
+use Rattle.ghost_model.specs.forms.Runs.{page_of, per_page}
 use Rattle.ghost_base.specs.Runs.{run_of}
 use Rattle.edge_traits.specs.Devices.{Device}
 use Rattle.page_pool.specs.Pools.{Pool, IsOut, AreOut, bytes_at, page_at}
@@ -14,14 +12,15 @@ use Rattle.page_pool.specs.Laws.{SameBuffer}
 use Rattle.flash_pages.specs.declared.cursor.RunCursor.{RunCursor}
 use Rattle.flash_pages.specs.declared.fault.PageFault.{PageFault}
 use Rattle.flash_pages.specs.declared.fault.PageFault.TheVariants.{Flash, Damaged}
-use Rattle.flash_pages.specs.Cursors.{IsReady, IsPageOf, will_read}
+use Rattle.flash_pages.specs.Cursors.{IsReady, IsPageOf, id_in, unread_list}
 use Rattle.flash_pages.specs.Faults.{BlamesNoSlot}
+use Rattle.flash_pages.proofs.ListFrames.{KeepsRun, listed_kept, stands_kept}
 use Rattle.id_merge.specs.declared.cursor.Cursor.{Cursor}
 use Rattle.id_merge.specs.declared.cursor.Cursor.TheVariants.{List as OfList, Range}
-use Rattle.id_merge.specs.Cursors.{cursor_at, leases_of, left_of, left_in, at_hand_of, at_hand_in, unread_list, unread_of, unread_in, id_in, id_before, ListAscends, IsOfRows, IsRight, CursorRight, AreRight, CursorReady, AllReady, GoesOn, BlamesOutOfRows}
+use Rattle.id_merge.specs.Cursors.{cursor_at, leases_of, left_of, left_in, at_hand_of, at_hand_in, unread_of, unread_in, id_before, ListAscends, IsOfRows, IsRight, CursorRight, AreRight, CursorReady, AllReady, GoesOn, BlamesOutOfRows}
 use Rattle.id_merge.proofs.Holding.{lease_out, sum_same}
 use Rattle.id_merge.proofs.ListReads.{before_same}
-use Rattle.id_merge.proofs.Unread.{div_mono}
+use Rattle.id_merge.proofs.Unread.{few_codes, few_unread}
 use Rattle.id_merge.proofs.Setting.{unread_other}
 
 -- the leases of cursors that are joined
@@ -64,10 +63,13 @@ ready_range {told = told} {device = device} {pool = pool} cursors low high ready
       leases = subst P (sym (leases_of-append cursors (Range low high ∷ []) ∙ nothing_added (leases_of cursors))) ready.leases;
     }
 
--- pages are as they were where the lists have their records
+-- pages are as they were where the lists have their identifiers
 pub record SamePages (before now : Device) (run : RunCursor) : Type 0 where
   pub page_count : now.page_count ≡ before.page_count
   pub pages : (number : ℕ) → IsPageOf (run_of run.list.run) number → now.page number ≡ before.page number
+
+pub keeps_run : {before now : Device} (run : RunCursor) → SamePages before now run → KeepsRun before.page now.page (run_of run.list.run)
+keeps_run run same place within = same.pages (page_of (run_of run.list.run) place) (record { place = place; within = within; is = refl })
 
 filled_same :
     (told : Bool) (before now : Device) (run : RunCursor) (page : Option ℕ) (bytes : List ℕ) → SamePages before now run
@@ -93,7 +95,8 @@ ready_same {told = told} {before = before} {now = now} {pool = pool} {later = la
       };
       width = was.width;
       list = was.list;
-      place = was.place;
+      at = was.at;
+      stands = stands_kept was.at was.list (λ tells. keeps_run run pages) was.stands;
       page = subst P (sym same.filled) was.page;
       buffer = record {
         out = out;
@@ -123,21 +126,11 @@ all_ready_same told before now pool later cursors same out was = record {
 }
 
 -- and has the same identifiers ahead
-id_kept :
-    (page page' : ℕ → List ℕ) (run : RunCursor) (i : ℕ)
-    → page' (runs.page_of (run_of run.list.run) (run.list.first + i)) ≡ page (runs.page_of (run_of run.list.run) (run.list.first + i))
-    → id_in page' run i ≡ id_in page run i
-unfolding record_at
-id_kept page page' run i same =
-    ap (λ bytes. runs.number_in (runs.cell_in bytes run.list.run.width (runs.slot_of (run_of run.list.run) (run.list.first + i))) 0) same
-
 pub id_same :
     (before now : Device) (run : RunCursor) (i : ℕ) → SamePages before now run → run.list.first + run.list.count ≤ run.list.run.count
     → i < run.list.count → id_in now.page run i ≡ id_in before.page run i
 id_same before now run i same list within =
-    id_kept before.page now.page run i
-    (same.pages (runs.page_of (run_of run.list.run) (run.list.first + i))
-    (record { place = run.list.first + i; within = omega arith; is = refl }))
+    listed_kept before.page now.page (run_of run.list.run) run.list.first i (omega (arith, list, within)) (keeps_run run same)
 
 pub right_same :
     (before now : Device) (right : ℕ → List ℕ) (run : RunCursor) → SamePages before now run
@@ -184,7 +177,7 @@ none_blamed page cursors (Err (Damaged number slot found)) was out =
     let of_run : IsRight page page out.run = subst P out.is (was out.at) in
     out.out (none_out page out.run out.within of_run.ascends)
 
--- where the last identifier is that of the record before the next one, it still is after more records
+-- where the last identifier is that before the next one, it still is after more of them
 pub last_is_before :
     (told : Bool) (page : ℕ → List ℕ) (before now : RunCursor) → told ≡ true → GoesOn told page before now
     → before.last ≡ id_before page before before.at → now.last ≡ id_before page now now.at
@@ -201,62 +194,34 @@ pub unread_same :
 unread_same pool later cursors same =
     sum_same (unread_of pool) (unread_of later) cursors (λ i. unread_other (cursor_at cursors i) (same i))
 
--- few are: one for so many records as a page has, and two more for a list
-abbrev bit : Bool → ℕ
-bit b = if b then 1 else 0
-
-bit_none : (b : Bool) → (b ≡ true → ⊥) → bit b ≡ 0
-bit_none true none = absurd (none refl)
-bit_none false none = refl
-
-pub bit_most : (b : Bool) → bit b ≤ 1
-bit_most true = omega arith
-bit_most false = omega arith
-
--- so many records on, the page is no more than that many pages on, and one
-pages_on : (place more n : ℕ) → 0 < n → (place + more) / n ≤ place / n + more / n + 1
-pages_on place more n some =
-    let below : place + more < (place / n + more / n + 2) * n =
-    omega (arith, div-add-mod' place n, div-add-mod' more n, mod-lt place some, mod-lt more some) in
-    omega (arith, div_below (place + more) n (place / n + more / n + 2) some below)
-
-pub few_unread :
-    (pool : Pool) (run : RunCursor) → 0 < per_page run.list.run.width → run.at ≤ run.list.count
-    → unread_list pool run ≤ (run.list.count - run.at) / per_page run.list.run.width + 2
-few_unread pool run some within =
-    let n = per_page run.list.run.width in
-    let here = run.list.first + run.at in
-    let last = run.list.first + (run.list.count - 1) in
-    let goes : last ≤ here + (run.list.count - run.at) = omega (arith, within) in
-    omega (
-      arith,
-      pages_on here (run.list.count - run.at) n some,
-      div_mono last (here + (run.list.count - run.at)) n some goes,
-      bit_most (will_read pool run),
-    )
-
--- of lists of identifiers alone, four bytes each
+-- few are of lists of identifiers alone, of four bytes each or as codes: one for 512, and two more for a list
 abbrev pub IsOfIds : Cursor → Type 0
-IsOfIds (OfList run) = (run.list.run.width ≡ 4) × (run.at ≤ run.list.count)
+IsOfIds (OfList run) = ((run.list.run.width ≡ 1) ⊎ ((run.list.run.width ≡ 4) × (run.place ≡ run.list.first + run.at))) × (run.at ≤ run.list.count)
 IsOfIds (Range low high) = ⊤
 
-few_of_list : (pool : Pool) (run : RunCursor) → run.list.run.width ≡ 4 → run.at ≤ run.list.count → unread_list pool run ≤ (run.list.count - run.at) / 512 + 2
-few_of_list pool run width within =
-    let P : ℕ → Type 0 = λ n. 0 < n → unread_list pool run ≤ (run.list.count - run.at) / n + 2 in
-    let is : per_page run.list.run.width ≡ 512 = ap per_page width in
-    subst P is (λ some. few_unread pool run some within) (omega arith)
+more_below : (n : ℕ) → n / 682 ≤ n / 512
+more_below n = omega arith
+
+pub few_of_list : (pool : Pool) (run : RunCursor) → IsOfIds (OfList run) → unread_list pool run ≤ (run.list.count - run.at) / 512 + 2
+few_of_list pool run of =
+    elim of.0 [
+      | inl codes ↦ omega (arith, few_codes pool run codes, more_below (run.list.count - run.at))
+      | inr plain ↦
+          let P : ℕ → Type 0 = λ n. 0 < n → unread_list pool run ≤ (run.list.count - run.at) / n + 2 in
+          let is : per_page run.list.run.width ≡ 512 = ap per_page plain.0 in
+          subst P is (λ some. few_unread pool run (omega (arith, plain.0)) some plain.1 of.1) (omega arith)
+    ]
 
 pub few_in_all :
     (pool : Pool) (cursors : List Cursor) → ((i : ℕ) → IsOfIds (cursor_at cursors i))
     → unread_in pool cursors ≤ left_in cursors / 512 + 2 * length (leases_of cursors)
 few_in_all pool [] of = omega arith
 few_in_all pool (OfList run ∷ cursors) of =
-    let here = of zero in
     omega (
       arith,
       sum_by-cons (unread_of pool) (OfList run) cursors,
       sum_by-cons left_of (OfList run) cursors,
-      few_of_list pool run here.0 here.1,
+      few_of_list pool run (of zero),
       few_in_all pool cursors (λ i. of (suc i)),
     )
 few_in_all pool (Range low high ∷ cursors) of =
@@ -267,16 +232,23 @@ few_in_all pool (Range low high ∷ cursors) of =
       few_in_all pool cursors (λ i. of (suc i)),
     )
 
--- what lists that are begun have at hand is what is in them
+-- what lists that are begun have at hand is no more than what is in them
 abbrev pub IsBegun : Cursor → Type 0
 IsBegun (OfList run) = run.last ≡ 0
 IsBegun (Range low high) = ⊥
 
+abbrev bit : Bool → ℕ
+bit b = if b then 1 else 0
+
+bit_none : (b : Bool) → (b ≡ true → ⊥) → bit b ≡ 0
+bit_none true none = absurd (none refl)
+bit_none false none = refl
+
 none_looked_at : (last at : ℕ) → at ≡ 0 → bit (nat_lt last at) ≡ 0
 none_looked_at last at is = bit_none (nat_lt last at) (λ less. omega (arith, is, ltb-true last at less))
 
-pub hand_begun : (last : ℕ) (cursors : List Cursor) → ((i : ℕ) → i < length cursors → IsBegun (cursor_at cursors i)) → at_hand_in last cursors ≡ left_in cursors
-hand_begun last [] begun = refl
+pub hand_begun : (last : ℕ) (cursors : List Cursor) → ((i : ℕ) → i < length cursors → IsBegun (cursor_at cursors i)) → at_hand_in last cursors ≤ left_in cursors
+hand_begun last [] begun = omega arith
 hand_begun last (OfList run ∷ cursors) begun =
     let here : run.last ≡ 0 = begun zero (omega arith) in
     omega (

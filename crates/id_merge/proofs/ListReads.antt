@@ -1,48 +1,49 @@
 -- What one call on a list does to what its cursor has ahead.
-use Rattle.std.proofs.Common.{◌≡◌, ◌∙◌, ℕ, zero, suc, ◌+◌, ◌-◌, ◌<◌, ◌≤◌, ◌⊎◌, inl, inr, Bool, true, false, nat_lt, if◌then◌else◌, List, ◌∷◌, ap, sym, refl, subst, Result, Ok, Err, Option, Some, None, arith}
+use Rattle.std.proofs.Common.{◌≡◌, ◌∙◌, ℕ, zero, suc, ◌+◌, ◌-◌, ◌<◌, ◌≤◌, ◌⊎◌, inl, inr, Bool, true, false, nat_lt, List, ◌∷◌, ap, sym, refl, subst, Result, Ok, Err, Option, Some, None, arith}
 use Rattle.std.proofs.Common.{IfOk, IfSome, OnErr, MatchOption}
 use Rattle.std.proofs.lemmas.Bool.{cases_order}
-use Rattle.std.proofs.lemmas.Nat.{le-div}
 use Rattle.edge_traits.proofs.DeviceFrames.{kept_trans}
 use Rattle.page_pool.proofs.Leases.{change_trans}
 use Rattle.edge_traits.specs.Devices.{Device, next_if}
-use Rattle.page_pool.specs.Pools.{Pool, ChangesPage, page_at}
+use Rattle.page_pool.specs.Pools.{Pool, ChangesPage}
 use Rattle.flash_pages.specs.declared.fault.PageFault.{PageFault}
 use Rattle.flash_pages.specs.declared.fault.PageFault.TheVariants.{Flash, Damaged}
-use Rattle.flash_pages.specs.Cursors.{IsReady, CursorReads, GivesNext, GivesPass, IsLastInPage, StandsAt, page_next, will_read}
-use Rattle.flash_pages.specs.Reads.{WasGiven, page_after}
+use Rattle.flash_pages.specs.Cursors.{IsReady, CursorReads, GivesNext, GivesPass, LeavesUnread, StandsAt, id_in, unread_list, will_read}
+use Rattle.flash_pages.specs.Reads.{WasGiven}
 use Rattle.ghost_model.specs.forms.Runs as runs
-use Rattle.ghost_model.specs.forms.Runs.{ids_from, per_page}
+use Rattle.ghost_model.specs.forms.Gaps.{listed, listed_from}
 use Rattle.ghost_base.specs.declared.runs.ListRef.{ListRef}
 use Rattle.ghost_base.specs.Runs.{run_of}
 use Rattle.flash_pages.specs.declared.cursor.RunCursor.{RunCursor}
-use Rattle.flash_pages.specs.Cursors.{SameList, IsNext, GivesId, Passes, PassesTo, ids_left, place}
+use Rattle.flash_pages.specs.Cursors.{SameList, IsNext, GivesId, Passes, PassesTo, ids_left}
 use Rattle.id_merge.specs.declared.cursor.Cursor.{Cursor}
 use Rattle.id_merge.specs.declared.cursor.Cursor.TheVariants.{List as OfList}
-use Rattle.id_merge.specs.Cursors.{IsLeft, ListAscends, IsOfRows, IsRight, IsAtMost, Passed, GoesOn, at_hand_of, id_in, id_before, unread_list}
-use Rattle.id_merge.specs.Merges.{MadeOne, MadeNone, FailedOne}
-use Rattle.id_merge.specs.Moving.{Advances, RunMoves, CallIf}
-use Rattle.id_merge.proofs.Counts.{call_of, none_made, one_made}
-use Rattle.id_merge.proofs.Unread.{unread_on, unread_stays, unread_failed}
+use Rattle.id_merge.specs.Cursors.{IsLeft, ListAscends, IsOfRows, IsRight, IsAtMost, Passed, GoesOn, at_hand_of, id_before}
+use Rattle.id_merge.specs.Merges.{MadeNone, FailedOne}
+use Rattle.id_merge.specs.Moving.{Advances, RunMoves, CallIf, tries_left}
+use Rattle.id_merge.proofs.Counts.{call_of, none_made}
+use Rattle.id_merge.proofs.Unread.{bit_most}
 
 -- the list's identifiers go by the list alone
 pub id_same : (page : ℕ → List ℕ) (before now : RunCursor) → SameList before now → (i : ℕ) → id_in page now i ≡ id_in page before i
-id_same page before now same i = ap (λ (list : ListRef). runs.id_at page (run_of list.run) (list.first + i)) same.list
+id_same page before now same i = ap (λ (list : ListRef). listed page (run_of list.run) list.first i) same.list
 
 pub count_same : (before now : RunCursor) → SameList before now → now.list.count ≡ before.list.count
 count_same before now same = ap (λ (list : ListRef). list.count) same.list
 
--- the first of some identifiers is that of the first record
-first_of : (page : ℕ → List ℕ) (run : runs.Run) (at n id : ℕ) (rest : List ℕ) → 0 < n → ids_from page run at n ≡ id ∷ rest → id ≡ runs.id_at page run at
-unfolding ids_from
-first_of page run at zero id rest some is = absurd (omega arith)
-first_of page run at (suc n) id rest some is = cc
+-- the first of the identifiers from a number on is that of the number
+first_of :
+    (page : ℕ → List ℕ) (run : runs.Run) (begin at n id : ℕ) (rest : List ℕ) → 0 < n → listed_from page run begin at n ≡ id ∷ rest
+    → id ≡ listed page run begin at
+unfolding listed_from
+first_of page run begin at zero id rest some is = absurd (omega arith)
+first_of page run begin at (suc n) id rest some is = cc
 
 pub next_id :
     {page : ℕ → List ℕ} {before now : RunCursor} {id : ℕ} → before.at < before.list.count → GivesId page before now id
     → id ≡ id_in page before before.at
 next_id {page = page} {before = before} {now = now} {id = id} more gives =
-    first_of page (run_of before.list.run) (place before) (before.list.count - before.at) id (ids_left page now) (omega arith) gives.left
+    first_of page (run_of before.list.run) before.list.first before.at (before.list.count - before.at) id (ids_left page now) (omega arith) gives.left
 
 -- an identifier that is still to come after a call was so before it
 still_left :
@@ -54,7 +55,7 @@ still_left page before now id same further left = record {
   is = left.is ∙ id_same page before now same left.at;
 }
 
--- an identifier to come of a cursor that goes on to a later record, from that record on
+-- an identifier to come of a cursor that goes on to a later one, from that one on
 later_left :
     (page : ℕ → List ℕ) (before now : RunCursor) (id : ℕ) → SameList before now → (left : IsLeft page before id) → now.at ≤ left.at → IsLeft page now id
 later_left page before now id same left from = record {
@@ -64,7 +65,7 @@ later_left page before now id same left from = record {
   is = left.is ∙ sym (id_same page before now same left.at);
 }
 
--- a cursor that stands after a record of the list, whose identifier is its last one, ascends as before
+-- a cursor that stands after an identifier of the list, which is its last one, ascends as before
 pub ascends_on :
     (page : ℕ → List ℕ) (before now : RunCursor) → SameList before now → before.at < now.at → now.at ≤ before.list.count
     → now.last ≡ id_in page before (now.at - 1) → ListAscends page before → ListAscends page now
@@ -92,7 +93,7 @@ ascends_on page before now same further within last was = record {
       );
 }
 
--- what was ahead of it, and is not below an identifier above that of each record passed over, still is
+-- what was ahead of it, and is not below an identifier above each passed over, still is
 pub advances_on :
     (page right : ℕ → List ℕ) (low : ℕ) (before now : RunCursor) → SameList before now → before.at < now.at → now.at ≤ before.list.count
     → now.last ≡ id_in page before (now.at - 1) → IsOfRows before now.last → before.last < low → now.last < low ⊎ (now.at ≡ before.at + 1)
@@ -145,10 +146,6 @@ pub before_is : (page : ℕ → List ℕ) (run : RunCursor) (i : ℕ) → 0 < i 
 before_is page run zero some = absurd (omega arith)
 before_is page run (suc i) some = let e : i ≡ suc i - 1 = omega arith in ap (id_in page run) e
 
-bit_most : (b : Bool) → (if b then 1 else 0) ≤ 1
-bit_most true = omega arith
-bit_most false = omega arith
-
 pub run_stays :
     {T : Type 0} {told : Bool} {before now : Device} {pool later : Pool} (low : ℕ) (old new : RunCursor) {result : Result T PageFault}
     → CursorReads told before now pool later old result → IsReady told now later new → SameList old new → new ≡ old
@@ -162,7 +159,12 @@ run_stays {told = told} {before = before} low old new read ready list is = recor
     list = list.list;
     rows = list.rows;
     lease = list.lease;
-    stands = inl (record { at = ap (λ (run : RunCursor). run.at) is; last = ap (λ (run : RunCursor). run.last) is });
+    stands =
+        inl (record {
+          at = ap (λ (run : RunCursor). run.at) is;
+          place = ap (λ (run : RunCursor). run.place) is;
+          last = ap (λ (run : RunCursor). run.last) is;
+        });
   };
   at_most = λ most was. let P : RunCursor → Type 0 = λ run. IsAtMost most (OfList run) in subst P (sym is) was;
   hand = λ last.
@@ -196,7 +198,7 @@ run_goes {told = told} {before = before} low old new read ready list further wit
     });
   };
   at_most = λ most was. (omega (arith, was.0, list.rows), omega (arith, was.0));
-  hand = λ floor. omega (arith, count_same old new list, bit_most (nat_lt floor new.last));
+  hand = λ floor. omega (arith, count_same old new list, list.rows, bit_most (nat_lt floor new.last));
   advances = λ tells right was.
       advances_on before.page right low old new list further within (last tells) (record { some = omega arith; within = rows }) below passed was;
 }
@@ -235,63 +237,29 @@ next_moves low old new (Ok (Some id)) below more read ready list gives step in_o
 next_moves low old new (Ok None) below more read ready list gives step in_order fault = absurd (omega (arith, step.0))
 next_moves low old new (Err e) below more read ready list gives step in_order fault = run_stays low old new read ready list fault
 
--- what the call counts, whether it read the page or not
-pub some_records : {told : Bool} {device : Device} {pool : Pool} {run : RunCursor} → IsReady told device pool run → 0 < per_page run.list.run.width
-some_records {run = run} ready = omega (arith, le-div 1 2048 run.list.run.width ready.run.some (omega (arith, ready.run.fits)))
-
--- only a read fails
+-- what the call counts, whether it read the page or not: only a read fails
 abbrev pub ReadTells : {T : Type 0} → (reads : Bool) → (before now : Device) → (unread left : ℕ) → Result T PageFault → Type 0
 ReadTells reads before now unread left (Ok answer) = CallIf reads before now unread left
 ReadTells reads before now unread left (Err Flash) = (reads ≡ true) × FailedOne before now unread left
 ReadTells reads before now unread left (Err (Damaged number slot found)) = CallIf reads before now unread left
 
-fail_tells :
-    {T : Type 0} {told : Bool} {before now : Device} {pool later : Pool} (old new : RunCursor) (e : PageFault)
-    → old.at < old.list.count → CursorReads {T = T} told before now pool later old (Err e) → new ≡ old
-    → page_at later old.lease ≡ page_after {T = T} (Err e) (page_next old)
-    → ReadTells {T = T} (will_read pool old) before now (unread_list pool old) (unread_list later new) (Err e)
-fail_tells {before = before} {pool = pool} {later = later} old new Flash more read is held = (
+pub read_tells :
+    {T : Type 0} {told : Bool} {before now : Device} {pool later : Pool} (old new : RunCursor) (result : Result T PageFault)
+    → CursorReads told before now pool later old result → LeavesUnread (will_read pool old) (unread_list pool old) (unread_list later new) result
+    → ReadTells (will_read pool old) before now (unread_list pool old) (unread_list later new) result
+read_tells {pool = pool} {later = later} old new (Ok answer) read unread =
+    call_of _ _ _ (unread_list later new) (will_read pool old) read.calls read.deep_reads read.no_fault unread
+read_tells {before = before} old new (Err Flash) read unread = (
   read.fault.made,
   record {
     calls = read.calls ∙ ap (λ (r : Bool). next_if r before.calls) read.fault.made;
     cause = read.fault.cause;
     last = read.fault.last;
-    as_many = unread_failed pool later old new is held more read.fault.made;
+    as_many = unread;
   },
 )
-fail_tells {pool = pool} {later = later} old new (Damaged number slot found) more read is held =
-    call_of _ _ _ (unread_list later new) (will_read pool old) read.calls read.deep_reads read.fault (unread_stays pool later old new is held)
-
-pub next_tells :
-    {told : Bool} {before now : Device} {pool later : Pool} (old new : RunCursor) (result : Result (Option ℕ) PageFault)
-    → old.at < old.list.count → 0 < per_page old.list.run.width
-    → CursorReads told before now pool later old result → SameList old new
-    → IfOk result (λ next. MatchOption next ((old.at ≡ old.list.count) × (new ≡ old)) (λ _. (old.at < old.list.count) × (new.at ≡ old.at + 1)))
-    → OnErr result (new ≡ old) → page_at later old.lease ≡ page_after result (page_next old)
-    → ReadTells (will_read pool old) before now (unread_list pool old) (unread_list later new) result
-next_tells {pool = pool} {later = later} old new (Ok (Some id)) more some read list step fault held =
-    let here : new.at - 1 ≡ old.at = omega (arith, step.1) in
-    call_of _ _ _ (unread_list later new) (will_read pool old) read.calls read.deep_reads read.no_fault
-    (unread_on pool later old new list some (omega (arith, step.1)) (omega (arith, step.1))
-    (ap (λ i. runs.page_of (run_of old.list.run) (old.list.first + i)) here) held)
-next_tells old new (Ok None) more some read list step fault held = absurd (omega (arith, step.0))
-next_tells old new (Err e) more some read list step fault held = fail_tells old new e more read fault held
-
-pub pass_tells :
-    {told : Bool} {before now : Device} {pool later : Pool} (low : ℕ) (old new : RunCursor) (result : Result Bool PageFault)
-    → old.at < old.list.count → 0 < per_page old.list.run.width
-    → CursorReads told before now pool later old result → SameList old new
-    → IfOk result (λ passed. passed ≡ true → Passes old new low) → IfOk result (λ passed. passed ≡ true → IsLastInPage old (new.at - 1))
-    → IfOk result (λ passed. passed ≡ false → new ≡ old)
-    → OnErr result (new ≡ old) → page_at later old.lease ≡ page_after result (page_next old)
-    → ReadTells (will_read pool old) before now (unread_list pool old) (unread_list later new) result
-pass_tells {pool = pool} {later = later} low old new (Ok true) more some read list passes whole stays fault held =
-    let p = passes refl in
-    call_of _ _ _ (unread_list later new) (will_read pool old) read.calls read.deep_reads read.no_fault
-    (unread_on pool later old new list some (omega (arith, p.further)) p.within (whole refl).same_page held)
-pass_tells {pool = pool} {later = later} low old new (Ok false) more some read list passes whole stays fault held =
-    call_of _ _ _ (unread_list later new) (will_read pool old) read.calls read.deep_reads read.no_fault (unread_stays pool later old new (stays refl) held)
-pass_tells low old new (Err e) more some read list passes whole stays fault held = fail_tells old new e more read fault held
+read_tells {pool = pool} {later = later} old new (Err (Damaged number slot found)) read unread =
+    call_of _ _ _ (unread_list later new) (will_read pool old) read.calls read.deep_reads read.fault unread
 
 -- without a read, no call
 pub quiet_read :
@@ -301,12 +269,30 @@ quiet_read (Ok answer) none tells = none_made none tells
 quiet_read (Err Flash) none tells = absurd (cc)
 quiet_read (Err (Damaged number slot found)) none tells = none_made none tells
 
-pub read_made :
-    {T : Type 0} {reads : Bool} {before now : Device} {unread left : ℕ} (result : Result T PageFault) (answer : T) → result ≡ Ok answer
-    → reads ≡ true → ReadTells reads before now unread left result → MadeOne before now unread left
-read_made {T = T} {reads = reads} {before = before} {now = now} {unread = unread} {left = left} result answer is some tells =
-    let P : Result T PageFault → Type 0 = ReadTells reads before now unread left in
-    one_made some (subst P is tells)
+-- what is counted where an answer came
+pub ok_tells :
+    {T : Type 0} {reads called : Bool} (before now : Device) (unread left : ℕ) (result : Result T PageFault) (answer : T) → result ≡ Ok answer
+    → reads ≡ called → ReadTells called before now unread left result → CallIf reads before now unread left
+ok_tells {T = T} {called = called} before now unread left result answer is same tells =
+    let P : Result T PageFault → Type 0 = ReadTells called before now unread left in
+    let Q : Bool → Type 0 = λ reads. CallIf reads before now unread left in
+    subst Q (sym same) (subst P is tells)
+
+-- an identifier was taken
+pub took_fewer :
+    (old new : RunCursor) (result : Result (Option ℕ) PageFault) (answer : Option ℕ) → result ≡ Ok answer → old.at < old.list.count → SameList old new
+    → IfOk result (λ next. MatchOption next ((old.at ≡ old.list.count) × (new ≡ old)) (λ _. (old.at < old.list.count) × (new.at ≡ old.at + 1)))
+    → tries_left new false < tries_left old false
+took_fewer old new result (Some id) is more list step =
+    let P : Result (Option ℕ) PageFault → Type 0 = λ result.
+    IfOk result (λ next. MatchOption next ((old.at ≡ old.list.count) × (new ≡ old)) (λ _. (old.at < old.list.count) × (new.at ≡ old.at + 1))) in
+    let taken : (old.at < old.list.count) × (new.at ≡ old.at + 1) = subst P is step in
+    omega (arith, count_same old new list, taken.1, more)
+took_fewer old new result None is more list step =
+    let P : Result (Option ℕ) PageFault → Type 0 = λ result.
+    IfOk result (λ next. MatchOption next ((old.at ≡ old.list.count) × (new ≡ old)) (λ _. (old.at < old.list.count) × (new.at ≡ old.at + 1))) in
+    let end : (old.at ≡ old.list.count) × (new ≡ old) = subst P is step in
+    absurd (omega (arith, more, end.0))
 
 -- two calls, one after the other
 pub advance_trans :
@@ -318,14 +304,24 @@ advance_trans page right less first second = record {
   same = λ id above ahead. second.same id above (first.same id (omega arith) ahead);
 }
 
+-- a page was tried, and the cursor stands where it stood or farther on
+pub tries_fewer : {told : Bool} {page : ℕ → List ℕ} {before now : RunCursor} → GoesOn told page before now → tries_left now false < tries_left before true
+tries_fewer {before = before} {now = now} goes_on =
+    let count : now.list.count ≡ before.list.count = ap (λ (list : ListRef). list.count) goes_on.list in
+    elim goes_on.stands [
+      | inl stands ↦ omega (arith, count, stands.at)
+      | inr passed ↦ omega (arith, count, passed.further)
+    ]
+
 pub before_same : (page : ℕ → List ℕ) (before now : RunCursor) (i : ℕ) → now.list ≡ before.list → id_before page now i ≡ id_before page before i
 before_same page before now zero same = refl
-before_same page before now (suc i) same = ap (λ (list : ListRef). runs.id_at page (run_of list.run) (list.first + i)) same
+before_same page before now (suc i) same = ap (λ (list : ListRef). listed page (run_of list.run) list.first i) same
 
 stands_trans :
     (told : Bool) (page : ℕ → List ℕ) (a b c : RunCursor) → b.list ≡ a.list → b.rows ≡ a.rows → StandsAt a b ⊎ Passed told page a b
     → StandsAt b c ⊎ Passed told page b c → StandsAt a c ⊎ Passed told page a c
-stands_trans told page a b c list rows (inl first) (inl second) = inl (record { at = second.at ∙ first.at; last = second.last ∙ first.last })
+stands_trans told page a b c list rows (inl first) (inl second) =
+    inl (record { at = second.at ∙ first.at; place = second.place ∙ first.place; last = second.last ∙ first.last })
 stands_trans told page a b c list rows (inl first) (inr second) = inr (record {
   further = omega (arith, first.at, second.further);
   above = omega (arith, first.last, second.above);

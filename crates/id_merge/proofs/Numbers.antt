@@ -1,7 +1,6 @@
--- What a number tells of an identifier, and where it stands.
-use Rattle.std.proofs.Common.{◌≡◌, ℕ, ◌<◌, ◌≤◌, ◌^◌, ◌/◌, inl, inr, Bool, true, false, if◌then◌else◌, ap, sym, refl, subst, Option, None, Some, arith}
+-- What a number tells of an identifier.
+use Rattle.std.proofs.Common.{◌≡◌, ℕ, ◌<◌, ◌≤◌, ◌^◌, inl, inr, Bool, true, false, if◌then◌else◌, ap, sym, refl, subst, Option, None, Some, arith}
 use Rattle.std.proofs.lemmas.Bool.{true≢false, false≢true, lt-ltb, le-ltb, le-leb, lt-leb, cases_lt}
-use Rattle.ghost_model.specs.forms.Runs.{per_page}
 use Rattle.id_merge.specs.declared.round.Sought.TheVariants.{Exhausted, At}
 use Rattle.id_merge.specs.Moving.{told_by, lesser_of, sought_at}
 
@@ -48,7 +47,3 @@ sought_some least small = sym (ap sought_at (tells_itself least small))
 
 pub sought_none : (least : ℕ) → 2 ^ 32 ≤ least → Exhausted ≡ sought_at (told_by least)
 sought_none least past = sym (ap sought_at (tells_none least past))
-
--- a page takes 512 identifiers
-pub ids_in_a_page : (width place : ℕ) → width ≡ 4 → place / 512 ≡ place / per_page width
-ids_in_a_page width place is = ap (λ w. place / (2048 / w)) (sym is)

@@ -1,5 +1,5 @@
 -- What a call on one list leaves of several cursors.
-use Rattle.std.proofs.Common.{◌≡◌, ◌≢◌, ◌∙◌, ℕ, ◌+◌, ◌-◌, ◌<◌, ◌≤◌, ◌⊎◌, inl, inr, Bool, true, false, not, ◌&&◌, nat_lt, if◌then◌else◌, List, length, ap, sym, refl, subst, get_or, slice_set, IfSome, IfOk, IfErr, Option, None, Some, Result, Ok, Err, arith}
+use Rattle.std.proofs.Common.{◌≡◌, ◌≢◌, ◌∙◌, ℕ, ◌+◌, ◌<◌, ◌≤◌, ◌⊎◌, inl, inr, Bool, true, false, not, ◌&&◌, nat_lt, if◌then◌else◌, List, length, ap, sym, refl, subst, get_or, slice_set, IfSome, IfOk, IfErr, Option, None, Some, Result, Ok, Err, arith}
 use Rattle.std.proofs.lemmas.Bool.{cases_eq}
 use Rattle.std.proofs.lemmas.List.{get_or-set_same, get_or-set_other, get_or_default, length-set}
 use Rattle.edge_traits.specs.Devices.{Device, KeepsPages, GaveSince}
@@ -10,7 +10,7 @@ use Rattle.page_pool.proofs.Leases.{out_kept, outs_kept, change_elsewhere}
 use Rattle.flash_pages.specs.declared.cursor.RunCursor.{RunCursor}
 use Rattle.flash_pages.specs.declared.fault.PageFault.{PageFault}
 use Rattle.flash_pages.specs.declared.fault.PageFault.TheVariants.{Flash, Damaged}
-use Rattle.flash_pages.specs.Cursors.{IsReady, IsPageOf, SameList, StandsAt, BlamesNext, page_next}
+use Rattle.flash_pages.specs.Cursors.{IsReady, IsPageOf, SameList, StandsAt, StandsInRun, BlamesNext, page_next, pages_behind, unread_list}
 use Rattle.flash_pages.specs.Holding.{is_apart}
 use Rattle.flash_pages.specs.Reads.{IsFilled, WasGiven}
 use Rattle.ghost_model.specs.forms.Runs as runs
@@ -19,7 +19,7 @@ use Rattle.ghost_base.specs.Runs.{run_of}
 use Rattle.id_merge.specs.declared.cursor.Cursor.{Cursor}
 use Rattle.id_merge.specs.declared.cursor.Cursor.TheVariants.{List as OfList, Range}
 use Rattle.id_merge.specs.Since.{Since, IsSince, MayBlame, FaultIsBlamed}
-use Rattle.id_merge.specs.Cursors.{cursor_at, nothing, leases_of, page_last, unread_list, unread_of, unread_in, at_hand_of, CursorRight, IsAtMost, CursorReady, AllReady, ListAscends, ListGiven, CursorGiven, AllGiven, Passed, GoesOn, SameSource, FaultBlames, BlamesLists, DamagesLists}
+use Rattle.id_merge.specs.Cursors.{cursor_at, nothing, leases_of, unread_of, unread_in, at_hand_of, CursorRight, IsAtMost, CursorReady, AllReady, ListAscends, ListGiven, CursorGiven, AllGiven, Passed, GoesOn, SameSource, FaultBlames, BlamesLists, DamagesLists}
 use Rattle.id_merge.specs.Merges.{FailTells}
 use Rattle.id_merge.specs.Moving.{Advances, RunMoves, Reaches, CallIf, DamagesRun, Stands, IsAtEndOrFrom}
 use Rattle.id_merge.proofs.SinceLaws.{may_then, may_of, list_blamed, none_damaged}
@@ -53,8 +53,9 @@ given_still {before = before} {now = now} {pool = pool} {later = later} {lease =
 pub ready_still :
     {told : Bool} {before now : Device} {pool later : Pool} (run : RunCursor) → KeepsPages before now → KeepsOut pool later
     → SameBuffer pool later run.lease → IsReady told before pool run → IsReady told now later run
-ready_still {pool = pool} run kept out same was =
+ready_still {told = told} {pool = pool} run kept out same was =
     let P : Option ℕ → Type 0 = λ page. IfSome page (IsPageOf (run_of run.list.run)) in
+    let Q : (ℕ → List ℕ) → Type 0 = λ page. StandsInRun told page run in
     record {
       run = record {
         some = was.run.some;
@@ -64,7 +65,8 @@ ready_still {pool = pool} run kept out same was =
       };
       width = was.width;
       list = was.list;
-      place = was.place;
+      at = was.at;
+      stands = subst Q (sym kept.page) was.stands;
       page = subst P (sym same.filled) was.page;
       buffer = record { out = out_kept out was.buffer.out; filled = filled_kept _ kept same was.buffer.filled };
     }
@@ -150,7 +152,7 @@ list_moves {told = told} {before = before} {now = now} {later = later} since old
       read = subst P (sym moves.goes_on.lease) (moves.given since.calls is.calls was.read);
       may = subst R (sym (ap (λ (list : ListRef). run_of list.run) moves.goes_on.list))
           (may_then
-          (λ tells ascends. subst Q (sym moves.kept.page) (goes_ascends old new (sym is.tells ∙ tells) moves.ready.place moves.goes_on ascends))
+          (λ tells ascends. subst Q (sym moves.kept.page) (goes_ascends old new (sym is.tells ∙ tells) moves.ready.at moves.goes_on ascends))
           was.may);
     }
 
@@ -172,7 +174,7 @@ given_other since (OfList run) kept same was = list_still since run kept (same r
 given_other since (Range low high) kept same was = tt
 
 pub same_source : (told : Bool) (page : ℕ → List ℕ) (cursor : Cursor) → SameSource told page cursor cursor
-same_source told page (OfList run) = record { list = refl; rows = refl; lease = refl; stands = inl (record { at = refl; last = refl }) }
+same_source told page (OfList run) = record { list = refl; rows = refl; lease = refl; stands = inl (record { at = refl; place = refl; last = refl }) }
 same_source told page (Range low high) = refl
 
 pub advance_none : (page right : ℕ → List ℕ) (low : ℕ) (cursor : Cursor) → CursorRight page right cursor → Advances page right low cursor cursor
@@ -237,7 +239,7 @@ blames_set {device = device} since cursors i new within (Err (Damaged number slo
   run = new;
   is = get_or-set_same cursors i (OfList new) nothing within;
   may = may_of (λ told ascends. none_damaged device.page new found ascends (damages (sym tells ∙ told)).damage) given.may;
-  inside = ready.list;
+  inside = ready.stands.within blames.within;
   blames = blames;
 }
 
@@ -270,7 +272,7 @@ pub unread_other :
     {pool later : Pool} (cursor : Cursor) → ((run : RunCursor) → cursor ≡ OfList run → SameBuffer pool later run.lease)
     → unread_of later cursor ≡ unread_of pool cursor
 unread_other (OfList run) same =
-    ap (λ (page : Option ℕ). (page_last run - page_next run) + (if nat_lt run.at run.list.count && is_apart page (page_next run) then 1 else 0)) (same run refl).filled
+    ap (λ (page : Option ℕ). pages_behind run + (if nat_lt run.at run.list.count && is_apart page (page_next run) then 1 else 0)) (same run refl).filled
 unread_other (Range low high) same = refl
 
 pub unread_set :
@@ -310,7 +312,7 @@ at_place cursors i d cursor within is = sym (get_or_default cursors i d nothing 
 
 still : (told : Bool) (device : Device) (pool : Pool) (low : ℕ) (cursor : Cursor) → CursorReady told device pool cursor → IsAtEndOrFrom low cursor → Stands low cursor
 still told device pool low (OfList run) ready stays =
-    λ below. elim stays [ inl from ↦ absurd (omega (arith, from, below)) | inr end ↦ omega (arith, end, ready.place) ]
+    λ below. elim stays [ inl from ↦ absurd (omega (arith, from, below)) | inr end ↦ omega (arith, end, ready.at) ]
 still told device pool low (Range first last) ready stays = tt
 
 -- a cursor that is not behind stands where it is

@@ -1,10 +1,10 @@
 -- What cursors keep where others write other pages and use other buffers, and how much is left of them at most.
-use Rattle.std.proofs.Common.{◌≡◌, ℕ, zero, suc, ◌+◌, ◌-◌, ◌*◌, ◌/◌, ◌^◌, ◌<◌, ◌≤◌, ◌⊎◌, inl, inr, Bool, true, List, [], ◌∷◌, length, get_or, nat_lt, mul-le-mul, ap, sym, refl, subst, arith}
+use Rattle.std.proofs.Common.{◌≡◌, ℕ, zero, suc, ◌+◌, ◌-◌, ◌*◌, ◌/◌, ◌%◌, ◌^◌, ◌<◌, ◌≤◌, ◌⊎◌, inl, inr, Bool, true, List, [], ◌∷◌, length, get_or, nat_lt, ap, sym, refl, subst, arith}
 use Rattle.std.proofs.lemmas.Bool.{cases_lt}
-use Rattle.std.proofs.lemmas.Nat.{div-add-mod', div_below}
+use Rattle.std.proofs.lemmas.Nat.{div-add-mod'}
 use Rattle.std.proofs.Math.Nat.{mod-lt}
 use Rattle.std.proofs.lemmas.List.Sums.{sum_by-cons}
-use Rattle.ghost_model.specs.forms.Runs.{page_of, per_page}
+use Rattle.ghost_model.specs.forms.Runs.{page_of}
 use Rattle.ghost_base.specs.declared.runs.ListRef.{ListRef}
 use Rattle.ghost_base.specs.Runs.{run_of}
 use Rattle.edge_traits.specs.Devices.{Device, SamePage, ChangesOnly}
@@ -12,17 +12,17 @@ use Rattle.page_pool.specs.Pools.{Pool}
 use Rattle.page_pool.specs.Laws.{SameBuffer}
 use Rattle.page_pool.proofs.Leases.{outs_kept}
 use Rattle.flash_pages.specs.declared.cursor.RunCursor.{RunCursor}
-use Rattle.flash_pages.specs.Cursors.{IsReady, page_next, will_read}
+use Rattle.flash_pages.specs.Cursors.{IsReady, Codes, Records, page_last, page_next, unread_list, will_read}
 use Rattle.flash_pages.proofs.LeaseFrames.{given_kept}
 use Rattle.id_merge.specs.declared.cursor.Cursor.{Cursor}
 use Rattle.id_merge.specs.declared.cursor.Cursor.TheVariants.{List as OfList, Range}
 use Rattle.id_merge.specs.Since.{Since}
-use Rattle.id_merge.specs.Cursors.{cursor_at, leases_of, page_last, unread_list, unread_of, unread_in, at_hand_of, at_hand_in, IsAtMost, CursorReady, CursorGiven, ListAscends, SameSource}
+use Rattle.id_merge.specs.Cursors.{cursor_at, leases_of, unread_of, unread_in, at_hand_of, at_hand_in, IsAtMost, CursorReady, CursorGiven, ListAscends, SameSource}
 use Rattle.id_merge.specs.Spared.{LiesOutside, CursorsStayReady, MergeStaysReady, CursorsStayRight, CursorsStayGiven, UnreadStays, OutsideStays, MergeIsSmall}
 use Rattle.id_merge.proofs.Holding.{lease_of_same}
-use Rattle.id_merge.proofs.ListReads.{some_records}
 use Rattle.id_merge.proofs.SinceLaws.{may_then}
-use Rattle.id_merge.proofs.Laws.{SamePages, id_same, all_ready_same, all_right_same, unread_same, bit_most}
+use Rattle.id_merge.proofs.Laws.{SamePages, id_same, all_ready_same, all_right_same, unread_same}
+use Rattle.id_merge.proofs.Unread.{bit_most, few_codes, records_behind}
 
 -- the buffer of a list is one of theirs
 pub buffer_spared :
@@ -125,44 +125,47 @@ pub outside_stays : OutsideStays
 outside_stays low high told before now pool later old new moves outside i =
     outside_same told before.page low high (cursor_at old i) (cursor_at new i) (moves.same i) (outside i)
 
--- a record's page and number are bounded by the pages that there are
-at_most_of : (q pages : ℕ) → q < pages → pages ≤ 2 ^ 32 → q + 1 ≤ 2 ^ 32
-at_most_of q pages below small = omega (arith, below, small)
+-- the places of a run are bounded by the pages that there are
+few_places : (i pages : ℕ) → i / 2048 < pages → pages < 2 ^ 32 → i < 2 ^ 43
+few_places i pages below small =
+    let some : 0 < 2048 = omega arith in
+    let slot : i % 2048 < 2048 = mod-lt i some in
+    omega (arith, div-add-mod' i 2048, slot, below, small)
 
-few_records : (i n pages : ℕ) → 0 < n → n ≤ 512 → i / n < pages → pages ≤ 2 ^ 32 → i < 2 ^ 41
-few_records i n pages some few below small =
-    let whole : (i / n + 1) * n ≤ 2 ^ 32 * 512 = mul-le-mul (at_most_of (i / n) pages below small) few in
-    omega (arith, div-add-mod' i n, mod-lt i some, whole)
-
-few_of_list :
-    (told : Bool) (device : Device) (pool : Pool) (last : ℕ) (run : RunCursor) → IsReady told device pool run
-    → unread_list pool run + at_hand_of last (OfList run) ≤ 2 ^ 41 + 2 ^ 32 + 1
-few_of_list told device pool last run ready =
+few_pages :
+    (told : Bool) (device : Device) (pool : Pool) (run : RunCursor) → IsReady told device pool run → unread_list pool run ≤ 2 ^ 35
+few_pages told device pool run ready =
     elim (cases_lt 0 run.list.count) [
       | inl some ↦
-          let n = per_page run.list.run.width in
-          let at = run.list.first + (run.list.count - 1) in
-          let there = ready.run.pages at (omega (arith, some, ready.list)) in
-          let fits : 0 < n = some_records ready in
-          let few : n < 513 = div_below 2048 run.list.run.width 513 ready.run.some (omega (arith, ready.width)) in
-          let number = few_records at n device.page_count fits (omega (arith, few)) (omega (arith, there)) (omega (arith, ready.run.small)) in
-          omega (arith, there, ready.run.small, number, bit_most (will_read pool run), bit_most (nat_lt last run.last))
-      | inr none ↦
-          let here : run.list.first + (run.list.count - 1) ≡ run.list.first + run.at = omega (arith, none, ready.place) in
-          let same : page_last run ≡ page_next run = ap (λ place. page_of (run_of run.list.run) place) here in
-          omega (arith, none, same, ready.place, bit_most (will_read pool run), bit_most (nat_lt last run.last))
+          let there = ready.run.pages (run.list.first + (run.list.count - 1)) (omega (arith, some, ready.list)) in
+          elim ready.width [
+            | Codes width ↦
+                let P : ℕ → Type 0 = λ w. run.list.run.first + (run.list.first + (run.list.count - 1)) / (2048 / w) < device.page_count in
+                let page = subst P width there in
+                let few = few_places (run.list.first + (run.list.count - 1)) device.page_count (omega (arith, page)) ready.run.small in
+                omega (arith, few_codes pool run width, few)
+            | Records width ↦ omega (arith, records_behind run width, there, ready.run.small, bit_most (will_read pool run))
+          ]
+      | inr none ↦ elim ready.width [
+        | Codes width ↦ omega (arith, few_codes pool run width, none)
+        | Records width ↦
+            let here : run.list.first + (run.list.count - 1) ≡ run.place = omega (arith, none, ready.at, ready.stands.record_is width) in
+            let same : page_last run ≡ page_next run = ap (λ place. page_of (run_of run.list.run) place) here in
+            omega (arith, records_behind run width, same, bit_most (will_read pool run))
+      ]
     ]
 
 few_of :
     (told : Bool) (device : Device) (pool : Pool) (rows last : ℕ) (cursor : Cursor) → rows < 2 ^ 32 → CursorReady told device pool cursor → IsAtMost rows cursor
-    → unread_of pool cursor + at_hand_of last cursor ≤ 2 ^ 41 + 2 ^ 32 + 1
-few_of told device pool rows last (OfList run) few ready most = few_of_list told device pool last run ready
+    → unread_of pool cursor + at_hand_of last cursor ≤ 2 ^ 36
+few_of told device pool rows last (OfList run) few ready most =
+    omega (arith, few, most.0, few_pages told device pool run ready, bit_most (nat_lt last run.last))
 few_of told device pool rows last (Range low high) few ready most = omega (arith, few, most)
 
 few_in :
     (told : Bool) (device : Device) (pool : Pool) (rows last : ℕ) (cursors : List Cursor) → rows < 2 ^ 32
     → ((i : ℕ) → CursorReady told device pool (cursor_at cursors i)) → ((i : ℕ) → IsAtMost rows (cursor_at cursors i))
-    → unread_in pool cursors + at_hand_in last cursors ≤ length cursors * (2 ^ 41 + 2 ^ 32 + 1)
+    → unread_in pool cursors + at_hand_in last cursors ≤ length cursors * 2 ^ 36
 few_in told device pool rows last [] few ready most = omega arith
 few_in told device pool rows last (cursor ∷ cursors) few ready most =
     omega (

@@ -9,12 +9,13 @@ use Rattle.page_pool.proofs.Leases.{others_trans, others_kept}
 use Rattle.flash_pages.specs.declared.cursor.RunCursor.{RunCursor}
 use Rattle.id_merge.specs.declared.cursor.Cursor.{Cursor}
 use Rattle.id_merge.specs.declared.cursor.Cursor.TheVariants.{List as OfList, Range}
-use Rattle.id_merge.specs.Cursors.{cursor_at, leases_of, CursorRight, AreRight, ListAscends, IsAtMost, AllAtMost, HasAhead, SameSource, Moves}
-use Rattle.id_merge.specs.Merges.{InUnion}
+use Rattle.id_merge.specs.Cursors.{cursor_at, leases_of, CursorRight, AreRight, AllReady, ListAscends, IsAtMost, AllAtMost, HasAhead, SameSource, Moves, unread_in}
+use Rattle.id_merge.specs.Merges.{InUnion, MadeNone}
 use Rattle.id_merge.specs.declared.round.Sought.{Sought}
 use Rattle.id_merge.specs.Moving.{sought_at, IsSought, SoughtFrom, HasHead, IsHead, AllAdvance, Reaches, Stands, head_from, lesser_of, IsLeastFrom}
 use Rattle.id_merge.proofs.SinceLaws.{since_later}
 use Rattle.id_merge.proofs.ListReads.{advance_trans, goes_trans}
+use Rattle.id_merge.proofs.Setting.{advance_none, same_source}
 
 source_trans :
     (told : Bool) (page page' : ℕ → List ℕ) (a b c : Cursor) → page' ≡ page → SameSource told page a b → SameSource told page' b c → SameSource told page a c
@@ -69,6 +70,42 @@ reaches_trans {low' = low'} {a = a} {x = x} {y = y} {z = z} less first second = 
   advances = λ tells right was i.
       advance_trans a.page right less (first.advances tells right was i) (advance_next x y z first second tells right was i);
 }
+
+-- nothing was done
+pub reaches_none :
+    {told : Bool} (low : ℕ) {device : Device} {pool : Pool} (cursors : List Cursor) → AllReady told device pool cursors
+    → Reaches told low device device pool pool cursors cursors
+reaches_none {told = told} low {device = device} cursors ready = record {
+  moves = record {
+    kept = record { name = refl; page_count = refl; page = refl; blank = refl; never_falls = omega arith; gave = λ at page bytes is. is };
+    out = refl;
+    others = record { size = refl; bytes = λ other was. refl; filled = λ other was. refl };
+    given = λ since from was. was;
+    count = refl;
+    same = λ i. same_source told device.page (cursor_at cursors i);
+    leases = refl;
+    at_most = λ most was. was;
+  };
+  ready = ready;
+  hand = λ last. omega arith;
+  advances = λ tells right was i. advance_none device.page right low (cursor_at cursors i) (was i);
+}
+
+-- the cursor at a place was brought to its first identifier from `low` on, without a call of the flash
+pub record Brought (told : Bool) (low : ℕ) (i : ℕ) (before now : Device) (pool later : Pool) (old new : List Cursor) : Type 0 where
+  pub reaches : Reaches told low before now pool later old new
+  pub quiet : MadeNone before now (unread_in pool old) (unread_in later new)
+  pub stands : Stands low (cursor_at new i)
+  pub others : (k : ℕ) → k ≢ i → cursor_at new k ≡ cursor_at old k
+
+pub brought_same :
+    (told : Bool) (low i : ℕ) (before : Device) (pool : Pool) (old : List Cursor) {now now' : Device} {later later' : Pool} {new new' : List Cursor}
+    → now' ≡ now → later' ≡ later → new' ≡ new → Brought told low i before now pool later old new → Brought told low i before now' pool later' old new'
+brought_same told low i before pool old {now' = now'} {later = later} {later' = later'} {new = new} device is cursors brought =
+    let A : Device → Type 0 = λ now. Brought told low i before now pool later old new in
+    let B : Pool → Type 0 = λ later. Brought told low i before now' pool later old new in
+    let C : List Cursor → Type 0 = λ new. Brought told low i before now' pool later' old new in
+    subst C (sym cursors) (subst B (sym is) (subst A (sym device) brought))
 
 -- the first identifier from `low` on of a cursor that stands there is the least one
 list_head :
