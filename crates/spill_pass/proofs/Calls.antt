@@ -1,7 +1,6 @@
 -- How many calls of the flash are left: in a pass, where a list was taken or a merge went on, and over all passes.
-use Rattle.std.proofs.Common.{◌≡◌, ℕ, zero, suc, ◌+◌, ◌-◌, ◌*◌, ◌/◌, ◌^◌, ◌<◌, ◌≤◌, ◌⊎◌, inl, inr, Bool, mul-le-mul, pow-suc, ap, sym, refl, subst, arith, ◌∙◌}
+use Rattle.std.proofs.Common.{◌≡◌, ℕ, zero, suc, ◌+◌, ◌-◌, ◌*◌, ◌/◌, ◌^◌, ◌<◌, ◌≤◌, ◌⊎◌, inl, inr, Bool, mul-le-mul, pow-suc, ap, sym, subst, arith, ◌∙◌}
 use Rattle.std.specs.Prelude.{Option, Some, None, Ok}
-use Rattle.ghost_model.specs.forms.Runs.{per_page}
 use Rattle.ghost_base.specs.declared.runs.ListRef.{ListRef}
 use Rattle.edge_traits.specs.Devices.{Device}
 use Rattle.page_pool.specs.Pools.{Pool, AreOut, ChangesPage}
@@ -18,6 +17,7 @@ use Rattle.spill_pass.specs.Reducing.{IsNextPass, PassesTo}
 use Rattle.spill_pass.specs.Sources.{Source, SameSource, GaveList}
 use Rattle.spill_pass.proofs.Closing.{none_hand}
 use Rattle.spill_pass.proofs.Grouping.{places_below}
+use Rattle.spill_pass.proofs.FreshLists.{few_pages}
 use Rattle.spill_pass.proofs.PassFrames.{lists_apart, unread_beside}
 use Rattle.spill_pass.proofs.Writing.{pages_below}
 
@@ -72,9 +72,7 @@ pub spent_taken :
     → to + 3 * rest.lists_left ≤ from + 3 * source.lists_left → TookMore told now mid later list old new
     → PassSpent from to pool later source rest old new
 spent_taken {pool = pool} {mid = mid} {later = later} source rest old new list was changes are gave looked more =
-    let width : list.count / per_page list.run.width ≡ list.count / 512 =
-    let P : ℕ → Type 0 = λ w. list.count / (2048 / w) ≡ list.count / 512 in
-    subst P (sym gave.width) refl in
+    let width = few_pages list.run list.count gave.width in
     let group =
     group_spends old new (ids_in_pass source old) (ids_in_pass rest new) 0 0 (list.count / 512 + 2) was more.grouping more.goes.rows more.goes.size
     (omega arith) (omega (arith, more.ids, gave.ids)) (omega (arith, more.calls, width)) in

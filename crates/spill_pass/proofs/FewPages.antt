@@ -1,38 +1,34 @@
 -- How many pages lists take at most.
-use Rattle.std.proofs.Common.{◌≡◌, ℕ, zero, suc, ◌+◌, ◌-◌, ◌*◌, ◌/◌, ◌<◌, ◌≤◌, Bool, true, false, if◌then◌else◌, ap, refl, subst, arith}
-use Rattle.std.proofs.lemmas.Nat.{div-add-mod', le-div}
-use Rattle.ghost_model.specs.forms.Runs.{per_page, pages_of}
+use Rattle.std.proofs.Common.{◌≡◌, ℕ, ◌-◌, ◌*◌, ◌<◌, ◌≤◌, Bool, true, false, if◌then◌else◌, refl, arith}
+use Rattle.ghost_model.specs.forms.Runs.{pages_of}
 use Rattle.flash_pages.specs.declared.filler.RunFiller.{RunFiller}
 use Rattle.flash_pages.specs.Writers.{finish_calls, next_page, waits}
 use Rattle.flash_pages.specs.Writing.{erases, page_calls}
 use Rattle.flash_pages.proofs.Fillings.{whole_pages}
-use Rattle.id_merge.specs.Cursors.{unread_list}
-use Rattle.id_merge.proofs.Laws.{few_unread}
 use Rattle.spill_pass.specs.FewPages.{FreshListIsShort, FreshRecordsAreShort, WritesFewPages}
+use Rattle.spill_pass.specs.Sources.{IsIdWidth, Codes, Identifiers}
+use Rattle.spill_pass.proofs.FreshLists.{few_pages, fresh_pages, pages_most}
 use Rattle.spill_pass.proofs.Going.{some_wait}
 use Rattle.spill_pass.proofs.Writing.{few_page_calls}
 
+some_width : (width : ℕ) → IsIdWidth width → 0 < width
+some_width width (Codes is) = omega (arith, is)
+some_width width (Identifiers is) = omega (arith, is)
+
+small_width : (width : ℕ) → IsIdWidth width → width ≤ 2048
+small_width width (Codes is) = omega (arith, is)
+small_width width (Identifiers is) = omega (arith, is)
+
 pub fresh_list : FreshListIsShort
-fresh_list pool run at width =
-    let P : ℕ → Type 0 = λ n. 0 < n → unread_list pool run ≤ (run.list.count - run.at) / n + 2 in
-    let is : per_page run.list.run.width ≡ 512 = ap per_page width in
-    let few : unread_list pool run ≤ (run.list.count - run.at) / 512 + 2 = subst P is (λ some. few_unread pool run some (omega (arith, at))) (omega arith) in
-    omega (arith, few, at)
-
--- a quotient is no more than what is divided
-quotient_most : (a n : ℕ) → 0 < n → a / n ≤ a
-quotient_most a zero some = absurd (omega (arith, some))
-quotient_most a (suc n) some = omega (arith, div-add-mod' a (suc n))
-
-pub fresh_records : FreshRecordsAreShort
-fresh_records pool run at some fits =
-    let records : 0 < per_page run.list.run.width = omega (arith, le-div 1 2048 run.list.run.width some (omega (arith, fits))) in
+fresh_list pool run fresh width =
     omega (
       arith,
-      few_unread pool run records (omega (arith, at)),
-      quotient_most (run.list.count - run.at) (per_page run.list.run.width) records,
-      at,
+      fresh_pages pool run fresh (some_width run.list.run.width width) (small_width run.list.run.width width),
+      few_pages run.list.run run.list.count width,
     )
+
+pub fresh_records : FreshRecordsAreShort
+fresh_records pool run fresh some fits = omega (arith, fresh_pages pool run fresh some fits, pages_most run.list.run run.list.count some fits)
 
 pub writes_few : WritesFewPages
 writes_few writer width = omega (arith, whole_pages writer 4 writer.count width refl)

@@ -16,7 +16,8 @@ use Rattle.id_merge.specs.declared.cursor.Cursor.TheVariants.{List as OfList, Ra
 use Rattle.id_merge.specs.declared.merge.Merge.{Merge}
 use Rattle.id_merge.specs.declared.merge.Step.{Step}
 use Rattle.id_merge.specs.declared.merge.Step.TheVariants.{More, Found, End}
-use Rattle.id_merge.specs.Cursors.{cursor_at, id_in, AreRight, CursorRight, IsOfRows}
+use Rattle.flash_pages.specs.Cursors.{id_in}
+use Rattle.id_merge.specs.Cursors.{cursor_at, AreRight, CursorRight, IsOfRows}
 use Rattle.id_merge.specs.Merges.{Remains, GivesLeast, GivesStep, GivesEnd, LastAfterStep, IsNewLast, StepTells, HandAfterStep, MadeOne, MadeNone, at_hand}
 use Rattle.spill_pass.specs.declared.merging.MergeInto.{MergeInto}
 use Rattle.spill_pass.specs.Merging.{IsOneOf, AreAscending, Gathers, GathersAll, IsListOf, SameIds, KeepsIds}

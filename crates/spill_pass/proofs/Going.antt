@@ -17,7 +17,7 @@ use Rattle.id_merge.proofs.Sparing.{outside_same}
 use Rattle.spill_pass.specs.declared.merging.MergeInto.{MergeInto}
 use Rattle.spill_pass.specs.Merging.{area_pages, area_end, leases_held, IsMerging, Goes}
 use Rattle.spill_pass.proofs.Holders.{others_move}
-use Rattle.spill_pass.proofs.Over.{list_again, list_kept, list_same, over_same}
+use Rattle.spill_pass.proofs.Over.{list_again, list_kept, list_same}
 use Rattle.spill_pass.proofs.Writing.{page_in_area, pages_below}
 
 moves_out :
@@ -46,7 +46,6 @@ stepped {told = told} {before = before} old merge are moves = record {
   given = moves.given;
   same = λ i. list_kept told before.page (cursor_at old.merge.cursors.items i) (cursor_at merge.cursors.items i) (moves.same i);
   outside = λ low high is i. outside_same told before.page low high (cursor_at old.merge.cursors.items i) (cursor_at merge.cursors.items i) (moves.same i) (is i);
-  over = λ run rows over i. over_same told before.page run rows (cursor_at old.merge.cursors.items i) (cursor_at merge.cursors.items i) (moves.same i) (over i);
   count = moves.count;
   first = refl;
   rows = refl;
@@ -85,7 +84,6 @@ goes_none {device = device} {pool = pool} into are = record {
   given = λ since from given. given;
   same = λ i. list_same (cursor_at into.merge.cursors.items i);
   outside = λ low high is. is;
-  over = λ run rows over. over;
   count = refl;
   first = refl;
   rows = refl;
@@ -110,7 +108,6 @@ goes_trans {pool = pool} {then = then} {later = later} {old = old} {mid = mid} {
       same = λ i.
           list_again (cursor_at old.merge.cursors.items i) (cursor_at mid.merge.cursors.items i) (cursor_at new.merge.cursors.items i) (one.same i) (two.same i);
       outside = λ low high is. two.outside low high (one.outside low high is);
-      over = λ run rows over. two.over run rows (one.over run rows over);
       count = two.count ∙ one.count;
       first = two.first ∙ one.first;
       rows = two.rows ∙ one.rows;

@@ -9,6 +9,8 @@ pub mod SparedLemmas
 pub mod Grouping
 pub mod Closing
 pub mod Over
+pub mod OutOfRows
+pub mod FreshLists
 pub mod Taking
 pub mod Listing
 pub mod Finishing

@@ -1,9 +1,9 @@
 -- How many calls are left by the identifiers that the lists have themselves.
-use Rattle.std.proofs.Common.{◌≡◌, ℕ, suc, ◌+◌, ◌*◌, ◌/◌, ◌^◌, ◌≤◌, ◌⊎◌, Bool, List, [], ◌∷◌, mul-le-mul, ap, sym, refl, subst, arith}
+use Rattle.std.proofs.Common.{◌≡◌, ℕ, suc, ◌+◌, ◌*◌, ◌/◌, ◌^◌, ◌≤◌, ◌⊎◌, Bool, List, [], ◌∷◌, mul-le-mul, ap, sym, subst, arith}
 use Rattle.std.specs.Prelude.{Option, Some, None, Result, Ok, Err, IfOk}
 use Rattle.std.specs.List.{concat}
 use Rattle.std.proofs.lemmas.List.{length-append, length-map}
-use Rattle.ghost_model.specs.forms.Runs.{number_cell, per_page}
+use Rattle.ghost_model.specs.forms.Runs.{number_cell}
 use Rattle.ghost_base.specs.declared.runs.ListRef.{ListRef}
 use Rattle.ghost_base.specs.declared.runs.Run.{Run}
 use Rattle.edge_traits.specs.Devices.{Device}
@@ -27,6 +27,7 @@ use Rattle.spill_pass.specs.Sources.{GaveList, GivesFirst, SameSource, Source}
 use Rattle.spill_pass.proofs.Calls.{after, begins_with, group_spends, more_passes, one_pass}
 use Rattle.spill_pass.proofs.Closing.{none_hand}
 use Rattle.spill_pass.proofs.PassContents.{begun_has, begun_left}
+use Rattle.spill_pass.proofs.FreshLists.{few_pages}
 use Rattle.spill_pass.proofs.PassFrames.{lists_apart, unread_beside}
 use Rattle.spill_pass.proofs.Reducing.{ReadsPlaced}
 
@@ -38,9 +39,7 @@ pub took_spent :
     → (ids_at_hand new + left ≤ ids_at_hand old + ids)
     × (to + calls_over later rest.lists_left left new ≤ from + calls_over pool source.lists_left ids old)
 took_spent from to {pool = pool} {mid = mid} {later = later} source rest old new list ids left was changes are gave looked more fits =
-    let width : list.count / per_page list.run.width ≡ list.count / 512 =
-    let P : ℕ → Type 0 = λ w. list.count / (2048 / w) ≡ list.count / 512 in
-    subst P (sym gave.width) refl in
+    let width = few_pages list.run list.count gave.width in
     let group =
     group_spends old new (ids_at_hand old + ids) (ids_at_hand new + left) 0 0 (list.count / 512 + 2) was more.grouping more.goes.rows more.goes.size
     (omega arith) (omega (arith, more.ids, fits)) (omega (arith, more.calls, width)) in (

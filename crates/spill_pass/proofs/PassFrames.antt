@@ -11,7 +11,8 @@ use Rattle.page_pool.proofs.Leases.{outs_kept, others_kept, others_trans, change
 use Rattle.id_merge.specs.declared.cursor.Cursor.{Cursor}
 use Rattle.id_merge.specs.declared.cursor.Cursor.TheVariants.{List as OfList, Range}
 use Rattle.id_merge.specs.Since.{Since}
-use Rattle.id_merge.specs.Cursors.{cursor_at, id_in, leases_of, unread_in, unread_of, AllGiven}
+use Rattle.flash_pages.specs.Cursors.{id_in}
+use Rattle.id_merge.specs.Cursors.{cursor_at, leases_of, unread_in, unread_of, AllGiven}
 use Rattle.spill_pass.specs.declared.groups.Groups.{Groups}
 use Rattle.spill_pass.specs.Grouping.{IsGrouping, GoesOn, groups_held, places_end}
 use Rattle.spill_pass.specs.Merging.{SameIds, area_pages, area_end}

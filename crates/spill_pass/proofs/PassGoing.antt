@@ -7,12 +7,11 @@ use Rattle.id_merge.specs.Cursors.{leases_of}
 use Rattle.spill_pass.specs.declared.groups.Groups.{Groups}
 use Rattle.spill_pass.specs.declared.groups.PlacedLists.{PlacedLists}
 use Rattle.spill_pass.specs.Grouping.{IsBegun, AreRunsOf, IsGrouping, WentOn, ListStands, groups_held, lists_at_hand}
-use Rattle.spill_pass.specs.Merging.{AllOver, MadeAtMost, area_pages}
+use Rattle.spill_pass.specs.Merging.{MadeAtMost, area_pages}
 use Rattle.spill_pass.specs.Passing.{CanPass, IsPassing, PassGoes, ArePairs, IsComplete, MadeFew, PassWent, PassEnds, pass_held, pass_left}
 use Rattle.spill_pass.specs.Sources.{Source}
 use Rattle.spill_pass.proofs.Closing.{none_hand}
 use Rattle.spill_pass.proofs.Counted.{counts_rose}
-use Rattle.spill_pass.proofs.Over.{over_none, over_of}
 use Rattle.spill_pass.proofs.PassFrames.{buffers_same}
 use Rattle.spill_pass.proofs.PassTaking.{no_truth, outside_still}
 
@@ -28,8 +27,8 @@ complete_same source old new lists (inr (one, end)) = inr (omega (arith, one, li
 pub passing_went :
     {told : Bool} {before now : Device} {pool later : Pool} (source : Source) (old new : Groups) (fan : ℕ)
     → IsPassing told before pool source old fan true → WentOn told now pool later old new → PassGoes before now pool later source source old new
-    → AllOver source.run old.into.rows new.into.merge.cursors.items → IsPassing told now later source new fan true
-passing_went {pool = pool} {later = later} source old new fan is went goes over = record {
+    → IsPassing told now later source new fan true
+passing_went {pool = pool} {later = later} source old new fan is went goes = record {
   grouping = went.grouping;
   leases = goes.still;
   buffers = omega (arith, is.buffers, buffers_same pool later (pass_held source old) (pass_held source new) is.leases goes.still goes.beside);
@@ -44,7 +43,6 @@ passing_went {pool = pool} {later = later} source old new fan is went goes over 
   begins = λ e. absurd (no_truth (sym e));
   complete = λ e. complete_same source old new went.lists (is.complete refl);
   pairs = pairs_same source old new went.lists went.placed goes.size is.pairs;
-  over = over_of new.into.merge.cursors.items refl goes.rows over;
 }
 
 -- a group of two lists or more became one list, or the last one did
@@ -59,8 +57,8 @@ pairs_listed source old new none placed size (inr (one, end)) (inr (half, (no_li
 pub passing_listed :
     {told : Bool} {before now : Device} {pool later : Pool} (source : Source) (old new : Groups) (fan : ℕ)
     → IsPassing told before pool source old fan true → ListStands told now pool later old new → PassGoes before now pool later source source old new
-    → AllOver source.run old.into.rows new.into.merge.cursors.items → IsPassing told now later source new fan false
-passing_listed {pool = pool} {later = later} source old new fan is stands goes over = record {
+    → IsPassing told now later source new fan false
+passing_listed {pool = pool} {later = later} source old new fan is stands goes = record {
   grouping = stands.grouping;
   leases = goes.still;
   buffers = omega (arith, is.buffers, buffers_same pool later (pass_held source old) (pass_held source new) is.leases goes.still goes.beside);
@@ -75,7 +73,6 @@ passing_listed {pool = pool} {later = later} source old new fan is stands goes o
   begins = λ e. stands.none_found;
   complete = λ e. absurd (no_truth e);
   pairs = pairs_listed source old new stands.lists stands.placed goes.size (is.complete refl) is.pairs;
-  over = over_of new.into.merge.cursors.items refl goes.rows over;
 }
 
 -- some lists are at hand
@@ -137,7 +134,6 @@ passing_complete source groups fan is complete = record {
   begins = λ e. absurd (no_truth (sym e));
   complete = λ e. complete;
   pairs = is.pairs;
-  over = is.over;
 }
 
 one_or_more : (n left : ℕ) → 0 < n → left ≡ 0 → (2 ≤ n) ⊎ ((n ≡ 1) × (left ≡ 0))
@@ -214,5 +210,4 @@ pass_begun {pool = pool} told source groups to places rows fan lists_lease place
       begins = λ e. begun.none_found;
       complete = λ e. absurd (no_truth e);
       pairs = inl (omega (arith, none, begun.placed, begun.size));
-      over = over_none source.run groups.into.rows groups.into.merge.cursors.items begun.none;
     }

@@ -1,6 +1,6 @@
 -- What holds of a pass where it took a list, or found none left, and where it went on with its groups.
-use Rattle.std.proofs.Common.{◌≡◌, ◌∙◌, ℕ, ◌+◌, ◌/◌, ◌<◌, ◌≤◌, ◌⊎◌, inl, inr, Bool, true, false, ap, sym, refl, subst, arith}
-use Rattle.ghost_model.specs.forms.Runs.{page_of, per_page}
+use Rattle.std.proofs.Common.{◌≡◌, ℕ, ◌+◌, ◌<◌, ◌≤◌, ◌⊎◌, inl, inr, Bool, true, false, List, ap, sym, refl, subst, arith}
+use Rattle.ghost_model.specs.forms.Runs.{page_of}
 use Rattle.ghost_base.specs.declared.runs.ListRef.{ListRef}
 use Rattle.ghost_base.specs.Runs.{run_of}
 use Rattle.edge_traits.specs.Devices.{Device, KeepsPages}
@@ -10,10 +10,11 @@ use Rattle.spill_pass.specs.declared.groups.Groups.{Groups}
 use Rattle.spill_pass.specs.Grouping.{GoesOn, CanTake, TookMore, groups_held, lists_at_hand, ids_at_hand, places_end}
 use Rattle.spill_pass.specs.Lists.{ListOutside}
 use Rattle.spill_pass.specs.Merging.{area_end, area_pages}
-use Rattle.spill_pass.specs.Passing.{IsPassing, PassGoes, ArePairs, pass_held, pass_left}
+use Rattle.spill_pass.specs.Passing.{AreOfSource, IsPassing, PassGoes, ArePairs, pass_held, pass_left}
 use Rattle.spill_pass.specs.Sources.{Source, SameSource, SparesSource, UsesOutside, GaveList}
 use Rattle.spill_pass.proofs.Holders.{same_beside}
-use Rattle.spill_pass.proofs.Over.{over_of}
+use Rattle.spill_pass.proofs.FreshLists.{few_pages}
+use Rattle.spill_pass.proofs.Over.{over_pushed, over_then}
 use Rattle.spill_pass.proofs.PassFrames.{buffers_same, few_leases, grouping_spared, lists_apart, source_spares, unread_beside}
 
 pub no_truth : false ≡ true → ⊥
@@ -53,7 +54,6 @@ passing_source {told = told} {before = before} {now = now} {pool = pool} {later 
   begins = is.begins;
   complete = λ e. absurd (no_truth e);
   pairs = pairs_fewer source rest groups same.lists is.pairs;
-  over = over_of groups.into.merge.cursors.items same.run refl is.over;
 }
 
 -- the list may be taken
@@ -109,8 +109,6 @@ passing_taken {now = now} {mid = mid} {later = later} source rest old new fan li
   begins = λ e. more.none_found;
   complete = λ e. absurd (no_truth e);
   pairs = pairs_taken now source rest old new list gave more.lists more.placed goes.size first.pairs;
-  over =
-      over_of new.into.merge.cursors.items (same.run ∙ sym gave.run_is) goes.rows (more.over (over_of old.into.merge.cursors.items gave.run_is refl first.over));
 }
 
 -- less is left to do
@@ -119,11 +117,9 @@ pub taken_less :
     → ChangesPage pool mid source.lease → AreOut pool (pass_held source old) → GaveList now source rest list
     → TookMore told now mid later list old new → pass_left later rest new false < pass_left pool source old false
 taken_less {pool = pool} {mid = mid} {later = later} source rest old new list changes are gave more =
-    let few : list.count / per_page list.run.width ≤ list.count =
-    let P : ℕ → Type 0 = λ w. list.count / (2048 / w) ≤ list.count in subst P (sym gave.width) (omega arith) in
     omega (
       arith,
-      few,
+      few_pages list.run list.count gave.width,
       more.left,
       more.lists,
       gave.lists,
@@ -148,3 +144,23 @@ source_spared source old new lists places goes are passes = record {
   out = passes.still.0;
   buffer = same_beside source.lease (groups_held old) are goes.others;
 }
+
+-- the lists at hand are of the source after a call on it, and after one more was taken
+pub next_of_source :
+    {S : Type 0} (may : (ℕ → List ℕ) → S → ListRef → Type 0) (before now : ℕ → List ℕ) (lists rest : S) (groups : Groups) → now ≡ before
+    → ((page : ℕ → List ℕ) (list : ListRef) → may page lists list → may page rest list) → AreOfSource (may before lists) groups
+    → AreOfSource (may now rest) groups
+next_of_source may before now lists rest groups pages still of =
+    over_then (may before lists) (may now rest) groups.into.merge.cursors.items refl
+    (λ list one. let M : (ℕ → List ℕ) → Type 0 = λ page. may page rest list in subst M (sym pages) (still before list one)) of
+
+pub taken_of_source :
+    {S : Type 0} {told : Bool} {device : Device} {pool later : Pool} (may : (ℕ → List ℕ) → S → ListRef → Type 0) (page : ℕ → List ℕ) (lists rest : S)
+    (old new : Groups) (list : ListRef) → TookMore told device pool later list old new
+    → ((page : ℕ → List ℕ) (list : ListRef) → may page lists list → may page rest list) → may page lists list → AreOfSource (may page rest) old
+    → AreOfSource (may page rest) new
+taken_of_source may page lists rest old new list more still gave of =
+    let one = more.cursors in
+    over_then (may page rest) (may page rest) new.into.merge.cursors.items more.goes.rows (λ other is. is)
+    (over_pushed (may page rest) old.into.rows old.into.merge.cursors.items new.into.merge.cursors.items one.run one.is
+    (record { list = let M : ListRef → Type 0 = may page rest in subst M (sym one.list_is) (still page list gave); rows_are = one.rows_are }) of)

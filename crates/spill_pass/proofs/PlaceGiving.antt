@@ -1,15 +1,17 @@
 -- The list that a place gives, by right pages.
 use Rattle.std.proofs.Common.{◌≡◌, ◌∙◌, ℕ, ◌+◌, ◌^◌, ◌<◌, ◌++◌, List, [], ◌∷◌, length, get_or, ap, sym, refl, subst, arith}
-use Rattle.std.specs.Prelude.{Option, Some, None, Result, Ok, Err, IfOk, MatchOption}
+use Rattle.std.specs.Prelude.{Option, Some, None, Result, Ok, Err, IfOk, IfSome, MatchOption}
 use Rattle.std.proofs.lemmas.Nat.{from_be_bytes-to_be_bytes_4}
 use Rattle.ghost_model.specs.forms.Runs.{number_in, number_cell}
 use Rattle.ghost_base.specs.declared.runs.Run.{Run}
 use Rattle.ghost_base.specs.declared.runs.ListRef.{ListRef}
+use Rattle.ghost_base.specs.Runs.{run_of}
 use Rattle.flash_pages.specs.declared.fault.PageFault.{PageFault}
 use Rattle.flash_pages.specs.declared.fault.PageFault.TheVariants.{Flash, Damaged}
+use Rattle.flash_pages.proofs.ListFrames.{listed_by_width}
 use Rattle.spill_pass.specs.declared.places.PlaceReader.{PlaceReader}
 use Rattle.spill_pass.specs.Lists.{IsOrdered, id_of}
-use Rattle.spill_pass.specs.Places.{GivesPlace, IsDamagedPlace, IsNextPlace, IsNextList, IsPlaceOf, HasPlace, HasPlaces, ReaderHas, SamePlaces, place_at}
+use Rattle.spill_pass.specs.Places.{GivesPlace, IsDamagedPlace, IsNextPlace, IsNextList, IsPlaceOf, HasPlace, HasPlaces, LiesInLists, ReaderHas, SamePlaces, place_at}
 use Rattle.spill_pass.specs.Sources.{BlamesSource, GivesLists, GivesFirst}
 
 first_number : (a n : ℕ) → a < 2 ^ 32 → number_in (number_cell a ++ number_cell n) 0 ≡ a
@@ -64,7 +66,7 @@ gives_first page now right rows before new list (first ∷ rest) pages small pla
       is = refl;
       ordered = subst Q (sym pages) (subst P is has.has.0.ordered);
       count = sym count;
-      ids = subst R is has.has.0.ids;
+      ids = subst R is (λ i within. listed_by_width right (run_of before.lists) before.next i (omega (arith, has.lists_width)) ∙ has.has.0.ids i within);
       has_rest = record {
         places_width = ap (λ (r : Run). r.width) same.places ∙ has.places_width;
         lists_width = ap (λ (r : Run). r.width) same.lists ∙ has.lists_width;
@@ -94,6 +96,15 @@ gives_list page now right rows before new lists (Ok None) pages gives step same 
 gives_list page now right rows before new lists (Ok (Some list)) pages gives step same small has =
     gives_first page now right rows before new list lists pages small gives step same has
 gives_list page now right rows before new lists (Err fault) pages gives step same small has = tt
+
+-- it lies in the run of the lists
+pub gives_inside :
+    (page : ℕ → List ℕ) (before new : PlaceReader) (result : Result (Option ListRef) PageFault)
+    → IfOk result (λ list. MatchOption list ((before.at ≡ before.places.count) × (new ≡ before)) (IsNextList before new))
+    → IfOk result (λ list. IfSome list (LiesInLists page before))
+gives_inside page before new (Ok None) step = tt
+gives_inside page before new (Ok (Some list)) step = record { run_is = step.run; within = omega (arith, step.first, step.within) }
+gives_inside page before new (Err fault) step = tt
 
 -- where the reader has its places, none of them is damaged
 right_place :

@@ -2,12 +2,13 @@
 use Rattle.std.proofs.Common.{◌≡◌, ◌∙◌, ℕ, ◌+◌, ◌/◌, ◌<◌, ◌&&◌, ◌||◌, Bool, true, false, List, [], ◌∷◌, length, nat_le, nat_lt, ap, sym, refl, subst, arith}
 use Rattle.std.specs.Prelude.{IfSome, Option}
 use Rattle.std.proofs.lemmas.Bool.Decides.{nat_tests}
-use Rattle.ghost_model.specs.forms.Runs.{page_of, pages_of, number_in}
+use Rattle.ghost_model.specs.forms.Runs.{page_of, pages_of}
 use Rattle.ghost_base.specs.declared.runs.Run.{Run}
 use Rattle.ghost_base.specs.declared.runs.ListRef.{ListRef}
 use Rattle.ghost_base.specs.Runs.{run_of}
 use Rattle.page_pool.specs.Pools.{page_at}
 use Rattle.flash_pages.specs.Cursors.{IsPageOf}
+use Rattle.flash_pages.proofs.ListFrames.{listed_kept}
 use Rattle.flash_pages.proofs.RunFrames.{run_kept, record_kept}
 use Rattle.flash_pages.proofs.LeaseFrames.{can_read_kept, some_then}
 use Rattle.spill_pass.specs.declared.places.PlaceReader.{PlaceReader}
@@ -87,7 +88,7 @@ place_still page now right rows places lists at next first same_places same_list
         order = has.ordered.order;
         within = has.ordered.within;
         same = λ i within some few.
-            let is : id_of now list i ≡ id_of page list i = ap (λ r. number_in r 0) (record_kept page now (run_of lists) (next + i) (same_lists (next + i) (omega (arith, has.inside, within)))) in
+            let is : id_of now list i ≡ id_of page list i = listed_kept page now (run_of lists) next i (omega (arith, has.inside, within)) same_lists in
             is ∙ has.ordered.same i within (omega (arith, is, some)) (omega (arith, is, few));
       };
       ids = has.ids;

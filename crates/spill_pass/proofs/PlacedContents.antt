@@ -7,9 +7,11 @@ use Rattle.ghost_model.specs.forms.Runs.{id_at, number_cell, number_in, record_a
 use Rattle.ghost_base.specs.declared.runs.Run.{Run}
 use Rattle.ghost_base.specs.declared.runs.ListRef.{ListRef}
 use Rattle.ghost_base.specs.Runs.{run_of}
+use Rattle.flash_pages.proofs.ListFrames.{listed_by_width}
 use Rattle.spill_pass.specs.declared.groups.PlacedLists.{PlacedLists}
 use Rattle.spill_pass.specs.declared.places.PlaceReader.{PlaceReader}
 use Rattle.spill_pass.specs.Grouping.{AreRowLists, IsRowList, StoresLists, places_of}
+use Rattle.spill_pass.specs.Lists.{id_of}
 use Rattle.spill_pass.specs.Places.{HasPlace, HasPlaces, ReaderHas}
 use Rattle.spill_pass.proofs.Reducing.{ReadsPlaced}
 
@@ -42,37 +44,39 @@ abbrev listed : Run → ℕ → ℕ → ListRef
 listed run first count = record { run = run; first = first; count = count }
 
 place_is :
-    (page : ℕ → List ℕ) (rows : ℕ) (places lists : Run) (at next : ℕ) (first : List ℕ) (rest : List (List ℕ)) → rows < 2 ^ 32
+    (page : ℕ → List ℕ) (rows : ℕ) (places lists : Run) (at next : ℕ) (first : List ℕ) (rest : List (List ℕ)) → rows < 2 ^ 32 → lists.width ≡ 4
     → HasCells page places at (places_of next (first ∷ rest)) → HasIds page lists next (first ++ concat rest) → IsRowList rows first
     → at < places.count → next + length first ≤ lists.count → HasPlace page page rows places lists at next first
-place_is page rows places lists at next first rest few cells ids row within inside =
+place_is page rows places lists at next first rest few width cells ids row within inside =
     let id : (i : ℕ) → i < length first → id_at page (run_of lists) (next + i) ≡ get_or first i 0 =
     λ i less.
     ap (λ r. number_in r 0)
     (ids i (omega (arith, less, length-append first (concat rest))) ∙ ap number_cell (get_left first (concat rest) i less))
     ∙ first_number (get_or first i 0) (omega (arith, row.within i less, few)) in
+    let list_id : (i : ℕ) → i < length first → id_of page (listed lists next (length first)) i ≡ get_or first i 0 =
+    λ i less. listed_by_width page (run_of lists) next i (omega (arith, width)) ∙ id i less in
     record {
       within = within;
       inside = inside;
       place = ap (λ n. record_at page (run_of places) n) (omega arith) ∙ cells 0 (omega arith);
       ordered = record {
-        above = λ i less. omega (arith, id i less, row.above i less);
-        order = λ i j before less. omega (arith, id i (omega (arith, before, less)), id j less, row.ascending i j before less);
-        within = λ i less. omega (arith, id i less, row.within i less);
+        above = λ i less. omega (arith, list_id i less, row.above i less);
+        order = λ i j before less. omega (arith, list_id i (omega (arith, before, less)), list_id j less, row.ascending i j before less);
+        within = λ i less. omega (arith, list_id i less, row.within i less);
         same = λ i less some most. refl;
       };
       ids = id;
     }
 
 has_places :
-    (page : ℕ → List ℕ) (rows : ℕ) (places lists : Run) (at next : ℕ) (rest : List (List ℕ)) → rows < 2 ^ 32
+    (page : ℕ → List ℕ) (rows : ℕ) (places lists : Run) (at next : ℕ) (rest : List (List ℕ)) → rows < 2 ^ 32 → lists.width ≡ 4
     → HasCells page places at (places_of next rest) → HasIds page lists next (concat rest) → AreRowLists rows rest
     → at + length rest ≡ places.count → next + length (concat rest) ≡ lists.count → HasPlaces page page rows places lists at next rest
-has_places page rows places lists at next [] few cells ids rows_are count all = omega (arith, count)
-has_places page rows places lists at next (first ∷ rest) few cells ids rows_are count all =
+has_places page rows places lists at next [] few width cells ids rows_are count all = omega (arith, count)
+has_places page rows places lists at next (first ∷ rest) few width cells ids rows_are count all =
     let both = length-append first (concat rest) in (
-      place_is page rows places lists at next first rest few cells ids (rows_are 0 (omega arith)) (omega (arith, count)) (omega (arith, all, both)),
-      has_places page rows places lists (at + 1) (next + length first) rest few
+      place_is page rows places lists at next first rest few width cells ids (rows_are 0 (omega arith)) (omega (arith, count)) (omega (arith, all, both)),
+      has_places page rows places lists (at + 1) (next + length first) rest few width
           (λ i less. ap (λ n. record_at page (run_of places) n) (omega arith) ∙ cells (suc i) (omega (arith, less)))
           (λ i less.
           ap (λ n. record_at page (run_of lists) n) (omega arith)
@@ -101,7 +105,7 @@ reader_has_done page rows placed reader done few places_width lists_width reads 
           (subst B (sym reads.lists)
           (subst C (sym reads.at)
           (subst D (sym reads.next)
-          (has_places page rows placed.places placed.lists 0 0 done few
+          (has_places page rows placed.places placed.lists 0 0 done few lists_width
           (λ i less. ap (λ n. record_at page (run_of placed.places) n) (omega arith) ∙ stores.places.has.each i (omega (arith, less, stores.places.has.count)))
           (λ i less. ap (λ n. record_at page (run_of placed.lists) n) (omega arith) ∙ stores.ids.has.each i (omega (arith, less, all)) ∙ get_cell ids i less)
           ordered (omega (arith, count)) (omega (arith, all))))));

@@ -15,6 +15,7 @@ use Rattle.page_pool.proofs.Leases.{change_elsewhere, head_apart}
 use Rattle.flash_pages.specs.declared.writer.RunWriter.{RunWriter}
 use Rattle.flash_pages.specs.Writers.{HasPut, IsRunOf}
 use Rattle.flash_pages.proofs.LeaseFrames.{put_kept}
+use Rattle.flash_pages.proofs.ListFrames.{listed_by_width}
 use Rattle.id_merge.specs.declared.merge.Merge.{Merge}
 use Rattle.id_merge.specs.Cursors.{CursorGiven, leases_of}
 use Rattle.id_merge.specs.Merges.{IsNewLast}
@@ -178,14 +179,16 @@ first_number : (n : ℕ) → n < 2 ^ 32 → number_in (number_cell n) 0 ≡ n
 unfolding number_in
 first_number n fits = from_be_bytes-to_be_bytes_4 n fits
 
-pub row_list_ordered : (page : ℕ → List ℕ) (rows : ℕ) (run : Run) → rows < 2 ^ 32 → HasRowList page rows run → IsOrdered page page rows (whole_list run)
-row_list_ordered page rows run small was =
+pub row_list_ordered :
+    (page : ℕ → List ℕ) (rows : ℕ) (run : Run) → rows < 2 ^ 32 → run.width ≡ 4 → HasRowList page rows run → IsOrdered page page rows (whole_list run)
+row_list_ordered page rows run small width was =
     let ids = was.ids in
     let all : run.count ≡ length ids = was.stores.has.count ∙ length-map ids number_cell in
     let id : (i : ℕ) → i < run.count → id_of page (whole_list run) i ≡ get_or ids i 0 =
     λ i within.
     let here : 0 + i ≡ i = omega arith in
-    ap (λ n. id_at page (run_of run) n) here
+    listed_by_width page (run_of run) 0 i (omega (arith, width))
+    ∙ ap (λ n. id_at page (run_of run) n) here
     ∙ ap (λ r. number_in r 0) (was.stores.has.each i within ∙ get_cell ids i (omega (arith, within, all)))
     ∙ first_number (get_or ids i 0) (omega (arith, was.ordered.within i (omega (arith, within, all)), small)) in
     record {
@@ -199,7 +202,7 @@ pub known_list :
     (since : Since) (page : ℕ → List ℕ) (first rows : ℕ) (run : Run) → rows < 2 ^ 32 → AreaMay since first rows → run.first ≡ first → run.width ≡ 4
     → run.count ≤ rows → (since.told ≡ true → HasRowList page rows run) → KnowsList since page rows (whole_list run)
 known_list since page first rows run small area first_is width few order =
-    known_run since first rows run area first_is width few (λ tells. row_list_ordered page rows run small (order tells))
+    known_run since first rows run area first_is width few (λ tells. row_list_ordered page rows run small width (order tells))
 
 -- what is merged was given after more steps
 pub went_given :

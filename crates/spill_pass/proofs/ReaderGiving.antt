@@ -12,6 +12,7 @@ use Rattle.flash_pages.specs.declared.fault.PageFault.{PageFault}
 use Rattle.flash_pages.specs.declared.fault.PageFault.TheVariants.{Flash, Damaged}
 use Rattle.flash_pages.specs.Reads.{WasGiven}
 use Rattle.flash_pages.proofs.LeaseFrames.{given_kept}
+use Rattle.flash_pages.proofs.ListFrames.{listed_by_width, records_by_width, was_listed}
 use Rattle.flash_pages.proofs.RunFrames.{record_kept}
 use Rattle.id_merge.specs.Since.{Since, IsSince, MayBlame, Blames}
 use Rattle.id_merge.proofs.SinceLaws.{may_of, may_then}
@@ -21,7 +22,7 @@ use Rattle.spill_pass.specs.Given.{HasRowList, KnowsRun, PlacedGiven, StandsInOr
 use Rattle.spill_pass.specs.Grouping.{AreRowLists, StoresLists}
 use Rattle.spill_pass.specs.Known.{KnowsAnswer, KnowsNext}
 use Rattle.spill_pass.specs.Listings.{PlacedHas, ReaderGiven, ReadsInOrder}
-use Rattle.spill_pass.specs.Lists.{IsOrdered}
+use Rattle.spill_pass.specs.Lists.{IsOrdered, id_of}
 use Rattle.spill_pass.specs.Places.{BlamesPlace, GivesPlace, HasPlace, HasPlaces, IsNextList, ReaderHas, SamePlaces, source_of}
 use Rattle.spill_pass.specs.Sources.{GivesLists, SparesSource}
 use Rattle.spill_pass.proofs.PlaceLaws.{lists_used}
@@ -52,7 +53,7 @@ place_blamed {page = page} {before = before} {rows = rows} since now reader (Err
       page_is = blames.page;
       slot_is = blames.slot_is;
       bytes = blames.bytes;
-      read = blames.read;
+      read = was_listed (records_by_width (run_of reader.places) (omega (arith, blames.width))) blames.read;
       found_is = blames.found_is;
     }
 
@@ -139,12 +140,16 @@ ids_now page now rows reader ids same has i within =
     (record_kept page now (run_of reader.lists) i (same (page_of (run_of reader.lists) i) (lists_used reader i has.has.lists_width within)))
 
 right_place :
-    (now page right : ℕ → List ℕ) (rows : ℕ) (places lists : Run) (at next : ℕ) (first : List ℕ)
+    (now page right : ℕ → List ℕ) (rows : ℕ) (places lists : Run) (at next : ℕ) (first : List ℕ) → lists.width ≡ 4
     → ((i : ℕ) → i < lists.count → id_at right (run_of lists) i ≡ id_at page (run_of lists) i)
     → HasPlace now page rows places lists at next first → HasPlace now right rows places lists at next first
-right_place now page right rows places lists at next first same was =
-    let here : (i : ℕ) → i < length first → id_at right (run_of lists) (next + i) ≡ id_at page (run_of lists) (next + i) =
+right_place now page right rows places lists at next first width same was =
+    let list : ListRef = record { run = lists; first = next; count = length first } in
+    let there : (i : ℕ) → i < length first → id_at right (run_of lists) (next + i) ≡ id_at page (run_of lists) (next + i) =
     λ i within. same (next + i) (omega (arith, within, was.inside)) in
+    let wide : 4 ≤ lists.width = omega (arith, width) in
+    let here : (i : ℕ) → i < length first → id_of right list i ≡ id_of page list i =
+    λ i within. listed_by_width right (run_of lists) next i wide ∙ there i within ∙ sym (listed_by_width page (run_of lists) next i wide) in
     record {
       within = was.within;
       inside = was.inside;
@@ -155,17 +160,17 @@ right_place now page right rows places lists at next first same was =
         within = λ i within. omega (arith, here i within, was.ordered.within i within);
         same = λ i within some most. was.ordered.same i within some most ∙ sym (here i within);
       };
-      ids = λ i within. here i within ∙ was.ids i within;
+      ids = λ i within. there i within ∙ was.ids i within;
     }
 
 right_places :
-    (now page right : ℕ → List ℕ) (rows : ℕ) (places lists : Run) (at next : ℕ) (ids : List (List ℕ))
+    (now page right : ℕ → List ℕ) (rows : ℕ) (places lists : Run) (at next : ℕ) (ids : List (List ℕ)) → lists.width ≡ 4
     → ((i : ℕ) → i < lists.count → id_at right (run_of lists) i ≡ id_at page (run_of lists) i)
     → HasPlaces now page rows places lists at next ids → HasPlaces now right rows places lists at next ids
-right_places now page right rows places lists at next [] same was = was
-right_places now page right rows places lists at next (first ∷ rest) same was = (
-  right_place now page right rows places lists at next first same was.0,
-  right_places now page right rows places lists (at + 1) (next + length first) rest same was.1,
+right_places now page right rows places lists at next [] width same was = was
+right_places now page right rows places lists at next (first ∷ rest) width same was = (
+  right_place now page right rows places lists at next first width same was.0,
+  right_places now page right rows places lists (at + 1) (next + length first) rest width same was.1,
 )
 
 placed_now :
@@ -177,7 +182,7 @@ placed_now page now rows reader ids same has =
       has = record {
         places_width = still.has.places_width;
         lists_width = still.has.lists_width;
-        has = right_places now page now rows reader.places reader.lists reader.at reader.next ids (ids_now page now rows reader ids same has) still.has.has;
+        has = right_places now page now rows reader.places reader.lists reader.at reader.next ids has.has.lists_width (ids_now page now rows reader ids same has) still.has.has;
       };
       above = still.above;
       within = still.within;
@@ -230,13 +235,13 @@ one_list page rows placed (first ∷ []) few stores ordered =
 one_list page rows placed (first ∷ second ∷ rest) few stores ordered = absurd (omega (arith, few))
 
 pub one_known :
-    (since : Since) (page : ℕ → List ℕ) (rows : ℕ) (placed : PlacedLists) (run : Option Run) → rows < 2 ^ 32 → placed.places.count ≤ 1 → run ≡ Some placed.lists
+    (since : Since) (page : ℕ → List ℕ) (rows : ℕ) (placed : PlacedLists) (run : Option Run) → rows < 2 ^ 32 → placed.lists.width ≡ 4 → placed.places.count ≤ 1 → run ≡ Some placed.lists
     → PlacedGiven since page rows placed → KnowsRun since page rows run
-one_known since page rows placed run small few is given =
+one_known since page rows placed run small width few is given =
     let P : Option Run → Type 0 = λ o. KnowsRun since page rows o in
     subst P (sym is)
     (may_then
     (λ tells stands.
-    row_list_ordered page rows placed.lists small
+    row_list_ordered page rows placed.lists small width
     (one_list page rows placed stands.lists (omega (arith, few, stands.stores.places.has.count, count_places 0 stands.lists)) stands.stores stands.ordered))
     given.lists)

@@ -20,7 +20,6 @@ use Rattle.spill_pass.specs.Passing.{pass_held}
 use Rattle.spill_pass.specs.Places.{is_of, source_of}
 use Rattle.spill_pass.specs.Reducing.{CanPassOn, HasAreas, IsForLists, IsForPlaces, IsNextPass, PassesOver, PassedOn, Renews}
 use Rattle.spill_pass.specs.Sources.{Source, UsesOutside}
-use Rattle.spill_pass.proofs.Over.{over_none}
 use Rattle.spill_pass.proofs.Closing.{none_hand}
 use Rattle.spill_pass.proofs.PassFrames.{buffers_same}
 
@@ -227,7 +226,6 @@ passed_on {told = told} {device = device} {pool = pool} {later = later} source r
           begins = λ e. begun.none_found;
           complete = λ e. absurd (no_truth e);
           pairs = inl (omega (arith, begun.placed, no_list, counts, begun.size, reads.at));
-          over = over_none rest.run new.into.rows new.into.merge.cursors.items begun.none;
         };
         areas_are = subst A (sym over.rows) (subst B (sym begun.size) (areas_fewer placed.places.count few can.areas_are));
         few = omega (arith, over.rows, can.few);

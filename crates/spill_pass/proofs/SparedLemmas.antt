@@ -1,13 +1,12 @@
 -- What a merge that is written keeps where the pages and buffers that it uses stay as they were.
-use Rattle.std.proofs.Common.{◌≡◌, ◌∙◌, ℕ, ◌+◌, ◌*◌, ◌%◌, ◌≤◌, Bool, ap, arith}
-use Rattle.ghost_model.specs.forms.Runs.{number_in}
+use Rattle.std.proofs.Common.{◌≡◌, ◌∙◌, ℕ, ◌+◌, ◌*◌, ◌%◌, ◌≤◌, Bool, arith}
 use Rattle.ghost_base.specs.Runs.{run_of}
 use Rattle.edge_traits.specs.Devices.{Device}
 use Rattle.page_pool.specs.Pools.{Pool}
 use Rattle.page_pool.specs.Laws.{KeepsOut}
 use Rattle.page_pool.proofs.Leases.{out_kept, outs_kept}
 use Rattle.flash_pages.specs.Writing.{block_end}
-use Rattle.flash_pages.proofs.RunFrames.{record_kept}
+use Rattle.flash_pages.proofs.ListFrames.{listed_kept}
 use Rattle.flash_pages.proofs.LeaseFrames.{ready_kept, put_kept}
 use Rattle.id_merge.specs.declared.cursor.Cursor.{Cursor}
 use Rattle.id_merge.specs.declared.cursor.Cursor.TheVariants.{List as OfList, Range}
@@ -28,8 +27,7 @@ ids_spared :
     (told : Bool) (before now : Device) (pool : Pool) (cursor : Cursor) → KeepsRun before now cursor → CursorReady told before pool cursor
     → SameIds before.page now.page cursor
 ids_spared told before now pool (OfList run) pages ready = λ i within.
-    ap (λ r. number_in r 0)
-    (record_kept before.page now.page (run_of run.list.run) (run.list.first + i) (pages (run.list.first + i) (omega (arith, ready.list))))
+    listed_kept before.page now.page (run_of run.list.run) run.list.first i (omega (arith, ready.list, within)) pages
 ids_spared told before now pool (Range low high) pages ready = tt
 
 -- the page that is written next, and what is left of its block, lie in the area

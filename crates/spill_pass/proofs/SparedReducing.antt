@@ -1,22 +1,22 @@
 -- What passes keep where others write an area of their own and use other buffers, and how much is left of them at most.
-use Rattle.std.proofs.Common.{◌≡◌, ℕ, suc, ◌+◌, ◌-◌, ◌*◌, ◌^◌, ◌≤◌, inl, inr, Bool, true, false, List, [], ◌∷◌, length, if◌then◌else◌, nat_eq, mul-le-mul, ap, arith}
+use Rattle.std.proofs.Common.{◌≡◌, ℕ, suc, ◌+◌, ◌-◌, ◌*◌, ◌/◌, ◌^◌, ◌<◌, ◌≤◌, inl, inr, Bool, true, false, List, [], ◌∷◌, length, if◌then◌else◌, nat_eq, mul-le-mul, ap, subst, arith}
 use Rattle.std.specs.List.{concat}
 use Rattle.std.proofs.lemmas.Bool.{cases_lt}
 use Rattle.std.proofs.lemmas.List.Sums.{sum_by-cons}
-use Rattle.ghost_model.specs.forms.Runs.{page_of}
+use Rattle.ghost_model.specs.forms.Runs.{page_of, per_page}
 use Rattle.ghost_base.specs.Runs.{run_of}
 use Rattle.edge_traits.specs.Devices.{Device}
 use Rattle.page_pool.specs.Pools.{Pool, free_count}
 use Rattle.page_pool.proofs.Leases.{outs_kept}
 use Rattle.flash_pages.specs.declared.cursor.RunCursor.{RunCursor}
-use Rattle.flash_pages.specs.Cursors.{IsReady, page_next, will_read}
+use Rattle.flash_pages.specs.Cursors.{IsListWidth, Codes, Records, IsReady, page_last, page_next, unread_list, will_read}
 use Rattle.flash_pages.proofs.LeaseFrames.{put_kept}
 use Rattle.id_merge.specs.declared.cursor.Cursor.{Cursor}
 use Rattle.id_merge.specs.declared.cursor.Cursor.TheVariants.{List as OfList, Range}
 use Rattle.id_merge.specs.declared.merge.Merge.{Merge}
-use Rattle.id_merge.specs.Cursors.{CursorReady, cursor_at, page_last, unread_in, unread_list, unread_of}
+use Rattle.id_merge.specs.Cursors.{CursorReady, cursor_at, unread_in, unread_of}
 use Rattle.id_merge.specs.Spared.{Spares}
-use Rattle.id_merge.proofs.Laws.{bit_most}
+use Rattle.id_merge.proofs.Unread.{bit_most, few_codes, records_behind}
 use Rattle.spill_pass.specs.declared.groups.Groups.{Groups}
 use Rattle.spill_pass.specs.declared.reduce.Areas.{Areas}
 use Rattle.spill_pass.specs.Grouping.{IsGrouped, lists_at_hand, places_end}
@@ -58,7 +58,6 @@ reducing_stays low high told before now pool later source areas groups fan mergi
         begins = passing.begins;
         complete = passing.complete;
         pairs = passing.pairs;
-        over = passing.over;
       };
       areas_are = areas_still spares.changes.page_count is.areas_are;
       few = is.few;
@@ -114,26 +113,38 @@ reduce_has_stays has still goes spares outside is was =
       all = was.all;
     }
 
--- no more pages are to be read of a list than there are on a device
-few_pages : (told : Bool) (device : Device) (pool : Pool) (run : RunCursor) → IsReady told device pool run → unread_list pool run ≤ 2 ^ 32
-few_pages told device pool run ready =
+-- no more pages are to be read of a list than there are on a device; of one of codes, no more than three and a bit for each of them
+few_pages_by : (told : Bool) (device : Device) (pool : Pool) (run : RunCursor) → IsReady told device pool run → IsListWidth run.list.run.width → unread_list pool run ≤ 2 ^ 34
+few_pages_by told device pool run ready (Codes width) =
+    elim (cases_lt 0 run.list.count) [
+      | inl some ↦
+          let last = run.list.first + (run.list.count - 1) in
+          let P : ℕ → Type 0 = λ n. run.list.run.first + last / n < device.page_count in
+          let there = subst P (ap per_page width) (ready.run.pages last (omega (arith, some, ready.list))) in
+          omega (arith, there, ready.run.small, few_codes pool run width)
+      | inr none ↦ omega (arith, none, few_codes pool run width)
+    ]
+few_pages_by told device pool run ready (Records width) =
     elim (cases_lt 0 run.list.count) [
       | inl some ↦
           let there = ready.run.pages (run.list.first + (run.list.count - 1)) (omega (arith, some, ready.list)) in
-          omega (arith, there, ready.run.small, bit_most (will_read pool run))
+          omega (arith, there, ready.run.small, records_behind run width, bit_most (will_read pool run))
       | inr none ↦
-          let here : run.list.first + (run.list.count - 1) ≡ run.list.first + run.at = omega (arith, none, ready.place) in
+          let here : run.list.first + (run.list.count - 1) ≡ run.place = omega (arith, none, ready.at, ready.stands.record_is width) in
           let same : page_last run ≡ page_next run = ap (λ place. page_of (run_of run.list.run) place) here in
-          omega (arith, same, bit_most (will_read pool run))
+          omega (arith, same, records_behind run width, bit_most (will_read pool run))
     ]
 
-few_pages_of : (told : Bool) (device : Device) (pool : Pool) (cursor : Cursor) → CursorReady told device pool cursor → unread_of pool cursor ≤ 2 ^ 32
+few_pages : (told : Bool) (device : Device) (pool : Pool) (run : RunCursor) → IsReady told device pool run → unread_list pool run ≤ 2 ^ 34
+few_pages told device pool run ready = few_pages_by told device pool run ready ready.width
+
+few_pages_of : (told : Bool) (device : Device) (pool : Pool) (cursor : Cursor) → CursorReady told device pool cursor → unread_of pool cursor ≤ 2 ^ 34
 few_pages_of told device pool (OfList run) ready = few_pages told device pool run ready
 few_pages_of told device pool (Range low high) ready = omega arith
 
 few_pages_in :
     (told : Bool) (device : Device) (pool : Pool) (cursors : List Cursor) → ((i : ℕ) → CursorReady told device pool (cursor_at cursors i))
-    → unread_in pool cursors ≤ length cursors * 2 ^ 32
+    → unread_in pool cursors ≤ length cursors * 2 ^ 34
 few_pages_in told device pool [] ready = omega arith
 few_pages_in told device pool (cursor ∷ cursors) ready =
     omega (

@@ -1,10 +1,9 @@
 -- What is left where a list was taken into the group at hand: one lease more is out, and its buffer holds no page.
-use Rattle.std.proofs.Common.{◌≡◌, ◌∙◌, ℕ, zero, suc, ◌+◌, ◌-◌, ◌/◌, ◌<◌, ◌≤◌, Bool, true, false, nat_lt, if◌then◌else◌, List, [], ◌∷◌, ◌++◌, length, sum, get_or, slice_set, Option, None, ap, sym, refl, subst, arith}
+use Rattle.std.proofs.Common.{◌≡◌, ◌∙◌, ℕ, zero, suc, ◌+◌, ◌/◌, ◌<◌, ◌≤◌, Bool, true, false, nat_lt, if◌then◌else◌, List, [], ◌∷◌, ◌++◌, length, sum, get_or, slice_set, Option, None, ap, sym, refl, subst, arith}
 use Rattle.std.specs.Prelude.{IfSome}
 use Rattle.std.proofs.lemmas.Bool.Decides.{nat_tests}
 use Rattle.std.proofs.lemmas.List.{append-nil, get_or-set_other}
 use Rattle.std.proofs.lemmas.List.Sums.{sum_by-append, sum_by-cons}
-use Rattle.ghost_model.specs.forms.Runs.{per_page}
 use Rattle.ghost_base.specs.declared.runs.ListRef.{ListRef}
 use Rattle.ghost_base.specs.Runs.{run_of}
 use Rattle.edge_traits.specs.Devices.{Device, GaveSince}
@@ -14,23 +13,24 @@ use Rattle.page_pool.specs.Laws.{SameBuffer}
 use Rattle.page_pool.proofs.Marks.{free_not_out}
 use Rattle.page_pool.proofs.Leases.{lease_outs, lease_others_out, lease_keeps_others, all_given_to_front, outs_from_front, outs_swapped}
 use Rattle.flash_pages.specs.declared.cursor.RunCursor.{RunCursor}
-use Rattle.flash_pages.specs.Cursors.{IsReady, IsPageOf}
+use Rattle.flash_pages.specs.Cursors.{IsReady, IsPageOf, unread_list}
 use Rattle.flash_pages.specs.Reads.{WasGiven}
 use Rattle.flash_pages.proofs.LeaseFrames.{ready_kept}
+use Rattle.flash_pages.proofs.ListFrames.{stands_at_begin}
 use Rattle.id_merge.specs.declared.cursor.Cursor.{Cursor}
 use Rattle.id_merge.specs.declared.cursor.Cursor.TheVariants.{List as OfList, Range}
 use Rattle.id_merge.specs.declared.merge.Merge.{Merge}
 use Rattle.id_merge.specs.Since.{Since, MayBlame}
-use Rattle.id_merge.specs.Cursors.{cursor_at, leases_of, AllGiven, ListAscends, CursorGiven, CursorReady, IsAtMost, at_hand_of, at_hand_in, unread_of, unread_in, unread_list}
+use Rattle.id_merge.specs.Cursors.{cursor_at, leases_of, AllGiven, ListAscends, CursorGiven, CursorReady, IsAtMost, at_hand_of, at_hand_in, unread_of, unread_in}
 use Rattle.id_merge.specs.Merges.{at_hand}
 use Rattle.id_merge.proofs.SinceLaws.{may_then}
-use Rattle.id_merge.proofs.Unread.{div_mono}
-use Rattle.id_merge.proofs.Laws.{leases_of-append, each_pushed, few_unread}
+use Rattle.id_merge.proofs.Laws.{leases_of-append, each_pushed}
 use Rattle.spill_pass.specs.declared.groups.Groups.{Groups}
 use Rattle.spill_pass.specs.Known.{KnowsList}
-use Rattle.spill_pass.specs.Lists.{IsOrdered, IsReadable, ListOutside}
+use Rattle.spill_pass.specs.Lists.{IsOrdered, IsReadable, ListOutside, ids_in_page}
 use Rattle.spill_pass.specs.Merging.{IsMerging, LiesOutside, area_end, leases_held}
 use Rattle.spill_pass.specs.Grouping.{IsGrouping, GoesOn, CanTake, groups_held, places_end}
+use Rattle.spill_pass.proofs.FreshLists.{fresh_pages}
 use Rattle.spill_pass.proofs.Holders.{HasOut, each_out, out_before}
 use Rattle.spill_pass.proofs.Writing.{given_list, unread_list_same}
 use Rattle.spill_pass.proofs.Grouping.{areas_kept}
@@ -40,6 +40,7 @@ pub record Begins (list : ListRef) (rows : ℕ) (run : RunCursor) : Type 0 where
   pub list_is : run.list ≡ list
   pub rows_is : run.rows ≡ rows
   pub at_is : run.at ≡ 0
+  pub place_is : run.place ≡ list.first
   pub last_is : run.last ≡ 0
 
 -- the group's merge has one cursor more
@@ -225,7 +226,8 @@ begins_ready told device pool list rows run begins readable free =
       run = can.run;
       width = can.width;
       list = can.within;
-      place = omega (arith, begins.at_is);
+      at = omega (arith, begins.at_is);
+      stands = stands_at_begin begins.at_is (omega (arith, begins.place_is, ap (λ (l : ListRef). l.first) begins.list_is)) begins.last_is can.within;
       page = subst H (sym none) tt;
       buffer = record { out = leased_is_out pool lease free; filled = subst F (sym none) tt };
     }
@@ -279,37 +281,38 @@ taken_merging {told = told} {device = device} {pool = pool} {later = later} list
       entered = w.entered;
     }
 
-one_hand : (run : RunCursor) (list : ListRef) (rows last : ℕ) → Begins list rows run → at_hand_of last (OfList run) ≡ list.count
-one_hand run list rows last begins =
+one_hand : (run : RunCursor) (list : ListRef) (rows last : ℕ) → list.count ≤ rows → Begins list rows run → at_hand_of last (OfList run) ≡ list.count
+one_hand run list rows last few begins =
     let P : ℕ → Type 0 = λ id. 0 + (if nat_lt last id then 1 else 0) ≡ 0 in
     let none : 0 + (if nat_lt last run.last then 1 else 0) ≡ 0 = subst P (sym begins.last_is) (none_below 0 last) in
-    omega (arith, ap (λ (l : ListRef). l.count) begins.list_is, begins.at_is, none)
+    omega (arith, ap (λ (l : ListRef). l.count) begins.list_is, begins.at_is, begins.last_is, begins.rows_is, few, none)
 
 pub taken_hand :
-    (list : ListRef) (old new : Merge) (run : RunCursor) (rows : ℕ) → Begins list rows run → HasOneMore old new run → at_hand new ≡ at_hand old + list.count
-taken_hand list old new run rows begins more =
+    (list : ListRef) (old new : Merge) (run : RunCursor) (rows : ℕ) → list.count ≤ rows → Begins list rows run → HasOneMore old new run → at_hand new ≡ at_hand old + list.count
+taken_hand list old new run rows few begins more =
     ap (λ last. at_hand_in last new.cursors.items) more.last
     ∙ ap (λ cs. at_hand_in old.last cs) more.cursors
     ∙ sum_by-append (at_hand_of old.last) old.cursors.items (OfList run ∷ [])
-    ∙ ap (λ n. at_hand_in old.last old.cursors.items + n) (sum_by-cons (at_hand_of old.last) (OfList run) [] ∙ ap (λ n. n + 0) (one_hand run list rows old.last begins) ∙ plain list.count)
+    ∙ ap (λ n. at_hand_in old.last old.cursors.items + n) (sum_by-cons (at_hand_of old.last) (OfList run) [] ∙ ap (λ n. n + 0) (one_hand run list rows old.last few begins) ∙ plain list.count)
 
 pub taken_unread :
-    {pool later : Pool} (list : ListRef) (old : Groups) (merge : Merge) (run : RunCursor) → AreOut pool (groups_held old) → Begins list old.into.rows run
-    → later ≡ leased pool run.lease → IsFree pool run.lease → HasOneMore old.into.merge merge run → 0 < per_page list.run.width
-    → unread_in later merge.cursors.items ≤ unread_in pool old.into.merge.cursors.items + list.count / per_page list.run.width + 2
-taken_unread {pool = pool} {later = later} list old merge run are begins is free more some =
+    {device : Device} {pool later : Pool} (list : ListRef) (old : Groups) (merge : Merge) (run : RunCursor) → AreOut pool (groups_held old) → Begins list old.into.rows run
+    → later ≡ leased pool run.lease → IsFree pool run.lease → HasOneMore old.into.merge merge run → IsReadable device list
+    → unread_in later merge.cursors.items ≤ unread_in pool old.into.merge.cursors.items + list.count / ids_in_page list.run + 2
+taken_unread {device = device} {pool = pool} {later = later} list old merge run are begins is free more readable =
     let cursors = old.into.merge.cursors.items in
-    let P : ListRef → Type 0 = λ l. 0 < per_page l.run.width in
     let whole : unread_in later merge.cursors.items ≡ unread_in (leased pool run.lease) cursors + (unread_list (leased pool run.lease) run + 0) =
     ap (λ p. unread_in p merge.cursors.items) is
     ∙ ap (λ cs. unread_in (leased pool run.lease) cs) more.cursors
     ∙ sum_by-append (unread_of (leased pool run.lease)) cursors (OfList run ∷ [])
     ∙ ap (λ n. unread_in (leased pool run.lease) cursors + n) (sum_by-cons (unread_of (leased pool run.lease)) (OfList run) []) in
-    let few = few_unread (leased pool run.lease) run (subst P (sym begins.list_is) some) (omega (arith, begins.at_is)) in
-    let less : (run.list.count - run.at) / per_page run.list.run.width ≤ list.count / per_page list.run.width =
-    let Q : ListRef → Type 0 = λ l. (l.count - run.at) / per_page l.run.width ≤ list.count / per_page list.run.width in
-    subst Q (sym begins.list_is) (div_mono (list.count - run.at) list.count (per_page list.run.width) some (omega arith)) in
-    omega (arith, whole, unread_all_taken pool run.lease cursors free (lists_out pool old are), few, less)
+    let R : ListRef → Type 0 = IsReadable device in
+    let can : IsReadable device run.list = subst R (sym begins.list_is) readable in
+    let few =
+    fresh_pages (leased pool run.lease) run
+    (record { at = begins.at_is; place = omega (arith, begins.place_is, ap (λ (l : ListRef). l.first) begins.list_is) }) can.run.some can.run.fits in
+    let same = ap (λ (l : ListRef). l.count / ids_in_page l.run) begins.list_is in
+    omega (arith, whole, unread_all_taken pool run.lease cursors free (lists_out pool old are), few, same)
 
 pub taken_grouping :
     {told : Bool} {device : Device} {pool later : Pool} (list : ListRef) (old : Groups) (merge : Merge) (run : RunCursor) → IsGrouping told device pool old
@@ -321,7 +324,7 @@ taken_grouping {device = device} list old merge run grouping can begins is free 
     record {
       merging = taken_merging list old merge run grouping can begins is free more;
       union = more.unions;
-      room = omega (arith, can.room, taken_hand list old.into.merge merge run old.into.rows begins more);
+      room = omega (arith, can.room, taken_hand list old.into.merge merge run old.into.rows (omega (arith, can.room)) begins more);
       begun = grouping.begun;
       leases = (taken_goes device old merge run grouping.leases is free more.cursors).still;
       area = grouping.area;

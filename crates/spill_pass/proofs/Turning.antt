@@ -11,7 +11,7 @@ use Rattle.id_merge.specs.Cursors.{leases_of, CursorReady, IsAtMost}
 use Rattle.spill_pass.specs.declared.merging.MergeInto.{MergeInto}
 use Rattle.spill_pass.specs.declared.groups.Groups.{Groups}
 use Rattle.spill_pass.specs.Merging.{IsMerging, CanBegin, Gathers, Goes, LiesOutside, area_pages, leases_held}
-use Rattle.spill_pass.specs.Grouping.{IsGrouping, IsGrouped, AreApart, AreRowLists, places_end, places_of}
+use Rattle.spill_pass.specs.Grouping.{IsGrouping, IsGrouped, AreApart, AreRowLists, places_end}
 use Rattle.spill_pass.specs.Grouping as grouping
 use Rattle.spill_pass.proofs.Holders.{same_beside}
 use Rattle.spill_pass.proofs.Grouping.{place_within, places_below, apart_pages, same_beside_area, each_none}

@@ -1,8 +1,8 @@
 -- What a call of the writer leaves: its area holds the page that is written, and the lists and their buffers stay.
-use Rattle.std.proofs.Common.{◌≡◌, ◌∙◌, ℕ, suc, ◌+◌, ◌-◌, ◌*◌, ◌^◌, ◌%◌, ◌<◌, ◌≤◌, ◌⊎◌, inl, inr, Bool, true, false, ◌&&◌, List, [], ◌∷◌, Option, nat_eq, nat_lt, sum_by, if◌then◌else◌, ap, sym, refl, subst, arith}
+use Rattle.std.proofs.Common.{◌≡◌, ◌∙◌, ℕ, suc, ◌+◌, ◌*◌, ◌^◌, ◌%◌, ◌<◌, ◌≤◌, ◌⊎◌, inl, inr, Bool, true, false, ◌&&◌, List, [], ◌∷◌, Option, nat_eq, nat_lt, sum_by, if◌then◌else◌, ap, sym, refl, subst, arith}
 use Rattle.std.proofs.lemmas.Bool.Decides.{nat_tests}
 use Rattle.std.proofs.lemmas.List.Sums.{sum_by-cons}
-use Rattle.ghost_model.specs.forms.Runs.{page_of, number_in}
+use Rattle.ghost_model.specs.forms.Runs.{page_of}
 use Rattle.ghost_base.specs.Runs.{run_of}
 use Rattle.edge_traits.specs.Devices.{Device, ChangesOnly}
 use Rattle.page_pool.specs.Pools.{Pool, AreOut, ChangesPage, page_at}
@@ -11,17 +11,17 @@ use Rattle.page_pool.proofs.Leases.{out_kept, outs_kept, change_keeps_out, chang
 use Rattle.flash_pages.specs.declared.filler.RunFiller.{RunFiller}
 use Rattle.flash_pages.specs.declared.writer.RunWriter.{RunWriter}
 use Rattle.flash_pages.specs.declared.cursor.RunCursor.{RunCursor}
-use Rattle.flash_pages.specs.Cursors.{page_next}
+use Rattle.flash_pages.specs.Cursors.{page_next, pages_behind, unread_list}
 use Rattle.flash_pages.specs.Holding.{is_apart}
 use Rattle.flash_pages.specs.Writing.{IsEntered, reach, erases, page_calls}
 use Rattle.flash_pages.specs.Writers.{SameRun, next_page, fills, put_calls}
-use Rattle.flash_pages.proofs.RunFrames.{record_kept}
+use Rattle.flash_pages.proofs.ListFrames.{listed_kept}
 use Rattle.flash_pages.proofs.LeaseFrames.{ready_kept, given_kept}
 use Rattle.flash_pages.proofs.Fillings.{whole_pages}
 use Rattle.id_merge.specs.declared.cursor.Cursor.{Cursor}
 use Rattle.id_merge.specs.declared.cursor.Cursor.TheVariants.{List as OfList, Range}
 use Rattle.id_merge.specs.Since.{Since}
-use Rattle.id_merge.specs.Cursors.{cursor_at, leases_of, CursorReady, CursorGiven, ListAscends, ListGiven, page_last, unread_list, unread_of, unread_in}
+use Rattle.id_merge.specs.Cursors.{cursor_at, leases_of, CursorReady, CursorGiven, ListAscends, ListGiven, unread_of, unread_in}
 use Rattle.id_merge.proofs.SinceLaws.{may_then}
 use Rattle.spill_pass.specs.declared.merging.MergeInto.{MergeInto}
 use Rattle.spill_pass.specs.Merging.{area_pages, area_end, leases_held, LiesOutside, CanBegin, IsMerging, Goes, SameIds, KeepsIds}
@@ -62,9 +62,8 @@ ids_cursor :
     (told : Bool) {low high : ℕ} {before now : Device} (pool : Pool) (cursor : Cursor) → ChangesOnly low high before now
     → LiesOutside low high cursor → CursorReady told before pool cursor → SameIds before.page now.page cursor
 ids_cursor told {before = before} {now = now} pool (OfList run) changes outside ready = λ i within.
-    ap (λ r. number_in r 0)
-    (record_kept before.page now.page (run_of run.list.run) (run.list.first + i)
-    (outside_page (page_of (run_of run.list.run) (run.list.first + i)) changes (outside (run.list.first + i) (omega (arith, ready.list)))))
+    listed_kept before.page now.page (run_of run.list.run) run.list.first i (omega (arith, ready.list, within))
+    (λ place inside. outside_page (page_of (run_of run.list.run) place) changes (outside place inside))
 ids_cursor told pool (Range first last) changes outside ready = tt
 
 -- a list's identifiers to come ascend as before where they are the same
@@ -119,7 +118,6 @@ wrote {before = before} {now = now} {pool = pool} {later = later} old writer is 
           given_cursor since before now (cursor_at old.merge.cursors.items i) changes.gave (ids_stay is changes i) buffer (each_another pool old.writer.lease old.merge.cursors.items i are) (given i);
       same = λ i. list_same (cursor_at old.merge.cursors.items i);
       outside = λ low high is. is;
-      over = λ run rows over. over;
       count = refl;
       first = first;
       rows = refl;
@@ -162,7 +160,7 @@ merging_on {told = told} {before = before} {now = now} {pool = pool} {later = la
 -- as many pages are still to be read where the buffers of the lists hold the same pages
 pub unread_list_same : (pool later : Pool) (run : RunCursor) → page_at later run.lease ≡ page_at pool run.lease → unread_list later run ≡ unread_list pool run
 unread_list_same pool later run same =
-    ap (λ (held : Option ℕ). (page_last run - page_next run) + (if nat_lt run.at run.list.count && is_apart held (page_next run) then 1 else 0)) same
+    ap (λ (held : Option ℕ). pages_behind run + (if nat_lt run.at run.list.count && is_apart held (page_next run) then 1 else 0)) same
 
 unread_cursor : {lease : ℕ} (pool later : Pool) (cursor : Cursor) → ChangesPage pool later lease → IsAnother lease cursor → unread_of later cursor ≡ unread_of pool cursor
 unread_cursor pool later (OfList run) buffer apart = unread_list_same pool later run (change_elsewhere buffer apart).filled

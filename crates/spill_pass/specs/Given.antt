@@ -29,12 +29,12 @@ use Rattle.spill_pass.specs.Reducing.{IsForLists, IsForPlaces, whole_list}
 abbrev pub AreaMay : (since : Since) (first rows : ℕ) → Type 0
 AreaMay since first rows = since.told ≡ false → (count : ℕ) → count ≤ rows → since.may (record { first = first; count = count; width = 4 }) ≡ true
 
--- so may one of the places of so many lists, which fill half as many pairs of numbers
+-- where pages are not told, a slot of each run of places that begins with the page may be blamed: as many as half of so many lists take
 abbrev pub PlacesMay : (since : Since) (first size : ℕ) → Type 0
 PlacesMay since first size =
     since.told ≡ false → (count : ℕ) → 2 * count ≤ size + 1 → since.may (record { first = first; count = count; width = 8 }) ≡ true
 
--- so it is of all areas of passes
+-- any run of lists or of places that a pass writes into the areas may be blamed
 pub record AreasMay (since : Since) (areas : Areas) (rows size : ℕ) : Type 0 where
   pub lists : (first : ℕ) → IsForLists areas first → AreaMay since first rows
   pub places : (first : ℕ) → IsForPlaces areas first → PlacesMay since first size

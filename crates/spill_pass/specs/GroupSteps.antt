@@ -1,7 +1,6 @@
 -- What a step of a group of lists reads, leaves, counts and comes to.
 use Rattle.std.specs.Prelude.{◌≡◌, ◌||◌, ℕ, ◌+◌, ◌-◌, ◌≤◌, Bool, true, false, List, Result, IfOk, OnOk}
 use Rattle.ghost_model.specs.core.Causes.{Rose}
-use Rattle.ghost_base.specs.declared.runs.Run.{Run}
 use Rattle.edge_traits.specs.Devices.{Device}
 use Rattle.page_pool.specs.Pools.{Pool}
 use Rattle.flash_pages.specs.declared.fault.PageFault.{PageFault}
@@ -15,14 +14,14 @@ use Rattle.spill_pass.specs.declared.groups.PlacedLists.{PlacedLists}
 use Rattle.spill_pass.specs.Causes.{QuietAtDamage}
 use Rattle.spill_pass.specs.Given.{GroupsGiven, StandsInOrder}
 use Rattle.spill_pass.specs.Grouping.{AreRunsOf, GoesOn, HasGrouped, IsGrouped, ListStands, ListsGroup, StoresLists, TurnGives, TurnTells, calls_to_come, lists_at_hand}
-use Rattle.spill_pass.specs.Merging.{AllOutside, AllOver, MadeAtMost}
+use Rattle.spill_pass.specs.Merging.{AllOutside, MadeAtMost, NoOthers}
 use Rattle.spill_pass.specs.Stepping.{Stepped}
 
--- what a step does whatever it comes to: it makes two calls at most, and reads no other list than before
+-- what a step does, whatever its result: it makes two calls at most, and reads no other list than before
 pub record GroupDoes {T : Type 0} (told : Bool) (before now : Device) (paid total : ℕ) (pool later : Pool) (old new : Groups) (result : Result T PageFault) : Type 0 where
   pub given :
       (since : Since) → IsSince told before since → GroupsGiven since before pool old → OnOk result (GroupsGiven since now later new)
-  pub over : (run : Run) → (rows : ℕ) → AllOver run rows old.into.merge.cursors.items → AllOver run rows new.into.merge.cursors.items
+  pub lists : NoOthers old.into.merge.cursors.items new.into.merge.cursors.items
   pub outside : (low high : ℕ) → AllOutside low high old.into.merge.cursors.items → AllOutside low high new.into.merge.cursors.items
   pub stepped : Stepped 2 before now paid total result
   pub at_most : MadeAtMost (total - paid) before now

@@ -9,14 +9,17 @@ use Rattle.page_pool.specs.Pools.{Pool, AreOut, KeepsOthers, others_out}
 use Rattle.flash_pages.specs.declared.fault.PageFault.{PageFault}
 use Rattle.flash_pages.specs.Writing.{IsEntered}
 use Rattle.flash_pages.specs.Writers.{HasPut, next_page}
+use Rattle.flash_pages.specs.declared.cursor.RunCursor.{RunCursor}
 use Rattle.id_merge.specs.Merges.{Remains, at_hand}
+use Rattle.id_merge.specs.declared.cursor.Cursor.{Cursor}
+use Rattle.id_merge.specs.declared.cursor.Cursor.TheVariants.{List as OfList}
 use Rattle.id_merge.specs.declared.merge.Merge.{Merge}
 use Rattle.spill_pass.specs.declared.groups.Groups.{Groups}
 use Rattle.spill_pass.specs.declared.groups.GroupTurn.{GroupTurn}
 use Rattle.spill_pass.specs.declared.groups.GroupTurn.TheVariants.{Went, Listed}
 use Rattle.spill_pass.specs.declared.groups.PlacedLists.{PlacedLists}
-use Rattle.spill_pass.specs.Lists.{InList, IsReadable, ListOutside}
-use Rattle.spill_pass.specs.Merging.{IsArea, IsMerging, Gathers, AreAscending, IsOneOf, AllOutside, AllOver, leases_held, area_pages, area_end, left_of, calls_left}
+use Rattle.spill_pass.specs.Lists.{InList, IsReadable, ListOutside, ids_in_page}
+use Rattle.spill_pass.specs.Merging.{IsArea, IsMerging, Gathers, AreAscending, IsOneOf, AllOutside, leases_held, area_pages, area_end, left_of, calls_left}
 
 -- the leases of the places' writer, of the lists' writer and of the lists at hand
 abbrev pub groups_held : Groups → List ℕ
@@ -57,7 +60,7 @@ pub record IsBegun (lists_page places_page most lists_most lists_held places_hel
 abbrev pub AreApart : (first end other other_end : ℕ) → Type 0
 AreApart first end other other_end = (end ≤ other) ⊎ (other_end ≤ first)
 
--- it may be begun: with two leases, in two areas that share no page
+-- groups may be begun: with two leases, in two areas that share no page
 pub record CanBegin (device : Device) (pool : Pool) (lists places rows size lists_lease places_lease : ℕ) : Type 0 where
   pub leases : AreOut pool (places_lease ∷ lists_lease ∷ [])
   pub lists_area : IsArea device lists rows
@@ -108,17 +111,24 @@ pub record GoesOn (before now : Device) (pool later : Pool) (old new : Groups) :
   pub rows : new.into.rows ≡ old.into.rows
   pub size : new.size ≡ old.size
 
+-- the cursors have one more at their end, over the list for the rows
+pub record HasListMore (list : ListRef) (rows : ℕ) (old new : List Cursor) : Type 0 where
+  pub run : RunCursor
+  pub is : new ≡ old ++ OfList run ∷ []
+  pub list_is : run.list ≡ list
+  pub rows_are : run.rows ≡ rows
+
 -- the group has the list more
 pub record TookMore (told : Bool) (device : Device) (pool later : Pool) (list : ListRef) (old new : Groups) : Type 0 where
   pub grouping : IsGrouping told device later new
   pub goes : GoesOn device device pool later old new
   pub lists : lists_at_hand new ≡ lists_at_hand old + 1
   pub ids : ids_at_hand new ≡ ids_at_hand old + list.count
-  pub left : left_of later new.into ≤ left_of pool old.into + list.count + list.count / runs.per_page list.run.width + 2
-  pub calls : calls_to_come later new ≤ calls_to_come pool old + list.count / runs.per_page list.run.width + 2
+  pub left : left_of later new.into ≤ left_of pool old.into + list.count + list.count / ids_in_page list.run + 2
+  pub calls : calls_to_come later new ≤ calls_to_come pool old + list.count / ids_in_page list.run + 2
   pub placed : new.places.filler.count ≡ old.places.filler.count
   pub none_found : new.into.merge.last ≡ 0
-  pub over : AllOver list.run old.into.rows old.into.merge.cursors.items → AllOver list.run old.into.rows new.into.merge.cursors.items
+  pub cursors : HasListMore list old.into.rows old.into.merge.cursors.items new.into.merge.cursors.items
   pub outside : (low high : ℕ) → ListOutside low high list → AllOutside low high old.into.merge.cursors.items → AllOutside low high new.into.merge.cursors.items
 
 -- the merge of the group at hand went on

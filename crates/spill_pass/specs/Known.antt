@@ -10,7 +10,7 @@ use Rattle.spill_pass.specs.Lists.{IsOrdered}
 abbrev pub KnowsList : (since : Since) (page : ℕ → List ℕ) (rows : ℕ) → ListRef → Type 0
 KnowsList since page rows list = MayBlame since (run_of list.run) (IsOrdered page page rows list)
 
--- so it is of a list that was answered
+-- of a list that was answered a slot may be blamed, or its identifiers ascend, from 1 to the rows
 abbrev pub KnowsAnswer : (since : Since) (page : ℕ → List ℕ) (rows : ℕ) → Result (Option ListRef) PageFault → Type 0
 KnowsAnswer since page rows (Ok None) = ⊤
 KnowsAnswer since page rows (Ok (Some list)) = KnowsList since page rows list

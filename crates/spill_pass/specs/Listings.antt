@@ -1,6 +1,7 @@
 -- The lists of a first pass, by what is said of their source, and those of later ones.
 use Rattle.std.specs.Prelude.{ℕ, ◌<◌, ◌≤◌, Bool, List}
 use Rattle.ghost_model.specs.forms.Runs as runs
+use Rattle.ghost_base.specs.declared.runs.ListRef.{ListRef}
 use Rattle.ghost_base.specs.Runs.{run_of}
 use Rattle.edge_traits.specs.Devices.{Device}
 use Rattle.page_pool.specs.Pools.{Pool}
@@ -9,7 +10,7 @@ use Rattle.spill_pass.specs.declared.lists.Lists.TheVariants.{Given, Placed}
 use Rattle.spill_pass.specs.declared.places.PlaceReader.{PlaceReader}
 use Rattle.flash_pages.specs.Reads.{WasGiven}
 use Rattle.id_merge.specs.Since.{Since, MayBlame}
-use Rattle.spill_pass.specs.Places.{CanGive, ReaderHas, reads_place, source_of}
+use Rattle.spill_pass.specs.Places.{CanGive, LiesInLists, ReaderHas, reads_place, source_of}
 use Rattle.spill_pass.specs.Sources.{Source}
 
 abbrev pub source_in : {S : Type 0} → (S → Source) → Lists S → Source
@@ -33,6 +34,10 @@ pub record PlacedHas (page right : ℕ → List ℕ) (rows : ℕ) (reader : Plac
 abbrev pub has_in : {S : Type 0} → ((ℕ → List ℕ) → (ℕ → List ℕ) → ℕ → S → List (List ℕ) → Type 0) → (page right : ℕ → List ℕ) → (rows : ℕ) → Lists S → List (List ℕ) → Type 0
 has_in of page right rows (Given lists) ids = of page right rows lists ids
 has_in of page right rows (Placed reader) ids = PlacedHas page right rows reader ids
+
+abbrev pub may_in : {S : Type 0} → ((ℕ → List ℕ) → S → ListRef → Type 0) → (page : ℕ → List ℕ) → Lists S → ListRef → Type 0
+may_in of page (Given lists) list = of page lists list
+may_in of page (Placed reader) list = LiesInLists page reader list
 
 -- by the bytes of the pages, a reader has lists that a pass wrote
 pub record ReadsInOrder (page : ℕ → List ℕ) (rows : ℕ) (reader : PlaceReader) : Type 0 where

@@ -54,7 +54,8 @@ pub record PutsOne {T : Type 0} (told : Bool) (before now : Device) (paid total 
   pub goes : Goes told before now pool later old new
   pub ready : OnOk result (IsMerging told now later new)
 
--- what a turn of a merge does whatever it comes to: it makes two calls at most, and what is at hand stays as right as it was
+-- what a turn of a merge does: it makes two calls at most, and the lists stay as right as they were, whatever the answer. A fault may
+-- cost one call more than were left, and without one there is still room
 pub record MergeDoes {T : Type 0} (told : Bool) (before now : Device) (paid total : ℕ) (pool later : Pool) (old new : MergeInto) (result : Result T PageFault) : Type 0 where
   pub right : told ≡ true → (pages : ℕ → List ℕ) → AreRight before.page pages old.merge.cursors.items → AreRight now.page pages new.merge.cursors.items
   pub stepped : Stepped 2 before now paid total result
@@ -64,7 +65,7 @@ pub record MergeDoes {T : Type 0} (told : Bool) (before now : Device) (paid tota
   pub room : OnOk result (HasRoom new)
 
 -- a step of the merge was taken, and what it found was put, or nothing is left. Where a slot is blamed no call was made
-pub record AdvanceComes (told : Bool) (before now : Device) (paid total : ℕ) (pool later : Pool) (old new : MergeInto) (result : Result Bool PageFault) : Type 0 where
+pub record MergeAdvances (told : Bool) (before now : Device) (paid total : ℕ) (pool later : Pool) (old new : MergeInto) (result : Result Bool PageFault) : Type 0 where
   pub gives :
       told ≡ true → (right : ℕ → List ℕ) → (merge : Merge) → (earlier : List ℕ) → Gathers told right merge earlier before.page pool old
       → AdvanceGives told right merge earlier now.page later new result
@@ -72,7 +73,7 @@ pub record AdvanceComes (told : Bool) (before now : Device) (paid total : ℕ) (
   pub quiet : QuietAtDamage before.calls now.calls result
   pub tells : IfOk result (AdvanceTells told before now paid total pool later old new)
 
--- the same, or the list stands
+-- a step of the merge was taken, and what it found was put, or the list stands
 pub record MergeTurns (told : Bool) (before now : Device) (paid total : ℕ) (pool later : Pool) (old new : MergeInto) (result : Result (Option Run) PageFault) : Type 0 where
   pub gives :
       told ≡ true → (right : ℕ → List ℕ) → (merge : Merge) → Gathers told right merge [] before.page pool old
@@ -80,7 +81,7 @@ pub record MergeTurns (told : Bool) (before now : Device) (paid total : ℕ) (po
   pub puts : told ≡ true → Puts told [] before.page pool old → PutsList told now.page later old.rows new result
   pub tells : IfOk result (TurnTells told now paid total pool later old new)
 
--- a step of up to eight calls: there is more to do, after at least one call and with less left, or the list stands
+-- there is more to do, after at least one call and with less left, or the list stands
 pub record MergeSteps (told : Bool) (before now : Device) (paid total : ℕ) (pool later : Pool) (old new : MergeInto) (result : Result (Option Run) PageFault) : Type 0 where
   pub gives :
       told ≡ true → (right : ℕ → List ℕ) → (merge : Merge) → Gathers told right merge [] before.page pool old

@@ -2,6 +2,7 @@
 use Rattle.std.specs.Prelude.{◌≡◌, ℕ, ◌+◌, ◌-◌, ◌*◌, ◌/◌, ◌%◌, ◌^◌, ◌<◌, ◌≤◌, ◌⊎◌, ◌↔◌, ◌++◌, Bool, true, false, ⊤, List, [], ◌∷◌, length, map, get_or, Option, Some, None, Result, Ok, Err}
 use Rattle.ghost_model.specs.forms.Runs as runs
 use Rattle.ghost_base.specs.declared.runs.Run.{Run}
+use Rattle.ghost_base.specs.declared.runs.ListRef.{ListRef}
 use Rattle.ghost_base.specs.Runs.{run_of}
 use Rattle.edge_traits.specs.Devices.{Device, KeepsPages, ChangesOnly}
 use Rattle.page_pool.specs.Pools.{Pool, AreOut, KeepsOthers, others_out}
@@ -9,6 +10,7 @@ use Rattle.flash_pages.specs.declared.fault.PageFault.{PageFault}
 use Rattle.flash_pages.specs.declared.fault.PageFault.TheVariants.{Flash, Damaged}
 use Rattle.flash_pages.specs.Writing.{IsEntered}
 use Rattle.flash_pages.specs.Writers.{HasPut, next_page}
+use Rattle.flash_pages.specs.Cursors.{id_in}
 use Rattle.flash_pages.specs.declared.cursor.RunCursor.{RunCursor}
 use Rattle.id_merge.specs.declared.cursor.Cursor.{Cursor}
 use Rattle.id_merge.specs.declared.cursor.Cursor.TheVariants.{List as OfList, Range}
@@ -16,7 +18,7 @@ use Rattle.id_merge.specs.declared.merge.Merge.{Merge}
 use Rattle.id_merge.specs.declared.merge.Step.{Step}
 use Rattle.id_merge.specs.declared.merge.Step.TheVariants.{More, Found, End}
 use Rattle.id_merge.specs.Since.{Since, IsSince}
-use Rattle.id_merge.specs.Cursors.{cursor_at, id_in, leases_of, AreRight, AllAtMost, AllGiven}
+use Rattle.id_merge.specs.Cursors.{cursor_at, leases_of, AreRight, AllAtMost, AllGiven}
 use Rattle.id_merge.specs.Merges.{CanMerge, Remains, unread, at_hand}
 pub use Rattle.id_merge.specs.Spared.{LiesOutside, AllOutside}
 use Rattle.spill_pass.specs.declared.merging.MergeInto.{MergeInto}
@@ -39,20 +41,33 @@ area_end into = into.writer.filler.first + area_pages into.rows
 abbrev pub leases_held : MergeInto → List ℕ
 leases_held into = into.writer.lease ∷ leases_of into.merge.cursors.items
 
--- a cursor is over a list in the run, whose records have a width that may be, for identifiers of the rows
-pub record IsOver (run : Run) (rows : ℕ) (cursor : RunCursor) : Type 0 where
-  pub run_is : cursor.list.run ≡ run
-  pub rows_are : cursor.rows ≡ rows
-  pub inside : cursor.list.first + cursor.list.count ≤ run.count
-  pub some : 0 < run.width
-  pub fits : run.width ≤ 2048
+-- a cursor is over one of some lists, for identifiers of the rows
+pub record IsOver (some : ListRef → Type 0) (rows : ℕ) (run : RunCursor) : Type 0 where
+  pub list : some run.list
+  pub rows_are : run.rows ≡ rows
 
-abbrev pub CursorOver : (run : Run) (rows : ℕ) → Cursor → Type 0
-CursorOver run rows (OfList cursor) = IsOver run rows cursor
-CursorOver run rows (Range first last) = ⊤
+abbrev pub CursorOver : (some : ListRef → Type 0) (rows : ℕ) → Cursor → Type 0
+CursorOver some rows (OfList run) = IsOver some rows run
+CursorOver some rows (Range first last) = ⊤
 
-abbrev pub AllOver : (run : Run) (rows : ℕ) → List Cursor → Type 0
-AllOver run rows cursors = (i : ℕ) → CursorOver run rows (cursor_at cursors i)
+abbrev pub AllOver : (some : ListRef → Type 0) (rows : ℕ) → List Cursor → Type 0
+AllOver some rows cursors = (i : ℕ) → CursorOver some rows (cursor_at cursors i)
+
+-- one of some cursors is over the same list, for the same rows
+pub record IsAmong (cursors : List Cursor) (run : RunCursor) : Type 0 where
+  pub at : ℕ
+  pub other : RunCursor
+  pub is : cursor_at cursors at ≡ OfList other
+  pub list : run.list ≡ other.list
+  pub rows : run.rows ≡ other.rows
+
+abbrev pub CursorAmong : List Cursor → Cursor → Type 0
+CursorAmong cursors (OfList run) = IsAmong cursors run
+CursorAmong cursors (Range first last) = ⊤
+
+-- no list is among them that was not
+abbrev pub NoOthers : (old new : List Cursor) → Type 0
+NoOthers old new = (i : ℕ) → CursorAmong old (cursor_at new i)
 
 -- how much is to do: the pages to be read, and the identifiers that may be found
 abbrev pub left_of : Pool → MergeInto → ℕ
@@ -155,7 +170,6 @@ pub record Goes (told : Bool) (before now : Device) (pool later : Pool) (old new
   pub given : (since : Since) → IsSince told before since → AllGiven since before pool old.merge.cursors.items → AllGiven since now later new.merge.cursors.items
   pub same : (i : ℕ) → SameList (cursor_at old.merge.cursors.items i) (cursor_at new.merge.cursors.items i)
   pub outside : (low high : ℕ) → AllOutside low high old.merge.cursors.items → AllOutside low high new.merge.cursors.items
-  pub over : (run : Run) (rows : ℕ) → AllOver run rows old.merge.cursors.items → AllOver run rows new.merge.cursors.items
   pub count : length new.merge.cursors.items ≡ length old.merge.cursors.items
   pub first : new.writer.filler.first ≡ old.writer.filler.first
   pub rows : new.rows ≡ old.rows
@@ -168,7 +182,7 @@ SameIds page now (Range first last) = ⊤
 abbrev pub KeepsIds : (page now : ℕ → List ℕ) → List Cursor → Type 0
 KeepsIds page now cursors = (i : ℕ) → SameIds page now (cursor_at cursors i)
 
--- so many calls were made at most
+-- no more calls were made, and no more of them deep reads, than a number
 pub record MadeAtMost (most : ℕ) (before now : Device) : Type 0 where
   pub calls : now.calls ≤ before.calls + most
   pub deep_reads : now.deep_reads ≤ before.deep_reads + most
@@ -178,7 +192,7 @@ pub record WentByPages (before now : ℕ) (pool later : Pool) (old new : MergeIn
   pub further : old.writer.filler.pages ≤ new.writer.filler.pages
   pub calls : now + unread later new.merge ≤ before + unread pool old.merge + 2 * (new.writer.filler.pages - old.writer.filler.pages)
 
--- the same where the list stands, on as many pages as its identifiers take
+-- what was called until the list stood, on as many pages as its identifiers take: one call a page that was read, and two a page that was written
 pub record DoneByPages (before now : ℕ) (pool : Pool) (old : MergeInto) (run : Run) : Type 0 where
   pub further : old.writer.filler.pages ≤ runs.pages_of run.count 4
   pub calls : now ≤ before + unread pool old.merge + 2 * (runs.pages_of run.count 4 - old.writer.filler.pages)
@@ -227,7 +241,7 @@ Spends before now pool later old new (Ok None) = now + calls_left later new ≤ 
 Spends before now pool later old new (Ok (Some run)) = now ≤ before + calls_left pool old
 Spends before now pool later old new (Err fault) = now ≤ before + calls_left pool old + 1
 
--- the same by the pages themselves, however many rows there are
+-- what was called by the pages that were read and written, however many rows there are
 abbrev pub SpendsByPages : (before now : ℕ) (pool later : Pool) (old new : MergeInto) → Result (Option Run) PageFault → Type 0
 SpendsByPages before now pool later old new (Ok None) = WentByPages before now pool later old new
 SpendsByPages before now pool later old new (Ok (Some run)) = DoneByPages before now pool old run

@@ -28,7 +28,7 @@ pub record HasAll (has : List (List ℕ) → Type 0) (told : Bool) (right page :
   pub empty : lists_at_hand groups ≡ 0 → (id : ℕ) → Remains right merge id → ⊥
   pub all : (id : ℕ) → InLists lists id ↔ (InLists done id ⊎ (Remains right merge id ⊎ InLists left id))
 
--- the same where no list is still to come
+-- where pages are told and no list is still to come: what was written and what is at hand have together what all lists have
 pub record HasDone (told : Bool) (right page : ℕ → List ℕ) (pool : Pool) (groups : Groups) (lists : List (List ℕ)) : Type 0 where
   pub merge : Merge
   pub done : List (List ℕ)

@@ -1,5 +1,6 @@
 -- What a call on a pass reads, leaves, counts and comes to.
 use Rattle.std.specs.Prelude.{◌≡◌, ℕ, Bool, true, false, List, Option, Result, IfNone, IfOk, OnOk}
+use Rattle.ghost_base.specs.declared.runs.ListRef.{ListRef}
 use Rattle.edge_traits.specs.Devices.{Device}
 use Rattle.page_pool.specs.Pools.{Pool}
 use Rattle.flash_pages.specs.declared.fault.PageFault.{PageFault}
@@ -12,18 +13,19 @@ use Rattle.spill_pass.specs.Given.{PassGiven, PassKnown}
 use Rattle.spill_pass.specs.ListCalls.{EndsPass, HasSpent, PassSpendsIds, ids_of}
 use Rattle.spill_pass.specs.Merging.{AllOutside, MadeAtMost}
 use Rattle.spill_pass.specs.PassContents.{HasAll, HasDone, MergedHas, PassHas, TookHas}
-use Rattle.spill_pass.specs.Passing.{PassGoes, PassTells, PassWent, TakeTells}
+use Rattle.spill_pass.specs.Passing.{AreOfSource, PassGoes, PassTells, PassWent, TakeTells}
 use Rattle.spill_pass.specs.Sources.{BlamesSource, Source, UsesOutside}
 use Rattle.spill_pass.specs.Stepping.{Stepped}
 
--- what every call does whatever it comes to: it makes so many calls of the flash at most, and a slot that is blamed is a damaged one of
--- the source's, and may be blamed or was read since. No more is damaged than before
-pub record PassDoes {S T : Type 0} (source_of : S → Source) (can_read : Bool → Device → Pool → S → Type 0) (lists_of : (ℕ → List ℕ) → (ℕ → List ℕ) → ℕ → S → List (List ℕ) → Type 0) (given_of : Since → Device → Pool → ℕ → S → Type 0) (damaged_of : (ℕ → List ℕ) → ℕ → S → ℕ → ℕ → ℕ → Type 0) (told : Bool) (before now : Device) (paid total : ℕ) (pool later : Pool) (old new : Pass S) (most : ℕ) (result : Result T PageFault) : Type 0 where
+-- what every call does, whatever its result: it makes so many calls of the flash at most, and a slot that is blamed is a damaged one of
+-- the source's, and may be blamed or was read since. No more is damaged than before, and the lists at hand are still of the source
+pub record PassDoes {S T : Type 0} (source_of : S → Source) (can_read : Bool → Device → Pool → S → Type 0) (lists_of : (ℕ → List ℕ) → (ℕ → List ℕ) → ℕ → S → List (List ℕ) → Type 0) (may_of : (ℕ → List ℕ) → S → ListRef → Type 0) (given_of : Since → Device → Pool → ℕ → S → Type 0) (damaged_of : (ℕ → List ℕ) → ℕ → S → ℕ → ℕ → ℕ → Type 0) (told : Bool) (before now : Device) (paid total : ℕ) (pool later : Pool) (old new : Pass S) (most : ℕ) (result : Result T PageFault) : Type 0 where
   pub blames : (since : Since) → IsSince told before since → PassGiven given_of since before pool old → Blames since now result
   pub sound :
       told ≡ true → (right : ℕ → List ℕ) → (lists : List (List ℕ))
       → HasAll (lists_of before.page right old.groups.into.rows old.lists) told right before.page pool old.groups lists
-      → BlamesSource (damaged_of now.page old.groups.into.rows old.lists) result
+      → AreOfSource (may_of before.page old.lists) old.groups → BlamesSource (damaged_of now.page old.groups.into.rows old.lists) result
+  pub of_source : told ≡ true → AreOfSource (may_of before.page old.lists) old.groups → AreOfSource (may_of now.page new.lists) new.groups
   pub less : (page : ℕ → List ℕ) → (rows : ℕ) → (number slot found : ℕ) → damaged_of page rows new.lists number slot found → damaged_of page rows old.lists number slot found
   pub stepped : Stepped most before now paid total result
   pub at_most : MadeAtMost most before now

@@ -3,6 +3,7 @@ use Rattle.std.specs.Prelude.{◌≡◌, ℕ, ◌+◌, ◌*◌, ◌<◌, ◌≤�
 use Rattle.ghost_model.specs.core.Causes.{Rose}
 use Rattle.edge_traits.specs.Devices.{Device}
 use Rattle.page_pool.specs.Pools.{Pool, AreOut, KeepsOthers, others_out, free_count}
+use Rattle.ghost_base.specs.declared.runs.ListRef.{ListRef}
 use Rattle.spill_pass.specs.declared.groups.Groups.{Groups}
 use Rattle.spill_pass.specs.declared.groups.PlacedLists.{PlacedLists}
 use Rattle.spill_pass.specs.declared.passes.Pass.{Pass}
@@ -22,6 +23,10 @@ ArePairs source groups =
     (2 * groups.places.filler.count + lists_at_hand groups + source.lists_left ≤ groups.size)
     ⊎ ((2 * groups.places.filler.count ≤ groups.size + 1) × ((lists_at_hand groups ≡ 0) × (source.lists_left ≡ 0)))
 
+-- each list of the group at hand is one that the source may give, or gave
+abbrev pub AreOfSource : (may : ListRef → Type 0) → Groups → Type 0
+AreOfSource may groups = AllOver may groups.into.rows groups.into.merge.cursors.items
+
 -- the group at hand is complete: it has two lists at least, or is the last one
 abbrev pub IsComplete : Source → Groups → Type 0
 IsComplete source groups = (2 ≤ lists_at_hand groups) ⊎ ((lists_at_hand groups ≡ 1) × (source.lists_left ≡ 0))
@@ -40,7 +45,6 @@ pub record IsPassing (told : Bool) (device : Device) (pool : Pool) (source : Sou
   pub begins : merging ≡ false → groups.into.merge.last ≡ 0
   pub complete : merging ≡ true → IsComplete source groups
   pub pairs : ArePairs source groups
-  pub over : AllOver source.run groups.into.rows groups.into.merge.cursors.items
 
 -- the next list may be taken into the group at hand
 pub record CanTakeNext {S : Type 0} (source : S → Source) (ready : Bool → Device → Pool → S → Type 0) (told : Bool) (device : Device) (pool : Pool) (pass : Pass S) : Type 0 where

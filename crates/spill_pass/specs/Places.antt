@@ -152,6 +152,15 @@ pub record ReaderHas (page right : ℕ → List ℕ) (rows : ℕ) (reader : Plac
   pub lists_width : reader.lists.width ≡ 4
   pub has : HasPlaces page right rows reader.places reader.lists reader.at reader.next ids
 
+-- the run of the lists, as one list
+abbrev pub lists_run : PlaceReader → ListRef
+lists_run reader = record { run = reader.lists; first = 0; count = reader.lists.count }
+
+-- whatever the pages have: a list that a reader may give lies in the run of the lists
+pub record LiesInLists (page : ℕ → List ℕ) (reader : PlaceReader) (list : ListRef) : Type 0 where
+  pub run_is : list.run ≡ reader.lists
+  pub within : list.first + list.count ≤ reader.lists.count
+
 -- by the bytes of the pages no place is damaged, but a record of the lists may be
 abbrev pub DamagesReader : (page : ℕ → List ℕ) → (rows : ℕ) → PlaceReader → (number slot found : ℕ) → Type 0
-DamagesReader page rows reader number slot found = OutOfRowsIn page reader.lists rows number slot found
+DamagesReader page rows reader number slot found = OutOfRowsIn page (lists_run reader) rows number slot found

@@ -1,5 +1,6 @@
 -- What a turn of passes reads, leaves, counts and comes to, and what it leaves where a pass is over.
 use Rattle.std.specs.Prelude.{◌≡◌, ℕ, ◌^◌, ◌<◌, ◌≤◌, Bool, true, false, List, Option, Some, Result, IfOk, IfSome}
+use Rattle.ghost_base.specs.declared.runs.ListRef.{ListRef}
 use Rattle.edge_traits.specs.Devices.{Device}
 use Rattle.page_pool.specs.Pools.{Pool}
 use Rattle.flash_pages.specs.declared.fault.PageFault.{PageFault}
@@ -10,9 +11,10 @@ use Rattle.spill_pass.specs.Calls.{CallsLeft, TurnSpends}
 use Rattle.spill_pass.specs.Given.{AreasMay, KnowsRun, PlacedGiven, ReduceGiven, TurnKnown}
 use Rattle.spill_pass.specs.Grouping.{lists_at_hand}
 use Rattle.spill_pass.specs.ListCalls.{BeginsPass, ReduceCounts, TurnCounts}
-use Rattle.spill_pass.specs.Listings.{damaged_in, has_in, ready_in, source_in}
+use Rattle.spill_pass.specs.Listings.{damaged_in, has_in, may_in, ready_in, source_in}
 use Rattle.spill_pass.specs.Merging.{MadeAtMost}
 use Rattle.spill_pass.specs.PassContents.{StandsAll}
+use Rattle.spill_pass.specs.Passing.{AreOfSource}
 use Rattle.spill_pass.specs.ReduceContents.{ReduceHas, TurnHas}
 use Rattle.spill_pass.specs.Reducing.{CanPassOn, IsNextPass, PassedOn, PassesOver, ReduceGoes, ReduceTells}
 use Rattle.spill_pass.specs.Sources.{BlamesSource, Source}
@@ -58,16 +60,20 @@ pub record OneListStands {S : Type 0} (pool later : Pool) (old new : Reduce S) (
   pub pool_is : later ≡ pool
   pub areas : new.areas ≡ old.areas
   pub known :
-      (since : Since) → (device : Device) → old.pass.groups.into.rows < 2 ^ 32
+      (since : Since) → (device : Device) → old.pass.groups.into.rows < 2 ^ 32 → placed.lists.width ≡ 4
       → PlacedGiven since device.page old.pass.groups.into.rows placed → KnowsRun since device.page old.pass.groups.into.rows new.run
 
--- what a turn does whatever it comes to: it makes four calls at most, and a slot that is blamed is a damaged one of the source's, and
--- may be blamed or was read since. No more is damaged than before
-pub record ReduceDoes {S : Type 0} (source_of : S → Source) (lists_of : (ℕ → List ℕ) → (ℕ → List ℕ) → ℕ → S → List (List ℕ) → Type 0) (given_of : Since → Device → Pool → ℕ → S → Type 0) (damaged_of : (ℕ → List ℕ) → ℕ → S → ℕ → ℕ → ℕ → Type 0) (told : Bool) (before now : Device) (paid total : ℕ) (pool later : Pool) (old new : Reduce S) (result : Result (Option ℕ) PageFault) : Type 0 where
+-- what a turn does, whatever its result: it makes four calls at most, and a slot that is blamed is a damaged one of the source's, and
+-- may be blamed or was read since. No more is damaged than before, and the lists at hand are still of the source
+pub record ReduceDoes {S : Type 0} (source_of : S → Source) (lists_of : (ℕ → List ℕ) → (ℕ → List ℕ) → ℕ → S → List (List ℕ) → Type 0) (may_of : (ℕ → List ℕ) → S → ListRef → Type 0) (given_of : Since → Device → Pool → ℕ → S → Type 0) (damaged_of : (ℕ → List ℕ) → ℕ → S → ℕ → ℕ → ℕ → Type 0) (told : Bool) (before now : Device) (paid total : ℕ) (pool later : Pool) (old new : Reduce S) (result : Result (Option ℕ) PageFault) : Type 0 where
   pub blames : (since : Since) → IsSince told before since → ReduceGiven given_of since before pool old → Blames since now result
   pub sound :
       told ≡ true → (lists : List (List ℕ)) → ReduceHas (λ right. has_in lists_of before.page right old.pass.groups.into.rows old.pass.lists) told before.page pool old.pass.groups lists
+      → AreOfSource (may_in may_of before.page old.pass.lists) old.pass.groups
       → BlamesSource (damaged_in damaged_of now.page old.pass.groups.into.rows old.pass.lists) result
+  pub of_source :
+      told ≡ true → AreOfSource (may_in may_of before.page old.pass.lists) old.pass.groups
+      → AreOfSource (may_in may_of now.page new.pass.lists) new.pass.groups
   pub less :
       (page : ℕ → List ℕ) → (rows : ℕ) → (number slot found : ℕ) → damaged_in damaged_of page rows new.pass.lists number slot found
       → damaged_in damaged_of page rows old.pass.lists number slot found

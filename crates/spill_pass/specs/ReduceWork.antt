@@ -1,6 +1,7 @@
 -- Passes over lists as what works in steps.
 use Rattle.std.specs.Prelude.{◌≡◌, ℕ, ◌+◌, ◌<◌, ◌≤◌, ◌⊎◌, Bool, true, false, List, IfSome}
 use Rattle.std.proofs.Common.{◌∙◌, inl, inr, refl, arith}
+use Rattle.ghost_base.specs.declared.runs.ListRef.{ListRef}
 use Rattle.edge_traits.specs.Devices.{Device}
 use Rattle.page_pool.specs.Pools.{Pool, AreOut}
 use Rattle.id_merge.specs.Since.{Since}
@@ -8,9 +9,9 @@ use Rattle.spill_pass.specs.declared.reduce.Reduce.{Reduce}
 use Rattle.spill_pass.specs.Given.{KnowsRun, ReduceGiven}
 use Rattle.spill_pass.specs.Grouping.{AreApart}
 use Rattle.spill_pass.specs.ListCalls.{ReduceCounts}
-use Rattle.spill_pass.specs.Listings.{damaged_in, has_in, ready_in, source_in}
+use Rattle.spill_pass.specs.Listings.{damaged_in, has_in, may_in, ready_in, source_in}
 use Rattle.spill_pass.specs.Merging.{area_pages}
-use Rattle.spill_pass.specs.Passing.{pass_held}
+use Rattle.spill_pass.specs.Passing.{AreOfSource, pass_held}
 use Rattle.spill_pass.specs.ReduceContents.{IsUnion, ReduceHas}
 use Rattle.spill_pass.specs.Reducing.{IsOutside, IsReducing, ReduceOutside, RunStands, reduce_left}
 use Rattle.spill_pass.specs.Sources.{Source}
@@ -26,16 +27,20 @@ pub record ReduceReady {S : Type 0} (source : S → Source) (ready : Bool → De
   pub reducing :
       IsReducing told device pool (pass_source source reduce) reduce.areas reduce.pass.groups reduce.pass.fan reduce.pass.merging
 
--- the same, or the one list stands
+-- a step may be made, or the one list stands
 abbrev pub reduce_ready : {S : Type 0} → (S → Source) → (Bool → Device → Pool → S → Type 0) → (told : Bool) → Device → Pool → Reduce S → (done : Bool) → Type 0
 reduce_ready source ready told device pool reduce false = ReduceReady source ready told device pool reduce
 reduce_ready source ready told device pool reduce true = RunStands reduce.areas reduce.pass.groups.into.rows reduce.run
 
+-- where pages are told: the lists have together what all lists have, and those of the group at hand are of the source
+pub record ReduceHolds {S : Type 0} (has : (ℕ → List ℕ) → (ℕ → List ℕ) → ℕ → S → List (List ℕ) → Type 0) (may : (ℕ → List ℕ) → S → ListRef → Type 0) (told : Bool) (page : ℕ → List ℕ) (pool : Pool) (reduce : Reduce S) (goal : Goal) : Type 0 where
+  pub has_all : ReduceHas (λ right. has_in has page right reduce.pass.groups.into.rows reduce.pass.lists) told page pool reduce.pass.groups goal.lists
+  pub of_source : AreOfSource (may_in may page reduce.pass.lists) reduce.pass.groups
+
 -- where pages are told: the lists have together what all lists have, or the one list has it
-abbrev pub reduce_has : {S : Type 0} → ((ℕ → List ℕ) → (ℕ → List ℕ) → ℕ → S → List (List ℕ) → Type 0) → (told : Bool) → (page : ℕ → List ℕ) → Pool → Reduce S → (done : Bool) → Goal → Type 0
-reduce_has has told page pool reduce false goal =
-    ReduceHas (λ right. has_in has page right reduce.pass.groups.into.rows reduce.pass.lists) told page pool reduce.pass.groups goal.lists
-reduce_has has told page pool reduce true goal = IfSome reduce.run (IsUnion page goal.lists)
+abbrev pub reduce_has : {S : Type 0} → ((ℕ → List ℕ) → (ℕ → List ℕ) → ℕ → S → List (List ℕ) → Type 0) → ((ℕ → List ℕ) → S → ListRef → Type 0) → (told : Bool) → (page : ℕ → List ℕ) → Pool → Reduce S → (done : Bool) → Goal → Type 0
+reduce_has has may told page pool reduce false goal = ReduceHolds has may told page pool reduce goal
+reduce_has has may told page pool reduce true goal = IfSome reduce.run (IsUnion page goal.lists)
 
 -- the pass at hand was given, or the one list is in order, or a slot of it may be blamed
 abbrev pub reduce_given : {S : Type 0} → (Since → Device → Pool → ℕ → S → Type 0) → Since → (size : ℕ) → Device → Pool → Reduce S → (done : Bool) → Type 0

@@ -25,7 +25,7 @@ pub record Source : Type 0 where
   -- the run in which all its lists lie
   pub run : Run
 
--- it uses no page of an area
+-- a source uses no page of an area
 abbrev pub UsesOutside : (low high : ℕ) → Source → Type 0
 UsesOutside low high source = (page : ℕ) → source.uses page ≡ true → (page < low) ⊎ (high ≤ page)
 
@@ -36,7 +36,7 @@ pub record SparesSource (before now : Device) (pool later : Pool) (source : Sour
   pub out : IsOut later source.lease
   pub buffer : SameBuffer pool later source.lease
 
--- it uses the same buffer and no other pages, its lists lie in the same run, and no more is to come
+-- a source uses the same buffer as before and no other pages, its lists lie in the same run, and no more is to come
 pub record SameSource (old new : Source) : Type 0 where
   pub lease : new.lease ≡ old.lease
   pub uses : (page : ℕ) → new.uses page ≡ true → old.uses page ≡ true
@@ -44,13 +44,18 @@ pub record SameSource (old new : Source) : Type 0 where
   pub lists : new.lists_left ≤ old.lists_left
   pub ids : new.ids_left ≤ old.ids_left
 
+-- what the lists of a source have for an identifier: a code, or four bytes
+pub data IsIdWidth (width : ℕ) : Type 0 where
+  Codes : width ≡ 1 → IsIdWidth width
+  Identifiers : width ≡ 4 → IsIdWidth width
+
 -- one list is given: the device has it, in the source's run, on pages that are used, and its identifiers are some of those that
 -- were to come
 pub record GaveList (device : Device) (old new : Source) (list : ListRef) : Type 0 where
   pub readable : IsReadable device list
   pub run_is : list.run ≡ old.run
   pub used : (i : ℕ) → i < list.run.count → old.uses (runs.page_of (run_of list.run) i) ≡ true
-  pub width : list.run.width ≡ 4
+  pub width : IsIdWidth list.run.width
   pub lists : old.lists_left ≡ new.lists_left + 1
   pub ids : list.count + new.ids_left ≤ old.ids_left
 

@@ -17,13 +17,15 @@ pub enum Lists<S> {
 }
 
 impl<S: ListSource + Drop> ListSource for Lists<S> {
-    ghost use Rattle.spill_pass.specs.Listings.{source_in, ready_in, calls_in, has_in, given_in, damaged_in};
+    ghost use Rattle.spill_pass.specs.Listings.{source_in, ready_in, calls_in, may_in, has_in, given_in, damaged_in};
 
     ghost source = { source_in S.source };
 
     ghost ready = { ready_in S.ready };
 
     ghost calls = { calls_in S.calls };
+
+    ghost may_give = { may_in S.may_give };
 
     ghost has_lists = { has_in S.has_lists };
 

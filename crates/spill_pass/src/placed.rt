@@ -1,7 +1,7 @@
 //! Lists that lie one behind another in a run, as a source of lists.
 
 ghost use Rattle.spill_pass.specs.Listings.{ReaderGiven};
-ghost use Rattle.spill_pass.specs.Places.{CanGive, DamagesReader, ReaderHas, reads_place, source_of};
+ghost use Rattle.spill_pass.specs.Places.{CanGive, DamagesReader, LiesInLists, ReaderHas, reads_place, source_of};
 
 use crate::places::PlaceReader;
 use crate::source::ListSource;
@@ -16,6 +16,8 @@ impl ListSource for PlaceReader {
     ghost ready = { CanGive };
 
     ghost calls = { reads_place };
+
+    ghost may_give = { LiesInLists };
 
     ghost has_lists = { ReaderHas };
 

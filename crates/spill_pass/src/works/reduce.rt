@@ -13,7 +13,7 @@ impl<S: ListSource + Drop> Work for Reduce<S> {
 
     ghost ready = { reduce_ready S.source S.ready };
 
-    ghost has = { reduce_has S.has_lists };
+    ghost has = { reduce_has S.has_lists S.may_give };
 
     ghost given = { reduce_given S.given };
 

@@ -1,6 +1,6 @@
 //! The steps of a slice.
 
-ghost use Rattle.std.specs.Prelude.{◌≡◌, ◌+◌, ◌^◌, ◌<◌, Bool, true, false, ℕ, List, IfOk};
+ghost use Rattle.std.specs.Prelude.{◌≡◌, ◌+◌, ◌^◌, ◌<◌, true, false, ℕ, List, IfOk};
 ghost use Rattle.ghost_model.specs.core.Causes.{Rose};
 ghost use Rattle.id_merge.specs.Since.{Since, IsSince, Blames};
 ghost use Rattle.spill_pass.specs.Sources.{BlamesSource};

@@ -10,7 +10,7 @@ use Rattle.spill_pass.proofs.Writing.{few_put_calls, bit_most}
 use Rattle.spill_pass.proofs.Grouping.{places_below}
 use Rattle.spill_pass.proofs.Closing.{put_goes, closed_goes, closed_grouping, can_place, place_reach, none_hand}
 use Rattle.spill_pass.proofs.Taking.{outs_of_two}
-use Rattle.spill_pass.proofs.Over.{outside_none, over_none}
+use Rattle.spill_pass.proofs.Over.{among_itself, among_none, outside_none}
 use Rattle.spill_pass.proofs.Listing.{closed_lists}
 use Rattle.id_merge.specs.Cursors.{CursorGiven}
 use Rattle.spill_pass.proofs.Grouping.{each_none}
@@ -36,7 +36,7 @@ end-requires g c =
 pub returns-in_err-put_and_count-clause-does : goal.returns-in_err-put_and_count-clause-does
 returns-in_err-put_and_count-clause-does g c = record {
   given = search rules;
-  over = search rules;
+  lists = among_itself c.args.self.now.into.merge.cursors.items;
   outside = search rules;
   stepped = search rules;
   at_most = search rules;
@@ -71,9 +71,9 @@ returns-clause-does g c = record {
             (place_reach old is (omega (arith, places_below old is, c.requires.place))))
             put.buffer gives c.place_cell-cell.ensures.cell put.appended (lists_as old (sym told) (was.puts tells)));
       };
-  over =
-      λ run rows over.
-      over_none run rows c.replace-merge.new.dest.cursors.items (ap (λ (m : Merge). m.cursors.items) c.replace-merge.ensures.after ∙ c.no_lists.ensures.cursors);
+  lists =
+      among_none c.args.self.now.into.merge.cursors.items c.replace-merge.new.dest.cursors.items
+      (ap (λ (m : Merge). m.cursors.items) c.replace-merge.ensures.after ∙ c.no_lists.ensures.cursors);
   outside =
       λ low high outside.
       outside_none low high c.replace-merge.new.dest.cursors.items (ap (λ (m : Merge). m.cursors.items) c.replace-merge.ensures.after ∙ c.no_lists.ensures.cursors);

@@ -34,3 +34,15 @@ returns-in-Placed-clause-blames g c = rw c.in-Placed.is c.next_list-in-Placed.en
 
 pub returns-in-Placed-clause-known : goal.returns-in-Placed-clause-known
 returns-in-Placed-clause-known g c = rw c.in-Placed.is c.next_list-in-Placed.ensures.known
+
+pub returns-in-Given-clause-may : goal.returns-in-Given-clause-may
+returns-in-Given-clause-may g c = rw c.in-Given.is c.next_list.ensures.may
+
+pub returns-in-Placed-clause-may : goal.returns-in-Placed-clause-may
+returns-in-Placed-clause-may g c = rw c.in-Placed.is c.next_list-in-Placed.ensures.may
+
+pub returns-in-Given-clause-still_may : goal.returns-in-Given-clause-still_may
+returns-in-Given-clause-still_may g c = rw c.in-Given.is c.next_list.ensures.still_may
+
+pub returns-in-Placed-clause-still_may : goal.returns-in-Placed-clause-still_may
+returns-in-Placed-clause-still_may g c = rw c.in-Placed.is c.next_list-in-Placed.ensures.still_may

@@ -13,9 +13,10 @@ pub returns-clause-does : goal.returns-clause-does
 returns-clause-does g c = record {
   blames = λ since from given. none_blames since (g.F.Flash.state c.finish.new.flash) c.finish.result c.finish.ensures.finishes.no_slot;
   sound =
-      λ told right lists h.
+      λ told right lists h of.
       none_damaged (g.S.ListSource.damaged (g.F.Flash.state c.finish.new.flash).page c.args.self.now.groups.into.rows c.args.self.now.lists) c.finish.result
       c.finish.ensures.finishes.no_slot;
+  of_source = λ told of. c.finish.ensures.does.of_source told (c.take.ensures.does.of_source told of);
   less =
       λ page rows number slot found damaged.
       c.take.ensures.does.less page rows number slot found (rw (sym c.finish.ensures.finishes.lists_are) damaged);
@@ -58,9 +59,10 @@ returns-in_err-calls-clause-does g c = record {
       let p = err_from_is_err_and c.from_residual.result c.from_residual.ensures.1 in
       rw (p.1, p.2) (c.in_err-calls.ensures.does.blames since from given);
   sound =
-      λ told right lists h.
+      λ told right lists h of.
       let p = err_from_is_err_and c.from_residual.result c.from_residual.ensures.1 in
-      rw (p.1, p.2) (c.in_err-calls.ensures.does.sound told right lists h);
+      rw (p.1, p.2) (c.in_err-calls.ensures.does.sound told right lists h of);
+  of_source = λ told of. c.take.ensures.does.of_source told of;
   less = search rules;
   stepped = search rules;
   at_most = search rules;

@@ -1,6 +1,6 @@
 use Rattle.std.proofs.Common.{rules, sym, arith}
 use Rattle.std.proofs.lemmas.List.{nil_from_length}
-use Rattle.spill_pass.proofs.Over.{none_blames, none_damaged, outside_none}
+use Rattle.spill_pass.proofs.Over.{none_blames, none_damaged, outside_none, over_none}
 use Rattle.spill_pass.proofs.PassContents.{stands_all}
 use Rattle.spill_pass.proofs.PassFrames.{pass_of_groups}
 use Rattle.spill_pass.proofs.PassGoing.{made_four, made_none, pass_ends}
@@ -13,9 +13,13 @@ pub returns-in_err-placed-clause-does : goal.returns-in_err-placed-clause-does
 returns-in_err-placed-clause-does g c = record {
   blames = λ since from given. none_blames since (g.F.Flash.state c.finish.new.flash) c.from_residual.result (search rules);
   sound =
-      λ told right lists h.
+      λ told right lists h of.
       none_damaged (g.S.ListSource.damaged (g.F.Flash.state c.finish.new.flash).page c.args.self.now.groups.into.rows c.args.self.now.lists) c.from_residual.result
       (search rules);
+  of_source =
+      λ told of.
+      over_none (g.S.ListSource.may_give (g.F.Flash.state c.finish.new.flash).page c.args.self.now.lists) c.finish.new.self.into.rows
+      c.finish.new.self.into.merge.cursors.items (nil_from_length c.finish.new.self.into.merge.cursors.items c.finish.ensures.finishes.empty);
   less = search rules;
   stepped = search rules;
   at_most = search rules;
@@ -30,7 +34,11 @@ returns-in_err-placed-clause-does g c = record {
 pub returns-clause-does : goal.returns-clause-does
 returns-clause-does g c = record {
   blames = λ since from given. tt;
-  sound = λ told right lists h. tt;
+  sound = λ told right lists h of. tt;
+  of_source =
+      λ told of.
+      over_none (g.S.ListSource.may_give (g.F.Flash.state c.finish.new.flash).page c.args.self.now.lists) c.finish.new.self.into.rows
+      c.finish.new.self.into.merge.cursors.items (nil_from_length c.finish.new.self.into.merge.cursors.items c.finish.ensures.finishes.empty);
   less = search rules;
   stepped = search rules;
   at_most = search rules;

@@ -1,8 +1,8 @@
-use Rattle.std.proofs.Common.{refl, subst}
+use Rattle.std.proofs.Common.{◌∙◌, ap, refl, subst, sym, arith}
 use Rattle.ghost_base.specs.declared.runs.Run.{Run}
 use Rattle.spill_pass.specs.Lists.{OutOfRowsIn}
 use Rattle.spill_pass.specs.Places.{DamagesReader}
-use Rattle.spill_pass.proofs.PlaceGiving.{gives_list, gives_sound}
+use Rattle.spill_pass.proofs.PlaceGiving.{gives_inside, gives_list, gives_sound}
 use Rattle.spill_pass.proofs.ReaderGiving.{place_blamed, reader_known}
 use Rattle.spill_pass.proofs.placed.PlaceReaderListSource.next_list.Goals as goal
 
@@ -18,7 +18,7 @@ returns-clause-sound g c = λ told right rows lists has.
 
 pub returns-clause-less : goal.returns-clause-less
 returns-clause-less g c = λ page rows number slot found damaged.
-    let P : Run → Type 0 = λ run. OutOfRowsIn page run rows number slot found in
+    let P : Run → Type 0 = λ run. OutOfRowsIn page (record { run = run; first = 0; count = run.count }) rows number slot found in
     subst P c.next.ensures.always.same.lists damaged
 
 pub returns-clause-blames : goal.returns-clause-blames
@@ -31,3 +31,12 @@ returns-clause-known g c = λ since rows from given.
     let n = c.next.ensures in
     reader_known since rows c.args.self.now c.next.new.self c.next.result n.read.kept.page from n.gives n.always.step n.always.fault n.always.same c.requires.ready.few
     n.read.given given
+
+pub returns-clause-may : goal.returns-clause-may
+returns-clause-may g c = λ told. gives_inside (g.F.Flash.state c.next.new.flash).page c.args.self.now c.next.new.self c.next.result c.next.ensures.always.step
+
+pub returns-clause-still_may : goal.returns-clause-still_may
+returns-clause-still_may g c = λ page list lies. record {
+  run_is = lies.run_is ∙ sym c.next.ensures.always.same.lists;
+  within = omega (arith, lies.within, ap (λ (run : Run). run.count) c.next.ensures.always.same.lists);
+}
