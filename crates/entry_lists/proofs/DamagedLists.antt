@@ -1,28 +1,29 @@
 -- A slot that is damaged of lists of entries is one that the layout's slots call so.
-use Rattle.std.proofs.Common.{◌≡◌, ◌∙◌, ℕ, ◌+◌, ◌<◌, ◌≤◌, Bool, true, false, ◌&&◌, nat_le, nat_lt, inl, inr, List, length, slice_index, ap, refl, subst, arith}
-use Rattle.std.specs.Prelude.{Contains}
-use Rattle.std.proofs.lemmas.Bool.{and_parts, leb-true, lt-ltb}
+use Rattle.std.proofs.Common.{◌≡◌, ◌∙◌, ℕ, ◌+◌, ◌<◌, ◌≤◌, true, inl, inr, List, length, ap, sym, subst, arith}
+use Rattle.std.specs.Prelude.{◌⊎◌, Contains, Some, option_map}
 use Rattle.std.proofs.lemmas.List.FromFn.{length-range_with_len, get_or-range_with_len}
 use Rattle.std.proofs.lemmas.List.Elements.{Contains-append_cases}
+use Rattle.std.proofs.lemmas.Option.{slice_get-get_or}
 use Rattle.ghost_model.specs.core.Channel.{Catalog}
-use Rattle.ghost_model.specs.laws.LayoutLaws.{FilesLieAsSummed}
-use Rattle.ghost_model.specs.forms.Runs.{Run, page_of, slot_of, record_at, id_at, found_in, number_in}
-use Rattle.ghost_model.specs.forms.Layout.{count_of, levels_of, above_of, IndexLevel, IdLevel}
+use Rattle.ghost_model.specs.forms.Layout.{is_hidden, count_of, levels_of, above_of, IndexLevel, IdLevel}
 use Rattle.ghost_model.specs.laws.ShortWords.{index_level, id_level}
-use Rattle.ghost_model.specs.forms.Slots.{IsDamagedSlot, is_row}
+use Rattle.ghost_model.specs.forms.Slots.{IsDamagedIn, IsDamagedSlot}
+use Rattle.ghost_base.specs.declared.runs.Run.{Run}
+use Rattle.ghost_base.specs.declared.runs.ListRef.{ListRef}
 use Rattle.ghost_base.specs.Runs.{run_of}
 use Rattle.climbing_index.specs.declared.directory.Directory.{Directory}
+use Rattle.climbing_index.specs.declared.index.ClimbingIndex.{ClimbingIndex}
 use Rattle.climbing_index.specs.declared.index.IdIndex.{IdIndex}
 use Rattle.climbing_index.specs.declared.search.Group.{Group}
-use Rattle.climbing_index.specs.Indexes.{IsIdIndexOf}
-use Rattle.climbing_index.specs.Directories.{HasDamage, entry_stands}
-use Rattle.climbing_index.specs.Laws.{DamageIsOfSlots}
+use Rattle.climbing_index.specs.Indexes.{IsIndexOf, IsIdIndexOf}
+use Rattle.climbing_index.specs.Directories.{HasDamage, entry_stands, file_of}
+use Rattle.climbing_index.specs.Laws.{BrokenCodesAreDamaged, DamageIsOfSlots, IsBrokenAt, IsListOf}
 use Rattle.climbing_index.specs.Searches.{header_count, rows_of}
+use Rattle.climbing_index.proofs.LevelFiles.{how_many}
 use Rattle.spill_pass.specs.Lists.{OutOfRowsIn}
 use Rattle.entry_lists.specs.declared.entries.EntryLists.{EntryLists}
-use Rattle.entry_lists.specs.Entries.{entries_in, entries_of, level_run}
+use Rattle.entry_lists.specs.Entries.{IsListOfEntry, entries_in, entries_of}
 use Rattle.entry_lists.specs.Laws.{AreListsOf, IdListsDamageSlots, ValueListsDamageSlots, rows_at}
-use Rattle.entry_lists.proofs.ValueLists.{file_at}
 
 -- an entry still to come is one of so many
 in_group : (group : Group) (entries entry : ℕ) → group.first + group.count ≤ entries → Contains (entries_in group) entry → entry < entries
@@ -38,21 +39,41 @@ comes_within directory levels entries lists entry are comes =
       | inr one ↦ in_group lists.second entries entry are.second one
     ]
 
--- an identifier that no row has is out of its range
-no_row : (cat : Catalog) (from id : ℕ) → (0 < id → id ≤ count_of cat from → ⊥) → is_row cat from id ≡ false
-no_row cat from id out = by_test (is_row cat from id) refl
-  where
-    by_test : (t : Bool) → (nat_le 1 id && nat_le id (count_of cat from)) ≡ t → t ≡ false
-    by_test false e = refl
-    by_test true e =
-        let both = and_parts (nat_le 1 id) (nat_le id (count_of cat from)) e in
-        absurd (out (leb-true 1 id both.0) (leb-true id (count_of cat from) both.1))
+-- so is one before the end of a group
+given_within : (directory : Directory) (levels entries : ℕ) (lists : EntryLists) (entry : ℕ) → AreListsOf directory levels entries lists
+    → (entry < lists.first.first + lists.first.count) ⊎ (entry < lists.second.first + lists.second.count) → entry < entries
+given_within directory levels entries lists entry are before =
+    elim before [
+      | inl low ↦ omega (arith, low, are.first)
+      | inr low ↦ omega (arith, low, are.second)
+    ]
 
--- of the level file's
-no_row_at : (page : ℕ → List ℕ) (cat : Catalog) (from : ℕ) (run file : Run) (at : ℕ) → run ≡ file
-    → (0 < id_at page run at → id_at page run at ≤ count_of cat from → ⊥) → is_row cat from (number_in (record_at page file at) 0) ≡ false
-no_row_at page cat from run file at is out =
-    no_row cat from (id_at page file at) (let P : Run → Type 0 = λ r. 0 < id_at page r at → id_at page r at ≤ count_of cat from → ⊥ in subst P is out)
+-- its list is one that a call gives, which lies in the file of its level
+pub given_list : (page : ℕ → List ℕ) (one directory : Directory) (level entry : ℕ) (list : ListRef) → one ≡ directory → level < length directory.levels.items
+    → IsListOfEntry page one level entry list → IsListOf page directory entry level list
+given_list page one directory level entry list same low is =
+    let E : Directory → Type 0 = λ d. IsListOfEntry page d level entry list in
+    let own = subst E same is in
+    record {
+      listed = own.listed;
+      run =
+          ap (option_map file_of) (slice_get-get_or directory.levels.items level (record { first = 0; count = 0 }) low)
+          ∙ ap (λ (r : Run). Some (run_of r)) (sym own.lies.run_is);
+    }
+
+-- reading it gets to the slot
+broken_at : (page : ℕ → List ℕ) (list : ListRef) (rows number slot found : ℕ) → (out : OutOfRowsIn page list rows number slot found)
+    → IsBrokenAt page list rows out.place number slot found
+broken_at page list rows number slot found out = record {
+  at = out.at;
+  within = out.within;
+  last = out.last;
+  gets = out.gets;
+  page_is = out.page_is;
+  slot_is = out.slot_is;
+  found_is = out.found_is;
+  out = out.out;
+}
 
 -- the slot is blamed as one of the directory
 pub directory_damage : (page : ℕ → List ℕ) (one directory : Directory) → one ≡ directory → (entry number slot found : ℕ)
@@ -60,59 +81,70 @@ pub directory_damage : (page : ℕ → List ℕ) (one directory : Directory) →
 directory_damage page one directory is entry number slot found damage =
     let D : Directory → Type 0 = λ d. HasDamage page (run_of d.run) (entry_stands d) entry number slot found in subst D is damage
 
-pub value_lists_damage : FilesLieAsSummed → DamageIsOfSlots → ValueListsDamageSlots
-value_lists_damage laid damage page cat table column h index is lists are told number slot found damaged =
+pub code_damage : BrokenCodesAreDamaged → (page : ℕ → List ℕ) (cat : Catalog) (table column : ℕ) → is_hidden cat.schema table column ≡ true
+    → (index : ClimbingIndex) → IsIndexOf cat table column index
+    → (directory : Directory) → directory ≡ index.directory → (level : ℕ) → level < length (levels_of cat.schema table)
+    → (entry : ℕ) → entry < rows_of index → entry < header_count page index → (list : ListRef) → IsListOfEntry page directory level entry list
+    → (number slot found : ℕ) → (out : OutOfRowsIn page list (rows_at cat (levels_of cat.schema table) level) number slot found)
+    → IsDamagedIn cat page (IndexLevel table column level) out.place number slot found
+code_damage broken page cat table column h index is directory same level low entry inside told list of number slot found out =
+    let levels = levels_of cat.schema table in
+    let depth = how_many (index_level cat table column) (length levels) index.directory.levels.items is.levels_are in
+    broken.values page cat table column h index is entry level inside told low list
+    (given_list page directory index.directory level entry list same (omega (arith, depth, low)) of) out.place number slot found
+    (broken_at page list (rows_at cat levels level) number slot found out)
+
+pub id_code_is_damaged : BrokenCodesAreDamaged → (page : ℕ → List ℕ) (cat : Catalog) (table : ℕ) → table < length cat.schema
+    → (index : IdIndex) → IsIdIndexOf cat table index
+    → (directory : Directory) → directory ≡ index.directory → (level : ℕ) → level < length (above_of cat.schema table)
+    → (entry : ℕ) → entry < count_of cat table → (list : ListRef) → IsListOfEntry page directory level entry list
+    → (number slot found : ℕ) → (out : OutOfRowsIn page list (rows_at cat (above_of cat.schema table) level) number slot found)
+    → IsDamagedIn cat page (IdLevel table level) out.place number slot found
+id_code_is_damaged broken page cat table there index is directory same level low entry inside list of number slot found out =
+    let levels = above_of cat.schema table in
+    let depth = how_many (id_level cat table) (length levels) index.directory.levels.items is.levels_are in
+    broken.identifiers page cat table there index is entry level inside low list
+    (given_list page directory index.directory level entry list same (omega (arith, depth, low)) of) out.place number slot found
+    (broken_at page list (rows_at cat levels level) number slot found out)
+
+pub id_code_damage : BrokenCodesAreDamaged → (page : ℕ → List ℕ) (cat : Catalog) (table : ℕ) → table < length cat.schema
+    → (index : IdIndex) → IsIdIndexOf cat table index
+    → (directory : Directory) → directory ≡ index.directory → (level : ℕ) → level < length (above_of cat.schema table)
+    → (entry : ℕ) → entry < count_of cat table → (list : ListRef) → IsListOfEntry page directory level entry list
+    → (number slot found : ℕ) → OutOfRowsIn page list (rows_at cat (above_of cat.schema table) level) number slot found
+    → IsDamagedSlot cat page number slot found
+id_code_damage broken page cat table there index is directory same level low entry inside list of number slot found out = record {
+  file = IdLevel table level;
+  place = out.place;
+  at = id_code_is_damaged broken page cat table there index is directory same level low entry inside list of number slot found out;
+}
+
+pub value_lists_damage : DamageIsOfSlots → BrokenCodesAreDamaged → ValueListsDamageSlots
+value_lists_damage damage broken page cat table column h index is lists are told number slot found damaged =
+    let levels = length (levels_of cat.schema table) in
     elim damaged [
       | inl one ↦ damage.list page cat table column h index is one.entry
-          (comes_within index.directory (length (levels_of cat.schema table)) (rows_of index) lists one.entry are one.comes)
-          (comes_within index.directory (length (levels_of cat.schema table)) (header_count page index) lists one.entry told one.comes)
+          (comes_within index.directory levels (rows_of index) lists one.entry are one.comes)
+          (comes_within index.directory levels (header_count page index) lists one.entry told one.comes)
           number slot found (directory_damage page lists.directory index.directory are.directory_is one.entry number slot found one.damage)
-      | inr out ↦ (
-          let file = index_level cat table column lists.level in
-          let run = ap (λ (d : Directory). run_of (level_run d lists.level)) are.directory_is
-          ∙ file_at (index_level cat table column) (length (levels_of cat.schema table)) index.directory is.levels_are lists.level are.level in
-          let count = ap (λ (r : Run). r.count) (run ∙ (laid cat).index_level table column lists.level h are.level) in
-          record {
-            file = IndexLevel table column lists.level;
-            place = out.at;
-            at = record {
-              has = ap (λ b. b && nat_lt lists.level (length (levels_of cat.schema table))) h ∙ lt-ltb lists.level (length (levels_of cat.schema table)) are.level;
-              within = omega (arith, count, out.within);
-              page_is = out.page_is ∙ ap (λ r. page_of r out.at) run;
-              slot_is = out.slot_is ∙ ap (λ r. slot_of r out.at) run;
-              damaged = inl (no_row_at page cat (slice_index (levels_of cat.schema table) lists.level) (run_of (level_run lists.directory lists.level)) file out.at run out.out);
-              found_is = out.found_is ∙ ap (λ r. found_in (record_at page r out.at)) run;
-            };
-          })
+      | inr code ↦ record {
+        file = IndexLevel table column lists.level;
+        place = code.out.place;
+        at = code_damage broken page cat table column h index is lists.directory are.directory_is lists.level are.level code.may.entry
+            (given_within index.directory levels (rows_of index) lists code.may.entry are code.may.before)
+            (given_within index.directory levels (header_count page index) lists code.may.entry told code.may.before)
+            code.list code.may.is number slot found code.out;
+      }
     ]
 
-pub level_damage : FilesLieAsSummed → (page : ℕ → List ℕ) (cat : Catalog) (table : ℕ) → table < length cat.schema → (index : IdIndex) → IsIdIndexOf cat table index
-    → (directory : Directory) → directory ≡ index.directory → (level : ℕ) → level < length (above_of cat.schema table)
-    → (number slot found : ℕ) → OutOfRowsIn page (level_run directory level) (rows_at cat (above_of cat.schema table) level) number slot found
-    → IsDamagedSlot cat page number slot found
-level_damage laid page cat table there index is directory same level low number slot found out =
-    let file = id_level cat table level in
-    let run = ap (λ (d : Directory). run_of (level_run d level)) same
-    ∙ file_at (id_level cat table) (length (above_of cat.schema table)) index.directory is.levels_are level low in
-    let count = ap (λ (r : Run). r.count) (run ∙ (laid cat).id_level table level there low) in
-    record {
-      file = IdLevel table level;
-      place = out.at;
-      at = record {
-        has = lt-ltb level (length (above_of cat.schema table)) low;
-        within = omega (arith, count, out.within);
-        page_is = out.page_is ∙ ap (λ r. page_of r out.at) run;
-        slot_is = out.slot_is ∙ ap (λ r. slot_of r out.at) run;
-        damaged = inl (no_row_at page cat (slice_index (above_of cat.schema table) level) (run_of (level_run directory level)) file out.at run out.out);
-        found_is = out.found_is ∙ ap (λ r. found_in (record_at page r out.at)) run;
-      };
-    }
-
-pub id_lists_damage : FilesLieAsSummed → DamageIsOfSlots → IdListsDamageSlots
-id_lists_damage laid damage page cat table there above index is lists are number slot found damaged =
+pub id_lists_damage : DamageIsOfSlots → BrokenCodesAreDamaged → IdListsDamageSlots
+id_lists_damage damage broken page cat table there above index is lists are number slot found damaged =
+    let levels = length (above_of cat.schema table) in
     elim damaged [
       | inl one ↦ damage.id_list page cat table there above index is one.entry
-          (comes_within index.directory (length (above_of cat.schema table)) (count_of cat table) lists one.entry are one.comes)
+          (comes_within index.directory levels (count_of cat table) lists one.entry are one.comes)
           number slot found (directory_damage page lists.directory index.directory are.directory_is one.entry number slot found one.damage)
-      | inr out ↦ level_damage laid page cat table there index is lists.directory are.directory_is lists.level are.level number slot found out
+      | inr code ↦ id_code_damage broken page cat table there index is lists.directory are.directory_is lists.level are.level code.may.entry
+          (given_within index.directory levels (count_of cat table) lists code.may.entry are code.may.before)
+          code.list code.may.is number slot found code.out
     ]

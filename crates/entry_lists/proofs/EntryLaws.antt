@@ -1,6 +1,5 @@
 -- Where pages have an index but for slots that are out of range by themselves, its entries have their lists.
-use Rattle.std.proofs.Common.{◌≡◌, ◌∙◌, ℕ, zero, suc, ◌+◌, ◌*◌, ◌<◌, ◌≤◌, true, false, ◌&&◌, nat_le, inl, inr, List, [], ◌∷◌, ◌++◌, length, map, drop, take, get_or, ap, sym, refl, subst, arith}
-use Rattle.std.specs.Prelude.{◌⊎◌}
+use Rattle.std.proofs.Common.{◌≡◌, ◌∙◌, ℕ, zero, suc, ◌+◌, ◌*◌, ◌<◌, ◌≤◌, true, ◌&&◌, nat_le, List, [], ◌∷◌, ◌++◌, length, map, drop, take, get_or, ap, sym, refl, arith}
 use Rattle.std.specs.List.{range_with_len}
 use Rattle.std.specs.Option.{option_map}
 use Rattle.std.proofs.lemmas.Bool.{and_parts, le-leb}
@@ -8,16 +7,15 @@ use Rattle.std.proofs.lemmas.List.{drop-drop}
 use Rattle.std.proofs.lemmas.Option.{slice_get-get_or}
 use Rattle.ghost_model.specs.core.Channel.{Catalog}
 use Rattle.ghost_model.specs.forms.Layout.{count_of}
-use Rattle.ghost_model.specs.forms.Runs as runs
-use Rattle.ghost_model.specs.forms.Runs.{record_at, number_in, id_at, ids_from}
+use Rattle.ghost_model.specs.forms.Runs.{number_in}
 use Rattle.ghost_model.specs.forms.Slots.{is_row, list_end}
 use Rattle.ghost_model.specs.laws.ShortWords.{first_listed}
 use Rattle.ghost_base.specs.declared.runs.ListRef.{ListRef}
 use Rattle.ghost_base.specs.Runs.{run_of}
-use Rattle.flash_pages.proofs.RunFrames.{ids_from-get}
+use Rattle.flash_pages.proofs.ListFrames.{listed_from-get}
 use Rattle.climbing_index.specs.declared.directory.Directory.{Directory}
 use Rattle.climbing_index.specs.Directories.{are_places, entry_bytes, entry_stands, file_of, place_bytes, spells}
-use Rattle.climbing_index.specs.Laws.{HasList, IsListOf}
+use Rattle.climbing_index.specs.Laws.{HasList, HasListBut, IsListOf}
 use Rattle.climbing_index.proofs.Entries.{ends_within}
 use Rattle.spill_pass.specs.Lists.{IsOrdered, id_of}
 use Rattle.entry_lists.specs.Entries.{HasEntry, HaveEntries, IsListIn, level_at, level_run}
@@ -54,50 +52,39 @@ row_is : (cat : Catalog) (from id : ℕ) → 0 < id → id ≤ count_of cat from
 row_is cat from id some few = ap (λ b. b && nat_le id (count_of cat from)) (le-leb 1 id some) ∙ le-leb id (count_of cat from) few
 
 module _ (page right : ℕ → List ℕ) (cat : Catalog) (from : ℕ) (directory : Directory) (level : ℕ) (low : level < length directory.levels.items)
-    (file : runs.Run) (file_is : run_of (level_run directory level) ≡ file)
-    (slots : (place : ℕ) → place < file.count → (record_at page file place ≡ record_at right file place) ⊎ (is_row cat from (number_in (record_at page file place) 0) ≡ false)) where
+    (entry : ℕ) (within : entry < directory.run.count) (stands : entry_stands directory (entry_bytes right directory entry) ≡ true)
+    (same : entry_stands directory (entry_bytes page directory entry) ≡ true → entry_bytes page directory entry ≡ entry_bytes right directory entry)
+    (ids : List ℕ) (has : HasList right (list_at directory (entry_bytes right directory entry) level) ids)
+    (but : HasListBut page cat from (list_at directory (entry_bytes right directory entry) level) ids)
+    (ascend : Ascends 1 (1 + count_of cat from) ids) where
+  abbrev list : ListRef
+  list = list_at directory (entry_bytes right directory entry) level
+
+  ids_are : (i : ℕ) → i < list.count → id_of right list i ≡ get_or ids i 0
+  ids_are i less =
+      let here : i ≡ 0 + i = omega arith in
+      ap (id_of right list) here ∙ sym (listed_from-get right (run_of list.run) list.first 0 list.count i less) ∙ ap (λ xs. get_or xs i 0) has.ids
+
   -- where the pages have an identifier of a row it is the right one
-  same_id : (place : ℕ) → place < file.count → 0 < id_at page file place → id_at page file place ≤ count_of cat from → id_at page file place ≡ id_at right file place
-  same_id place within some few =
-      elim (slots place within) [
-        | inl is ↦ ap (λ b. number_in b 0) is
-        | inr wrong ↦ (let clash = sym (row_is cat from (id_at page file place) some few) ∙ wrong in absurd (cc clash))
-      ]
+  ordered : IsOrdered page right (count_of cat from) list
+  ordered = record {
+    above = λ i less. omega (arith, ids_are i less, ascend.from i (omega (arith, less, has.count)));
+    order = λ i j later less. omega (arith, ids_are i (omega (arith, later, less)), ids_are j less, ascend.order i j later (omega (arith, less, has.count)));
+    within = λ i less. omega (arith, ids_are i less, ascend.below i (omega (arith, less, has.count)));
+    same = λ i less some few. but.each i less (row_is cat from (id_of page list i) some few) ∙ sym (ids_are i less);
+  }
 
-  module _ (entry : ℕ) (within : entry < directory.run.count) (stands : entry_stands directory (entry_bytes right directory entry) ≡ true)
-      (same : entry_stands directory (entry_bytes page directory entry) ≡ true → entry_bytes page directory entry ≡ entry_bytes right directory entry)
-      (ids : List ℕ) (has : HasList right (list_at directory (entry_bytes right directory entry) level) ids)
-      (ascend : Ascends 1 (1 + count_of cat from) ids) where
-    abbrev list : ListRef
-    list = list_at directory (entry_bytes right directory entry) level
-
-    ids_are : (i : ℕ) → i < list.count → id_of right list i ≡ get_or ids i 0
-    ids_are i less = sym (ids_from-get right (run_of list.run) list.first list.count i less) ∙ ap (λ xs. get_or xs i 0) has.ids
-
-    ordered : IsOrdered page right (count_of cat from) list
-    ordered =
-        let inside = (list_inside directory (entry_bytes right directory entry) level stands low).inside in
-        record {
-          above = λ i less. omega (arith, ids_are i less, ascend.from i (omega (arith, less, has.count)));
-          order = λ i j later less. omega (arith, ids_are i (omega (arith, later, less)), ids_are j less, ascend.order i j later (omega (arith, less, has.count)));
-          within = λ i less. omega (arith, ids_are i less, ascend.below i (omega (arith, less, has.count)));
-          same = λ i less some few.
-              let count = ap (λ (r : runs.Run). r.count) file_is in
-              let S : runs.Run → Type 0 = λ r. 0 < id_at page r (list.first + i) → id_at page r (list.first + i) ≤ count_of cat from → id_at page r (list.first + i) ≡ id_at right r (list.first + i) in
-              subst S (sym file_is) (same_id (list.first + i) (omega (arith, count, inside, less))) some few;
-        }
-
-    pub has_entry : HasEntry page right (count_of cat from) directory level entry ids
-    has_entry = record {
-      within = within;
-      list = list;
-      lies = list_inside directory (entry_bytes right directory entry) level stands low;
-      place = record { first = refl; count = refl };
-      same = same;
-      ordered = ordered;
-      count = has.count;
-      ids_are = ids_are;
-    }
+  pub has_entry : HasEntry page right (count_of cat from) directory level entry ids
+  has_entry = record {
+    within = within;
+    list = list;
+    lies = list_inside directory (entry_bytes right directory entry) level stands low;
+    place = record { first = refl; count = refl };
+    same = same;
+    ordered = ordered;
+    count = has.count;
+    ids_are = ids_are;
+  }
 
 module _ (page right : ℕ → List ℕ) (rows : ℕ) (directory : Directory) (level : ℕ) where
   pub have_range : (lists : ℕ → List ℕ) (first count : ℕ)

@@ -1,5 +1,6 @@
 pub mod Groups
 pub mod EntryPages
+pub mod Mays
 pub mod ListGiving
 pub mod EntryFrames
 pub mod Ascending

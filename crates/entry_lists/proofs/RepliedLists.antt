@@ -8,7 +8,7 @@ use Rattle.ghost_model.specs.laws.RunLaws.{NumbersAreRead}
 use Rattle.ghost_model.specs.forms.Layout.{count_of, above_of}
 use Rattle.climbing_index.specs.declared.directory.Directory.{Directory}
 use Rattle.climbing_index.specs.Holding.{ids_at}
-use Rattle.climbing_index.specs.Laws.{DamageIsOfSlots, ListsAreOfIdentifiers}
+use Rattle.climbing_index.specs.Laws.{BrokenCodesAreDamaged, DamageIsOfSlots, ListsAreRead}
 use Rattle.visible_spool.specs.Replies.{HoldsRows, id_of, id_of_bytes}
 use Rattle.entry_lists.specs.declared.replies.ReplyLists.{ReplyLists}
 use Rattle.entry_lists.specs.Entries.{HasEntry, HaveEntries}
@@ -17,7 +17,7 @@ use Rattle.entry_lists.specs.Replied.{RepliesHave, entries_of, id_before, looked
 use Rattle.entry_lists.specs.ReplyLaws.{AreBegun, AreListsOf, RepliesDamageSlots, RepliesHaveIdLists, lists_of}
 use Rattle.entry_lists.proofs.ListSizes.{before, before_next, most, rises}
 use Rattle.entry_lists.proofs.ValueLists.{id_entry, id_size, id_width_is}
-use Rattle.entry_lists.proofs.DamagedLists.{directory_damage, level_damage}
+use Rattle.entry_lists.proofs.DamagedLists.{directory_damage, id_code_damage}
 
 -- rows whose identifiers ascend above one, up to another
 pub record AreAbove (low high : ℕ) (rows : List (List ℕ)) : Type 0 where
@@ -87,7 +87,7 @@ module _ (page right : ℕ → List ℕ) (rows levels entries : ℕ) (directory 
         few = omega (arith, few_replied all held 0 entries ids_are, size, begun.room);
       }
 
-pub have_id_lists : LevelsAreAncestors → FilesLieAsSummed → FilesLieInOrder → LayoutIsSmall → NumbersAreRead → IdListsPartition → ListsAreOfIdentifiers → RepliesHaveIdLists
+pub have_id_lists : LevelsAreAncestors → FilesLieAsSummed → FilesLieInOrder → LayoutIsSmall → NumbersAreRead → IdListsPartition → ListsAreRead → RepliesHaveIdLists
 have_id_lists levels laid order small read partition lists_are page right cat database of table there whole but index is lists are begun held holds =
     let few = small.few cat of.limited in
     let narrow = small.narrow cat of.limited.tree in
@@ -98,11 +98,17 @@ have_id_lists levels laid order small read partition lists_are page right cat da
     (id_size cat database of levels (laid cat) (order cat) few read page right lists_are partition table there whole but index is lists.level are.level)
     (id_entry cat database of levels (laid cat) (order cat) few read page right lists_are partition table there whole but index is lists.level are.level)
 
-pub replies_damage : FilesLieAsSummed → DamageIsOfSlots → RepliesDamageSlots
-replies_damage laid damage page cat table there above index is lists are number slot found damaged =
+pub replies_damage : DamageIsOfSlots → BrokenCodesAreDamaged → RepliesDamageSlots
+replies_damage damage broken page cat table there above index is lists are number slot found damaged =
     elim damaged [
       | inl one ↦ damage.id_list page cat table there above index is (_ - 1)
           (let rows = ap (λ r. r.count) is.run_is in let same = ap (λ (d : Directory). d.run.count) are.directory_is in omega (arith, one.some, one.most, rows, same))
           number slot found (directory_damage page lists.directory index.directory are.directory_is _ number slot found one.damage)
-      | inr out ↦ level_damage laid page cat table there index is lists.directory are.directory_is lists.level are.level number slot found out
+      | inr code ↦ (
+          let entry = code.may.entry in
+          let rows = ap (λ r. r.count) is.run_is in
+          let same = ap (λ (d : Directory). d.run.count) are.directory_is in
+          let inside : entry < count_of cat table = omega (arith, code.may.is.there, rows, same) in
+          id_code_damage broken page cat table there index is lists.directory are.directory_is lists.level are.level entry inside code.list code.may.is
+          number slot found code.out)
     ]

@@ -13,12 +13,12 @@ use Rattle.ghost_model.specs.core.Split.{Hidden, hidden_of}
 use Rattle.ghost_model.specs.laws.LayoutLaws.{LieAsSummed, LieInOrder, AreFew, AreNarrow, LayoutIsSmall, FilesLieAsSummed, FilesLieInOrder, LevelsAreAncestors}
 use Rattle.ghost_model.specs.laws.ListLaws.{ListsPartition, IdListsPartition}
 use Rattle.ghost_model.specs.laws.RunLaws.{NumbersAreRead}
-use Rattle.ghost_model.specs.forms.Runs.{Run, record_at, number_in}
+use Rattle.ghost_model.specs.forms.Runs.{Run, record_at}
 use Rattle.ghost_model.specs.forms.Layout as layout
 use Rattle.ghost_model.specs.forms.Layout.{is_hidden, count_of, levels_of, above_of, IndexDirectory, IdDirectory}
 use Rattle.ghost_model.specs.laws.ShortWords.{index_level, id_level, index_directory, id_directory}
 use Rattle.ghost_model.specs.forms.Flash.{cell_led_to, leads_to, ids}
-use Rattle.ghost_model.specs.forms.Slots.{in_slot, may_stand, is_row}
+use Rattle.ghost_model.specs.forms.Slots.{in_slot, may_stand}
 use Rattle.ghost_base.specs.Runs.{run_of}
 use Rattle.climbing_index.specs.declared.directory.Directory.{Directory}
 use Rattle.climbing_index.specs.declared.index.ClimbingIndex.{ClimbingIndex}
@@ -26,7 +26,7 @@ use Rattle.climbing_index.specs.declared.index.IdIndex.{IdIndex}
 use Rattle.climbing_index.specs.Directories.{entry_bytes, entry_stands, file_of}
 use Rattle.climbing_index.specs.Holding.{HoldsIndexWhole, HoldsIndexBut, HoldsIdIndexWhole, HoldsIdIndexBut, values_at, ids_at}
 use Rattle.climbing_index.specs.Indexes.{IsIndexOf, IsIdIndexOf}
-use Rattle.climbing_index.specs.Laws.{IsOf, ListsAreOfValues, ListsAreOfIdentifiers}
+use Rattle.climbing_index.specs.Laws.{IsOf, ListsAreRead}
 use Rattle.climbing_index.proofs.HeldIndexes.{same_entry, same_id_entry}
 use Rattle.climbing_index.proofs.LevelFiles.{how_many, at_level}
 use Rattle.climbing_index.proofs.WholeIndexes.{value_rows, id_rows}
@@ -79,30 +79,15 @@ module _ (cat : Catalog) (database : Database) (of : IsOf cat database) (levels 
   abbrev hidden : Hidden
   hidden = hidden_of cat.schema database
 
-  module _ (of_values : ListsAreOfValues) (partition : ListsPartition) (table column : ℕ) (h : is_hidden cat.schema table column ≡ true) (values : List (List ℕ))
+  module _ (are_read : ListsAreRead) (partition : ListsPartition) (table column : ℕ) (h : is_hidden cat.schema table column ≡ true) (values : List (List ℕ))
       (whole : HoldsIndexWhole right cat (hidden_of cat.schema database) table column values)
       (but : HoldsIndexBut page cat (hidden_of cat.schema database) table column values)
       (index : ClimbingIndex) (is : IsIndexOf cat table column index) (level : ℕ) (low : level < length (levels_of cat.schema table)) where
     abbrev from : ℕ
     from = slice_index (levels_of cat.schema table) level
 
-    abbrev file : Run
-    file = index_level cat table column level
-
-    count_is : file.count ≡ count_of cat from
-    count_is = ap (λ r. r.count) (laid.index_level table column level h low)
-
     size : length (concat (values_at cat hidden table column values level)) ≡ count_of cat from
     size = (value_rows cat database of levels few read partition table column level h (order.there_are table column h).0 low values whole.are_values).size
-
-    slots : (place : ℕ) → place < file.count
-        → (record_at page file place ≡ record_at right file place) ⊎ (is_row cat from (number_in (record_at page file place) 0) ≡ false)
-    slots place within =
-        let inside : place < length (concat (values_at cat hidden table column values level)) = omega (arith, within, count_is, size) in
-        elim (but.lists level low place inside) [
-          | inl same ↦ inl (same ∙ sym (whole.lists level low place inside).is)
-          | inr wrong ↦ inr wrong
-        ]
 
     stands : (pages : ℕ → List ℕ) (entry : ℕ) → entry_stands index.directory (entry_bytes pages index.directory entry) ≡ may_stand cat (IndexDirectory table column) (in_slot pages cat (IndexDirectory table column) entry)
     stands pages entry =
@@ -123,14 +108,13 @@ module _ (cat : Catalog) (database : Database) (of : IsOf cat database) (levels 
         let depth = how_many (index_level cat table column) (length (levels_of cat.schema table)) index.directory.levels.items is.levels_are in
         let inside : level < length index.directory.levels.items = omega (arith, depth, low) in
         let right_stands = stands right entry ∙ (whole.entries entry there).stands in
-        has_entry page right cat from index.directory level inside file (file_at (index_level cat table column) (length (levels_of cat.schema table)) index.directory is.levels_are level low)
-        slots entry (omega (arith, there, whole.few, rows)) right_stands
+        let reads = are_read.values page right cat database of table column h values whole but index is entry level there low _ (listed right index.directory entry level right_stands inside) in
+        has_entry page right cat from index.directory level inside entry (omega (arith, there, whole.few, rows)) right_stands
         (λ may.
         ap (λ r. record_at page r entry) is.run_is
         ∙ same_slot _ _ _ _ (but.entries entry there) (whole.entries entry there).is (sym (stands page entry) ∙ may)
         ∙ sym (ap (λ r. record_at right r entry) is.run_is))
-        _ (of_values.whole right cat database of table column h values whole index is entry level there low _ (listed right index.directory entry level right_stands inside))
-        (ascend entry there)
+        _ reads.whole reads.but (ascend entry there)
 
     width_is : index.directory.run.width ≡ layout.width_at cat.schema table column + 8 * length (levels_of cat.schema table)
     width_is = ap (λ r. r.width) is.run_is
@@ -147,29 +131,14 @@ module _ (cat : Catalog) (database : Database) (of : IsOf cat database) (levels 
         (omega (arith, width_is, low)) (omega (arith, width_is, narrow.directory table column))
         (values_at cat hidden table column values lists.level) (subst S (sym at) size) (subst E (sym at) value_entry)
 
-  module _ (of_ids : ListsAreOfIdentifiers) (partition : IdListsPartition) (table : ℕ) (there : table < length cat.schema)
+  module _ (are_read : ListsAreRead) (partition : IdListsPartition) (table : ℕ) (there : table < length cat.schema)
       (whole : HoldsIdIndexWhole right cat (hidden_of cat.schema database) table) (but : HoldsIdIndexBut page cat (hidden_of cat.schema database) table)
       (index : IdIndex) (is : IsIdIndexOf cat table index) (level : ℕ) (low : level < length (above_of cat.schema table)) where
     abbrev id_from : ℕ
     id_from = slice_index (above_of cat.schema table) level
 
-    abbrev id_file : Run
-    id_file = id_level cat table level
-
-    id_count_is : id_file.count ≡ count_of cat id_from
-    id_count_is = ap (λ r. r.count) (laid.id_level table level there low)
-
     pub id_size : length (concat (ids_at cat hidden table level)) ≡ count_of cat id_from
     id_size = (id_rows cat database of levels few read partition table level there low).size
-
-    id_slots : (place : ℕ) → place < id_file.count
-        → (record_at page id_file place ≡ record_at right id_file place) ⊎ (is_row cat id_from (number_in (record_at page id_file place) 0) ≡ false)
-    id_slots place within =
-        let inside : place < length (concat (ids_at cat hidden table level)) = omega (arith, within, id_count_is, id_size) in
-        elim (but.lists level low place inside) [
-          | inl same ↦ inl (same ∙ sym (whole.lists level low place inside).is)
-          | inr wrong ↦ inr wrong
-        ]
 
     id_stands : (pages : ℕ → List ℕ) (entry : ℕ) → entry_stands index.directory (entry_bytes pages index.directory entry) ≡ may_stand cat (IdDirectory table) (in_slot pages cat (IdDirectory table) entry)
     id_stands pages entry =
@@ -191,14 +160,13 @@ module _ (cat : Catalog) (database : Database) (of : IsOf cat database) (levels 
         let depth = how_many (id_level cat table) (length (above_of cat.schema table)) index.directory.levels.items is.levels_are in
         let deep : level < length index.directory.levels.items = omega (arith, depth, low) in
         let right_stands = id_stands right entry ∙ (whole.entries entry inside).stands in
-        has_entry page right cat id_from index.directory level deep id_file (file_at (id_level cat table) (length (above_of cat.schema table)) index.directory is.levels_are level low)
-        id_slots entry (omega (arith, inside, rows)) right_stands
+        let reads = are_read.identifiers page right cat database of table there whole but index is entry level inside low _ (listed right index.directory entry level right_stands deep) in
+        has_entry page right cat id_from index.directory level deep entry (omega (arith, inside, rows)) right_stands
         (λ may.
         ap (λ r. record_at page r entry) is.run_is
         ∙ same_slot _ _ _ _ (but.entries entry inside) (whole.entries entry inside).is (sym (id_stands page entry) ∙ may)
         ∙ sym (ap (λ r. record_at right r entry) is.run_is))
-        _ (of_ids.whole right cat database of table there whole index is entry level inside low _ (listed right index.directory entry level right_stands deep))
-        (id_ascend entry inside)
+        _ reads.whole reads.but (id_ascend entry inside)
 
     pub id_width_is : index.directory.run.width ≡ 8 * length (above_of cat.schema table)
     id_width_is = ap (λ r. r.width) is.run_is
@@ -215,12 +183,12 @@ module _ (cat : Catalog) (database : Database) (of : IsOf cat database) (levels 
         (omega (arith, id_width_is, low)) (omega (arith, id_width_is, narrow.id_directory table))
         (ids_at cat hidden table lists.level) (subst S (sym at) id_size) (subst E (sym at) id_entry)
 
-pub have_value_lists : LevelsAreAncestors → FilesLieAsSummed → FilesLieInOrder → LayoutIsSmall → NumbersAreRead → ListsPartition → ListsAreOfValues → EntriesHaveValueLists
+pub have_value_lists : LevelsAreAncestors → FilesLieAsSummed → FilesLieInOrder → LayoutIsSmall → NumbersAreRead → ListsPartition → ListsAreRead → EntriesHaveValueLists
 have_value_lists levels laid order small read partition lists_are page right cat database of table column h values whole but index is lists are begun =
     value_lists cat database of levels (laid cat) (order cat) (small.few cat of.limited) read page right lists_are partition table column h values whole but index is
     lists.level are.level (small.narrow cat of.limited.tree) lists refl are begun
 
-pub have_id_lists : LevelsAreAncestors → FilesLieAsSummed → FilesLieInOrder → LayoutIsSmall → NumbersAreRead → IdListsPartition → ListsAreOfIdentifiers → EntriesHaveIdLists
+pub have_id_lists : LevelsAreAncestors → FilesLieAsSummed → FilesLieInOrder → LayoutIsSmall → NumbersAreRead → IdListsPartition → ListsAreRead → EntriesHaveIdLists
 have_id_lists levels laid order small read partition lists_are page right cat database of table there whole but index is lists are begun =
     identifier_lists cat database of levels (laid cat) (order cat) (small.few cat of.limited) read page right lists_are partition table there whole but index is
     lists.level are.level (small.narrow cat of.limited.tree) lists refl are begun

@@ -18,12 +18,12 @@ use Rattle.spill_pass.specs.Lists.{IsOrdered, OutOfRowsIn, id_of}
 use Rattle.spill_pass.specs.Sources.{Source}
 use Rattle.entry_lists.specs.declared.entries.EntryLists.{EntryLists}
 
--- the level file at a level of a directory, as a run
+-- the level file at a level of a directory, and the run of its bytes
 abbrev pub level_at : Directory → (level : ℕ) → LevelFile
 level_at directory level = get_or directory.levels.items level (record { first = 0; count = 0 })
 
 abbrev pub level_run : Directory → (level : ℕ) → Run
-level_run directory level = record { first = (level_at directory level).first; count = (level_at directory level).count; width = 4 }
+level_run directory level = record { first = (level_at directory level).first; count = (level_at directory level).count; width = 1 }
 
 -- whether a page is one of a run
 abbrev pub is_in : runs.Run → (page : ℕ) → Bool
@@ -98,7 +98,7 @@ abbrev pub GivesEntry : (page : ℕ → List ℕ) → Directory → (level left 
 GivesEntry page directory level left entry (Ok list) = GivesListed page directory entry level list
 GivesEntry page directory level left entry (Err fault) = FailsAt page (run_of directory.run) (may_come directory level left) entry fault
 
--- a list of a level file that ends within it
+-- a list of a level file that ends within it, were each of its codes one byte
 pub record IsListIn (directory : Directory) (level : ℕ) (list : ListRef) : Type 0 where
   pub run_is : list.run ≡ level_run directory level
   pub inside : list.first + list.count ≤ list.run.count
@@ -109,10 +109,28 @@ pub record DamagesEntry (page : ℕ → List ℕ) (lists : EntryLists) (number s
   pub comes : Contains (entries_of lists) entry
   pub damage : HasDamage page (run_of lists.directory.run) (entry_stands lists.directory) entry number slot found
 
--- what is damaged of the lists: such a slot, or that of a record of the level file that has no identifier of the rows
+-- a list is that of an entry of a directory at a level, by the bytes of the pages; the entry stands in one of the directory's pages
+pub record IsListOfEntry (page : ℕ → List ℕ) (directory : Directory) (level entry : ℕ) (list : ListRef) : Type 0 where
+  pub there : entry < directory.run.count
+  pub in_pages : is_in (run_of directory.run) (entry_page directory entry) ≡ true
+  pub listed : GivesListed page directory entry level list
+  pub lies : IsListIn directory level list
+
+-- a list that may be given, or was: that of an entry before the end of one of the groups, which stays where it is
+pub record MayGive (page : ℕ → List ℕ) (lists : EntryLists) (list : ListRef) : Type 0 where
+  pub entry : ℕ
+  pub before : (entry < lists.first.first + lists.first.count) ⊎ (entry < lists.second.first + lists.second.count)
+  pub is : IsListOfEntry page lists.directory lists.level entry list
+
+-- a slot to which reading of such a list gets, with what tells no identifier of the rows
+pub record DamagesCode (page : ℕ → List ℕ) (rows : ℕ) (lists : EntryLists) (number slot found : ℕ) : Type 0 where
+  pub list : ListRef
+  pub may : MayGive page lists list
+  pub out : OutOfRowsIn page list rows number slot found
+
+-- what is damaged of the lists
 abbrev pub IsDamaged : (page : ℕ → List ℕ) → (rows : ℕ) → EntryLists → (number slot found : ℕ) → Type 0
-IsDamaged page rows lists number slot found =
-    DamagesEntry page lists number slot found ⊎ OutOfRowsIn page (level_run lists.directory lists.level) rows number slot found
+IsDamaged page rows lists number slot found = DamagesEntry page lists number slot found ⊎ DamagesCode page rows lists number slot found
 
 -- An entry has a list with these identifiers, by the place that right pages spell: they ascend and are of the rows. Where the
 -- entry may stand on the pages, it is the right one.

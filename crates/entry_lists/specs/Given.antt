@@ -1,7 +1,6 @@
 -- What was read through the buffer of lists, and of which runs a slot may be blamed: the directory and the level file of an index, and a
 -- reply, unless pages are told and its identifiers are in order.
 use Rattle.std.specs.Prelude.{◌≡◌, ℕ, ◌<◌, true, List}
-use Rattle.ghost_model.specs.forms.Runs.{id_at}
 use Rattle.ghost_base.specs.Runs.{run_of}
 use Rattle.edge_traits.specs.Devices.{Device}
 use Rattle.page_pool.specs.Pools.{Pool}
@@ -9,7 +8,7 @@ use Rattle.flash_pages.specs.Reads.{WasGiven}
 use Rattle.id_merge.specs.Since.{Since, MayBlame}
 use Rattle.climbing_index.specs.declared.directory.Directory.{Directory}
 use Rattle.visible_spool.specs.declared.reply.Reply.{Reply}
-use Rattle.spill_pass.specs.Lists.{IsOrdered}
+use Rattle.spill_pass.specs.Lists.{IsOrdered, id_of}
 use Rattle.spill_pass.specs.Reducing.{whole_list}
 use Rattle.entry_lists.specs.declared.entries.EntryLists.{EntryLists}
 use Rattle.entry_lists.specs.declared.replies.ReplyLists.{ReplyLists}
@@ -33,7 +32,7 @@ RowsAscend page reply = IsOrdered page page reply.rows (whole_list reply.run)
 -- so they do, and the row that is looked at next comes after the identifier that was taken last
 pub record AreInOrder (page : ℕ → List ℕ) (lists : ReplyLists) : Type 0 where
   pub rows : RowsAscend page lists.reply
-  pub follows : looked_at lists < lists.reply.run.count → lists.last < id_at page (run_of lists.reply.run) (looked_at lists)
+  pub follows : looked_at lists < lists.reply.run.count → lists.last < id_of page (whole_list lists.reply.run) (looked_at lists)
 
 -- lists of a reply's identifiers, whatever the rows that they are of: the buffer has what a read gave, and a slot of the reply may be blamed, or
 -- its rows are in order

@@ -2,6 +2,7 @@
 use Rattle.std.specs.Prelude.{◌≡◌, ◌⊎◌, ℕ, ◌+◌, ◌-◌, ◌<◌, ◌≤◌, min, Bool, true, false, ◌&&◌, ◌||◌, nat_le, nat_lt, List, ◌∷◌, length, map, drop, get_or, Result, IfErr, IfSome, OnOk, if◌then◌else◌}
 use Rattle.std.specs.List.{concat}
 use Rattle.ghost_model.specs.forms.Runs.{page_of, slot_of, per_page, cell_in, id_at, number_in}
+use Rattle.ghost_base.specs.declared.runs.ListRef.{ListRef}
 use Rattle.ghost_base.specs.Runs.{run_of}
 use Rattle.edge_traits.specs.Devices.{Device, KeepsPages, next_if}
 use Rattle.page_pool.specs.Pools.{Pool, ChangesPage, page_at}
@@ -15,7 +16,7 @@ use Rattle.visible_spool.specs.Replies.{HoldsRows, id_of, id_of_bytes}
 use Rattle.spill_pass.specs.Lists.{OutOfRowsIn}
 use Rattle.spill_pass.specs.Sources.{Source}
 use Rattle.entry_lists.specs.declared.replies.ReplyLists.{ReplyLists}
-use Rattle.entry_lists.specs.Entries.{HaveEntries, is_in, level_run}
+use Rattle.entry_lists.specs.Entries.{HaveEntries, IsListOfEntry, is_in, level_run}
 
 -- an identifier is at hand, and the entry of the next one
 abbrev pub has_hand : ReplyLists → Bool
@@ -82,10 +83,20 @@ pub record DamagesReplied (page : ℕ → List ℕ) (lists : ReplyLists) (number
   pub most : id_at page (run_of lists.reply.run) row ≤ lists.directory.run.count
   pub damage : HasDamage page (run_of lists.directory.run) (entry_stands lists.directory) (id_at page (run_of lists.reply.run) row - 1) number slot found
 
--- what is damaged of the lists: such a slot, or that of a record of the level file that has no identifier of the rows
+-- a list that may be given, or was: that of some entry
+pub record MayGive (page : ℕ → List ℕ) (lists : ReplyLists) (list : ListRef) : Type 0 where
+  pub entry : ℕ
+  pub is : IsListOfEntry page lists.directory lists.level entry list
+
+-- a slot to which reading of such a list gets, with what tells no identifier of the rows
+pub record DamagesCode (page : ℕ → List ℕ) (rows : ℕ) (lists : ReplyLists) (number slot found : ℕ) : Type 0 where
+  pub list : ListRef
+  pub may : MayGive page lists list
+  pub out : OutOfRowsIn page list rows number slot found
+
+-- what is damaged of the lists
 abbrev pub IsDamaged : (page : ℕ → List ℕ) → (rows : ℕ) → ReplyLists → (number slot found : ℕ) → Type 0
-IsDamaged page rows lists number slot found =
-    DamagesReplied page lists number slot found ⊎ OutOfRowsIn page (level_run lists.directory lists.level) rows number slot found
+IsDamaged page rows lists number slot found = DamagesReplied page lists number slot found ⊎ DamagesCode page rows lists number slot found
 
 -- the identifier of the row before one, 0 before the first
 abbrev pub id_before : (held : List (List ℕ)) → (place : ℕ) → ℕ
@@ -113,6 +124,11 @@ pub record RepliesHave (page right : ℕ → List ℕ) (rows : ℕ) (lists : Rep
   pub fits : lists.directory.run.width ≤ 2048
   pub have : HaveEntries page right rows lists.directory lists.level (entries_of (drop lists.given held)) ids
   pub few : length (concat ids) ≤ lists.left
+
+-- nothing changed
+pub record TakesNothing (before later : Pool) (old new : ReplyLists) : Type 0 where
+  pub pool : later ≡ before
+  pub lists : new ≡ old
 
 -- identifiers may have been taken, and nothing else changed
 pub record TakesIds (old new : ReplyLists) : Type 0 where

@@ -9,7 +9,7 @@ pub fn entries_have_their_lists()
     ensures values { EntriesHaveValueLists }
     ensures identifiers { EntriesHaveIdLists }
 {
-    climbing_index::laws::lists_are_of_entries();
+    climbing_index::laws::lists_are_read();
     ghost_model::layout::layout_is_small();
     ghost_model::layout::files_lie_as_summed();
     ghost_model::layout::files_lie_in_order();
@@ -25,14 +25,14 @@ pub fn damage_is_of_slots()
     ensures identifiers { IdListsDamageSlots }
 {
     climbing_index::laws::damage_is_of_slots();
-    ghost_model::layout::files_lie_as_summed();
+    climbing_index::laws::broken_codes_are_damaged();
 }
 
 /// Where the pages have the rows of a reply besides, its lists are those of the identifiers of its rows.
 pub fn replies_have_their_lists()
     ensures identifiers { RepliesHaveIdLists }
 {
-    climbing_index::laws::lists_are_of_entries();
+    climbing_index::laws::lists_are_read();
     ghost_model::layout::layout_is_small();
     ghost_model::layout::files_lie_as_summed();
     ghost_model::layout::files_lie_in_order();
@@ -46,5 +46,5 @@ pub fn damage_is_of_id_slots()
     ensures identifiers { RepliesDamageSlots }
 {
     climbing_index::laws::damage_is_of_slots();
-    ghost_model::layout::files_lie_as_summed();
+    climbing_index::laws::broken_codes_are_damaged();
 }
