@@ -1,29 +1,30 @@
 -- What the steps of a filling leave: buffers, the list and the filter.
-use Rattle.std.proofs.Common.{◌≡◌, ◌∙◌, ℕ, zero, suc, ◌+◌, ◌-◌, ◌<◌, ◌≤◌, Bool, true, false, List, [], ◌∷◌, ◌++◌, length, get_or, refl, ap, sym, subst, append-nil, arith}
+use Rattle.std.proofs.Common.{◌≡◌, ◌∙◌, ℕ, ◌+◌, ◌-◌, ◌<◌, ◌≤◌, Bool, true, false, List, [], ◌∷◌, ◌++◌, length, get_or, refl, ap, sym, subst, append-nil, arith}
 use Rattle.std.proofs.lemmas.List.{append_assoc}
-use Rattle.edge_traits.specs.Devices.{Device, Counts, KeepsPages}
-use Rattle.edge_traits.proofs.DeviceFrames.{kept_same, kept_trans, counts_more}
+use Rattle.edge_traits.specs.Devices.{Device, Counts, KeepsPages, next}
+use Rattle.edge_traits.proofs.DeviceFrames.{kept_same, kept_trans, counts_more, counts_next}
 use Rattle.page_pool.specs.Pools.{Pool, AreOut, IsOut, ChangesPage, KeepsOthers, bytes_at, given, others_out}
 use Rattle.page_pool.proofs.Marks.{other_was_out}
 use Rattle.page_pool.proofs.Leases.{out_kept, outs_kept, others_kept, others_trans, others_fewer, same_of_others, outs_first, outs_from_front, outs_to_front, outs_swapped, all_given-append, all_given_swapped, all_given_to_front, change_keeps_out, change_keeps_others, head_apart, holder_keeps_outs}
 use Rattle.flash_pages.specs.declared.cursor.RunCursor.{RunCursor}
 use Rattle.std.specs.Prelude.{Option, Some, Ok, Err, MatchOption, slice_set}
-use Rattle.ghost_model.specs.forms.Runs.{ids_from}
 use Rattle.ghost_base.specs.declared.runs.ListRef.{ListRef}
 use Rattle.ghost_base.specs.Runs.{run_of}
 use Rattle.flash_pages.specs.declared.fault.PageFault.{PageFault}
 use Rattle.flash_pages.specs.declared.fault.PageFault.TheVariants.{Flash, Damaged}
 use Rattle.flash_pages.specs.Faults.{BlamesNoSlot}
-use Rattle.flash_pages.specs.Cursors.{BlamesNext, IsReady, SameList, GivesNext, GivesId, ids_left, place}
+use Rattle.flash_pages.specs.Cursors.{BlamesNext, IsReady, SameList, GivesNext, GivesId, id_in, ids_left}
 use Rattle.flash_pages.specs.Reads.{WasGiven}
 use Rattle.flash_pages.proofs.LeaseFrames.{ready_kept, given_kept}
+use Rattle.flash_pages.proofs.ListFrames.{listed_end}
 use Rattle.bloom_post.specs.Filters.{StandsFor, KeepsBeside}
 use Rattle.bloom_post.specs.Laws.{FiltersStay}
 use Rattle.bloom_post.proofs.LeasedBits.{beside_keeps_out}
-use Rattle.id_merge.specs.Cursors.{ListAscends, ListGiven, id_in}
+use Rattle.id_merge.specs.Cursors.{ListAscends, ListGiven}
 use Rattle.id_merge.specs.Since.{Blames, IsSince, MayBlame, Since}
 use Rattle.id_merge.proofs.ListReads.{id_same, next_id}
 use Rattle.id_merge.proofs.SinceLaws.{list_blamed, may_of, may_then, none_damaged, since_later}
+use Rattle.spill_pass.specs.Stepping.{Stepped}
 use Rattle.candidate_lists.specs.Reduces.{TakesOver}
 use Rattle.candidate_filter.specs.declared.filling.Filling.{Filling}
 use Rattle.candidate_filter.specs.Fills.{Fills, IsFilling, GoesFilling, filling_leases}
@@ -226,17 +227,13 @@ fills_more {page = page} {pool = pool} {then = then} filling cursor ids id stay 
 }
 
 -- the list has none left: the filter stands for all
-none_from : (page : ℕ → List ℕ) (cursor : RunCursor) (left : ℕ) → left ≡ 0 → ids_from page (run_of cursor.list.run) (place cursor) left ≡ []
-unfolding ids_from
-none_from page cursor zero none = refl
-none_from page cursor (suc left) none = absurd (omega (arith, none))
-
 pub fills_all :
     {page : ℕ → List ℕ} {pool : Pool} (filling : Filling) (ids : List ℕ) → filling.cursor.list.count ≤ filling.cursor.at
     → Fills page pool filling ids → StandsFor pool filling.filter ids
 fills_all {page = page} {pool = pool} filling ids end was =
     let P : List ℕ → Type 0 = λ xs. StandsFor pool filling.filter xs in
-    let none = none_from page filling.cursor (filling.cursor.list.count - filling.cursor.at) (omega (arith, end)) in
+    let list = filling.cursor.list in
+    let none = listed_end page (run_of list.run) list.first filling.cursor.at list.count end in
     subst P (sym (append-nil was.taken) ∙ ap (λ (xs : List ℕ). was.taken ++ xs) (sym none) ∙ was.are) was.stands
 
 pub gives_some : {page : ℕ → List ℕ} {old new : RunCursor} {next : Option ℕ} {id : ℕ} → next ≡ Some id → GivesNext page old new (Ok next) → GivesId page old new id
@@ -264,10 +261,40 @@ pub next_blamed :
     → Blames since now {T = T} (Err fault)
 next_blamed T now since cursor new Flash from ready was gives blames = tt
 next_blamed T {before = before} now since cursor new (Damaged number slot found) from ready was gives blames =
-    list_blamed since cursor (may_of (λ tells order. none_damaged before.page cursor found order (gives (sym from.tells ∙ tells))) was.may) ready.list blames
+    list_blamed since cursor (may_of (λ tells order. none_damaged before.page cursor found order (gives (sym from.tells ∙ tells))) was.may)
+    (ready.stands.within blames.within) blames
 
 -- one that ascends still does, one identifier on
 pub ascends_next :
     {page now : ℕ → List ℕ} (cursor new : RunCursor) (id : ℕ) → now ≡ page → SameList cursor new → cursor.at < cursor.list.count
     → new.at ≡ cursor.at + 1 → GivesId page cursor new id → ListAscends page cursor → ListAscends now new
 ascends_next cursor new id pages same some at gives was = ascends_same pages refl (ascends_on cursor new id same some at gives.last (next_id some gives) was)
+
+-- a call that reads a page is counted, and one that reads none is not
+pub took_one :
+    {before now : Device} {paid total : ℕ} → total ≡ paid + 1 → now.calls ≡ next before.calls → now.faults ≡ before.faults
+    → Stepped {T = Bool} 1 before now paid total (Ok true)
+took_one {before = before} {now = now} {paid = paid} total calls faults =
+    let one : 1 ≡ paid + 1 - paid = omega arith in
+    let C : ℕ → Type 0 = λ more. Counts more before.calls now.calls in
+    let D : ℕ → Type 0 = λ after. Counts (after - paid) before.calls now.calls in
+    record {
+      cause = faults;
+      failed = tt;
+      at_most = (counts_next calls).most;
+      counted = subst D (sym total) (subst C one (counts_next calls));
+      rises = omega (arith, total);
+      most = omega (arith, total);
+    }
+
+pub took_none :
+    {before now : Device} {paid total : ℕ} → total ≡ paid → now.calls ≡ before.calls → now.faults ≡ before.faults
+    → Stepped {T = Bool} 1 before now paid total (Ok true)
+took_none {before = before} {now = now} {paid = paid} total calls faults = record {
+  cause = faults;
+  failed = tt;
+  at_most = omega (arith, calls);
+  counted = record { most = omega (arith, calls, total); exact = λ below. omega (arith, calls, total) };
+  rises = omega (arith, total);
+  most = omega (arith, total);
+}

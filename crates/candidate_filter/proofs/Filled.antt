@@ -1,15 +1,14 @@
 -- The list of candidates that stand, as one that fills a filter.
-use Rattle.std.proofs.Common.{◌≡◌, ◌∙◌, ℕ, ◌+◌, ◌<◌, List, length, get_or, ap, refl, sym, arith}
+use Rattle.std.proofs.Common.{◌≡◌, ◌∙◌, ℕ, ◌<◌, List, length, get_or, refl, sym, arith}
 use Rattle.std.proofs.lemmas.List.{length-map}
-use Rattle.ghost_model.specs.forms.Runs.{id_at, number_cell}
-use Rattle.ghost_base.specs.Runs.{run_of}
+use Rattle.ghost_model.specs.forms.Runs.{number_cell}
 use Rattle.id_merge.specs.declared.merge.Merge.{Merge}
 use Rattle.spill_pass.specs.Lists.{id_of}
 use Rattle.spill_pass.specs.Reducing.{whole_list}
 use Rattle.candidate_lists.specs.declared.closing.Closed.{Closed}
 use Rattle.candidate_lists.specs.Closes.{ListsAll}
 use Rattle.candidate_lists.proofs.Sparing.{list_outside}
-use Rattle.candidate_lists.proofs.Standing.{closed_listed, id_listed, inside}
+use Rattle.candidate_lists.proofs.Standing.{closed_listed, inside, whole_listed}
 use Rattle.candidate_filter.specs.Laws.{ClosedListsAscend, ClosedListsHave, ClosedListsLieOutside, ClosedRowsPass}
 use Rattle.candidate_filter.proofs.Sparing.{listed_pass}
 
@@ -22,8 +21,7 @@ module _ {page first : ℕ → List ℕ} {low : ℕ} {merge : Merge} (closed : C
 
   id_at_place : (i : ℕ) → i < closed.run.count → id_of page (whole_list closed.run) i ≡ get_or ids i 0
   id_at_place i within =
-      let at : 0 + i ≡ i = omega arith in
-      ap (λ n. id_at page (run_of closed.run) n) at ∙ id_listed page low closed.rows closed.run ids (closed_listed all) i within
+      whole_listed page low closed.rows closed.run ids (closed_listed all) i within
 
 pub closed_ascend : ClosedListsAscend
 closed_ascend page first low merge closed all =

@@ -18,7 +18,7 @@ use Rattle.candidate_filter.specs.Sifts.{IsSifted, ListsPassing, RemainsPassing}
 
 -- a cursor at the beginning of the list, and the merge of it alone
 abbrev cursor_of : Run → RunCursor
-cursor_of run = record { list = whole_list run; rows = 0; at = 0; last = 0; lease = 0 }
+cursor_of run = record { list = whole_list run; rows = 0; at = 0; place = 0; last = 0; lease = 0 }
 
 abbrev merge_of : Run → Merge
 merge_of run = record { cursors = record { items = OfList (cursor_of run) ∷ [] }; unions = record { items = 1 ∷ [] }; last = 0 }
@@ -62,14 +62,14 @@ module _ {right page : ℕ → List ℕ} {first : Merge} {passes : ℕ → Bool}
   one_of : (id : ℕ) → Remains whole (merge_of closed.run) id → IsOneOf is.ids id
   one_of id remains =
       listed_from page page low closed.rows closed.run is.ids id listed
-      (list_ahead whole (whole_list closed.run) 0 id (cursor_of closed.run) (record { list_is = refl; rows_is = refl; at_is = refl; last_is = refl })
+      (list_ahead whole (whole_list closed.run) 0 id (cursor_of closed.run) (record { list_is = refl; rows_is = refl; at_is = refl; place_is = refl; last_is = refl })
       (omega (arith, remains.above)) (ahead_of whole closed.run id remains))
 
   of_one : (id : ℕ) → IsOneOf is.ids id → Remains whole (merge_of closed.run) id
   of_one id one =
       let passing = (is.all id).0 one in
       of_ahead whole closed.run id (omega (arith, passing.0.above)) passing.0.small
-      (ahead_list whole (whole_list closed.run) 0 id (cursor_of closed.run) (record { list_is = refl; rows_is = refl; at_is = refl; last_is = refl })
+      (ahead_list whole (whole_list closed.run) 0 id (cursor_of closed.run) (record { list_is = refl; rows_is = refl; at_is = refl; place_is = refl; last_is = refl })
       (listed_to page page low closed.rows closed.run is.ids id listed one))
 
   pub sifted_lists : closed.run.width ≡ 4 → ListsPassing page right low passes first closed

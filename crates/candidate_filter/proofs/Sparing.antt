@@ -4,7 +4,8 @@ use Rattle.std.specs.Prelude.{Option, Some, None, IfSome}
 use Rattle.std.proofs.lemmas.Bool.{or_left, or_right}
 use Rattle.std.proofs.lemmas.Nat.{mod_below}
 use Rattle.std.proofs.lemmas.List.{get_or_append_left, get_or_default, length-append}
-use Rattle.ghost_model.specs.forms.Runs.{number_in, page_of, pages_of, per_page}
+use Rattle.ghost_model.specs.forms.Gaps.{listed}
+use Rattle.ghost_model.specs.forms.Runs.{page_of, pages_of, per_page}
 use Rattle.ghost_base.specs.declared.runs.Run.{Run}
 use Rattle.ghost_base.specs.Runs.{run_of}
 use Rattle.edge_traits.specs.Devices.{Device, ChangesOnly}
@@ -12,14 +13,15 @@ use Rattle.page_pool.specs.Pools.{Pool, page_at}
 use Rattle.page_pool.specs.Laws.{SameBuffer}
 use Rattle.page_pool.proofs.Leases.{out_kept, outs_kept}
 use Rattle.flash_pages.specs.declared.cursor.RunCursor.{RunCursor}
-use Rattle.flash_pages.specs.Cursors.{IsPageOf}
+use Rattle.flash_pages.specs.Cursors.{IsPageOf, id_in}
 use Rattle.flash_pages.proofs.LeaseFrames.{put_kept, some_then, can_read_kept, given_kept, ids_kept, ready_kept}
-use Rattle.flash_pages.proofs.RunFrames.{ids_from-get, ids_from-length, record_kept, run_kept, stores_kept}
+use Rattle.flash_pages.proofs.ListFrames.{listed_from-get, listed_from-length, listed_kept}
+use Rattle.flash_pages.proofs.RunFrames.{record_kept, run_kept, stores_kept}
 use Rattle.bloom_post.specs.Places.{size_of, spread}
 use Rattle.bloom_post.specs.Filters.{is_set}
 use Rattle.bloom_post.specs.Laws.{FiltersStay}
 use Rattle.bloom_post.proofs.LeasedBits.{bit_of_member}
-use Rattle.id_merge.specs.Cursors.{ListAscends, id_in}
+use Rattle.id_merge.specs.Cursors.{ListAscends}
 use Rattle.id_merge.specs.declared.merge.Merge.{Merge}
 use Rattle.id_merge.specs.Since.{Since}
 use Rattle.id_merge.proofs.SinceLaws.{may_then}
@@ -57,11 +59,15 @@ rows_pass pool filter ids row some stands has =
 pub listed_pass : ListedRowsPass
 listed_pass page pool filter list row some stands has =
     let ids = ids_in page list in
-    let within : has.at < length ids = omega (arith, has.within, ids_from-length page (run_of list.run) list.first list.count) in
+    let plain : 0 + has.at ≡ has.at = omega arith in
+    let within : has.at < length ids = omega (arith, has.within, listed_from-length page (run_of list.run) list.first 0 list.count) in
     rows_pass pool filter ids row some stands (
       has.at,
       within,
-      get_or_default ids has.at row 0 within ∙ ids_from-get page (run_of list.run) list.first list.count has.at has.within ∙ sym has.is,
+      get_or_default ids has.at row 0 within
+          ∙ listed_from-get page (run_of list.run) list.first 0 list.count has.at has.within
+          ∙ ap (λ n. listed page (run_of list.run) list.first n) plain
+          ∙ sym has.is,
     )
 
 led_by :
@@ -79,7 +85,7 @@ id_kept :
     → ((place : ℕ) → place < cursor.list.run.count → now (page_of (run_of cursor.list.run) place) ≡ page (page_of (run_of cursor.list.run) place))
     → id_in now cursor i ≡ id_in page cursor i
 id_kept page now cursor i within same =
-    ap (λ bytes. number_in bytes 0) (record_kept page now (run_of cursor.list.run) (cursor.list.first + i) (same (cursor.list.first + i) within))
+    listed_kept page now (run_of cursor.list.run) cursor.list.first i within same
 
 ascends_kept :
     (page now : ℕ → List ℕ) (cursor : RunCursor) → cursor.list.first + cursor.list.count ≤ cursor.list.run.count

@@ -1,6 +1,5 @@
 pub mod TablesThere
 pub mod FilePages
-pub mod NumberOrders
 pub mod DirectoryOrders
 pub mod NoDamage
 pub mod Staying

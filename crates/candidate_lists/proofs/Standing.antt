@@ -1,13 +1,16 @@
 -- Candidates that stand as one list: that it may be opened, and what it has.
-use Rattle.std.proofs.Common.{◌≡◌, ◌∙◌, ℕ, zero, suc, ◌+◌, ◌/◌, ◌^◌, ◌<◌, ◌≤◌, ◌⊎◌, inl, inr, false, nat_lt, if◌then◌else◌, List, [], ◌∷◌, length, map, get_or, ap, sym, refl, subst, arith}
+use Rattle.std.proofs.Common.{◌≡◌, ◌∙◌, ℕ, zero, suc, ◌+◌, ◌-◌, ◌*◌, ◌/◌, ◌^◌, ◌<◌, ◌≤◌, ◌⊎◌, inl, inr, false, nat_lt, if◌then◌else◌, List, [], ◌∷◌, length, length-take, drop, map, get_or, ap, sym, refl, subst, arith}
 use Rattle.std.proofs.lemmas.Bool.Decides.{nat_tests}
 use Rattle.std.proofs.lemmas.List.{length-map}
 use Rattle.std.proofs.lemmas.Nat.{from_be_bytes-to_be_bytes_4}
+use Rattle.ghost_model.specs.forms.Runs as runs
 use Rattle.ghost_model.specs.forms.Runs.{Stores, record_at, id_at, number_in, number_cell, page_of, cell_in, slot_of}
 use Rattle.ghost_base.specs.declared.runs.Run.{Run}
 use Rattle.ghost_base.specs.Runs.{run_of}
 use Rattle.edge_traits.specs.Devices.{Device}
+use Rattle.flash_pages.specs.Cursors.{Records}
 use Rattle.flash_pages.specs.declared.cursor.RunCursor.{RunCursor}
+use Rattle.flash_pages.proofs.ListFrames.{listed_by_width, listed_kept}
 use Rattle.id_merge.specs.declared.cursor.Cursor.{Cursor}
 use Rattle.id_merge.specs.declared.cursor.Cursor.TheVariants.{List as OfList, Range}
 use Rattle.id_merge.specs.declared.merge.Merge.{Merge}
@@ -60,7 +63,7 @@ closed_is device scratch next rows size run has same is =
           pages = λ i within. omega (arith, (page_within run area rows i is within).1, here.there);
           small = here.small;
         };
-        width = omega (arith, is.width);
+        width = Records (omega (arith, is.width));
         within = omega arith;
       };
       area = has.candidates;
@@ -104,9 +107,25 @@ counted : {page : ℕ → List ℕ} {run : Run} (ids : List ℕ) (stores : Store
 counted ids stores i within = omega (arith, within, stores.has.count, length-map ids number_cell)
 
 id_over :
-    (right page : ℕ → List ℕ) (low i : ℕ) (run : Run) → low ≤ run.first → id_of (over right page low) (whole_list run) i ≡ id_of page (whole_list run) i
-id_over right page low i run from =
-    ap (λ r. number_in r 0) (record_same page (over right page low) run (0 + i) (over_from right page low (page_of (run_of run) (0 + i)) (omega (arith, from))))
+    (right page : ℕ → List ℕ) (low i : ℕ) (run : Run) → i < run.count → low ≤ run.first
+    → id_of (over right page low) (whole_list run) i ≡ id_of page (whole_list run) i
+id_over right page low i run within from =
+    listed_kept page (over right page low) (run_of run) 0 i (omega (arith, within))
+    (λ place inside. over_from right page low (page_of (run_of run) place) (omega (arith, from)))
+
+-- a run that has identifiers has records of four bytes at least
+cell_few : (bytes : List ℕ) (width slot : ℕ) → length (cell_in bytes width slot) ≤ width
+cell_few bytes width slot = omega (arith, length-take (slot * width + width - slot * width) (drop (slot * width) bytes))
+
+record_few : (page : ℕ → List ℕ) (run : runs.Run) (i : ℕ) → length (record_at page run i) ≤ run.width
+unfolding record_at
+record_few page run i = cell_few (page (page_of run i)) run.width (slot_of run i)
+
+stored_wide : {page : ℕ → List ℕ} (run : Run) (ids : List ℕ) → Stores page (run_of run) (map number_cell ids) → (i : ℕ) → i < run.count → 4 ≤ run.width
+stored_wide {page = page} run ids stores i within =
+    let is = stores.has.each i within ∙ get_cell ids i (inside ids stores i within) in
+    let four : length (number_cell (get_or ids i 0)) ≡ 4 = refl in
+    omega (arith, record_few page (run_of run) i, ap (λ (r : List ℕ). length r) is, four)
 
 pub id_listed :
     (page : ℕ → List ℕ) (low rows : ℕ) (run : Run) (ids : List ℕ) → Listed page run low rows ids → (i : ℕ) → i < run.count
@@ -115,12 +134,19 @@ id_listed page low rows run ids is i within =
     ap (λ r. number_in r 0) (is.stores.has.each i within ∙ get_cell ids i (inside ids is.stores i within))
     ∙ first_number (get_or ids i 0) (is.small i (inside ids is.stores i within))
 
+pub whole_listed :
+    (page : ℕ → List ℕ) (low rows : ℕ) (run : Run) (ids : List ℕ) → Listed page run low rows ids → (i : ℕ) → i < run.count
+    → id_of page (whole_list run) i ≡ get_or ids i 0
+whole_listed page low rows run ids is i within =
+    let at : 0 + i ≡ i = omega arith in
+    listed_by_width page (run_of run) 0 i (stored_wide run ids is.stores i within)
+    ∙ ap (λ n. id_at page (run_of run) n) at
+    ∙ id_listed page low rows run ids is i within
+
 listed_at :
     (right page : ℕ → List ℕ) (low rows : ℕ) (run : Run) (ids : List ℕ) → Listed page run low rows ids → (i : ℕ) → i < run.count
     → id_of (over right page low) (whole_list run) i ≡ get_or ids i 0
-listed_at right page low rows run ids is i within =
-    let at : 0 + i ≡ i = omega arith in
-    id_over right page low i run is.from ∙ ap (λ n. id_at page (run_of run) n) at ∙ id_listed page low rows run ids is i within
+listed_at right page low rows run ids is i within = id_over right page low i run within is.from ∙ whole_listed page low rows run ids is i within
 
 pub listed_ordered :
     (right page : ℕ → List ℕ) (low rows : ℕ) (run : Run) (ids : List ℕ) → Listed page run low rows ids
@@ -131,7 +157,7 @@ listed_ordered right page low rows run ids is =
       above = λ i within. omega (arith, at i within, is.above i (inside ids is.stores i within));
       order = λ i j less within. omega (arith, at i (omega (arith, less, within)), at j within, is.ascending i j less (inside ids is.stores j within));
       within = λ i within. omega (arith, at i within, is.within i (inside ids is.stores i within));
-      same = λ i within some most. sym (id_over right page low i run is.from);
+      same = λ i within some most. sym (id_over right page low i run within is.from);
     }
 
 pub listed_from :

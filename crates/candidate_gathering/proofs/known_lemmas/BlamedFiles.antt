@@ -1,8 +1,8 @@
 -- A slot that is blamed, with the file of the layout in which it lies.
-use Rattle.std.proofs.Common.{◌≡◌, ap, sym, ◌∙◌, refl, subst, ℕ, zero, suc, ◌+◌, ◌-◌, ◌<◌, ◌≤◌, Bool, true, false, not, ◌&&◌, ◌||◌, nat_le, nat_lt, inl, inr, List, [], ◌∷◌, ◌++◌, length, drop, slice_get, Some, None, is_some, arith}
-use Rattle.std.specs.Prelude.{◌==◌, if◌then◌else◌, Contains}
+use Rattle.std.proofs.Common.{◌≡◌, ap, sym, ◌∙◌, refl, subst, ℕ, zero, suc, ◌+◌, ◌-◌, ◌<◌, ◌≤◌, Bool, true, false, not, ◌||◌, inl, inr, List, [], ◌∷◌, ◌++◌, drop, slice_get, Some, None, is_some, arith}
+use Rattle.std.specs.Prelude.{◌⊎◌, ◌==◌, if◌then◌else◌, Contains}
 use Rattle.std.specs.List.{list_any}
-use Rattle.std.proofs.lemmas.Bool.{and_parts, eq-eqb, leb-true, lt-ltb}
+use Rattle.std.proofs.lemmas.Bool.{eq-eqb}
 use Rattle.std.proofs.lemmas.List.FromFn.{length-range_with_len, get_or-range_with_len}
 use Rattle.std.proofs.lemmas.List.Elements.{Contains-append_cases}
 use Rattle.std.proofs.lemmas.Option.{slice_get_within}
@@ -10,9 +10,10 @@ use Rattle.ghost_model.specs.core.Channel.{Catalog}
 use Rattle.ghost_model.specs.core.Query.{Query}
 use Rattle.ghost_model.specs.laws.LayoutLaws.{FilesLieAsSummed, LieAsSummed}
 use Rattle.ghost_model.specs.forms.Layout.{above_of, count_of, descendants_of, levels_of, File, Cells, Subtrees, IndexHeader, IndexDirectory, IndexLevel, IdDirectory, IdLevel}
-use Rattle.ghost_model.specs.laws.ShortWords.{id_level, index_level, subtree_table}
-use Rattle.ghost_model.specs.forms.Runs.{Run, found_in, id_at, number_in, page_of, record_at, slot_of}
-use Rattle.ghost_model.specs.forms.Slots.{IsDamagedIn, are_rows, is_row}
+use Rattle.ghost_model.specs.laws.ShortWords.{subtree_table}
+use Rattle.ghost_model.specs.forms.Runs.{Run, found_in, number_in, page_of, record_at, slot_of}
+use Rattle.ghost_model.specs.forms.Slots.{IsDamagedIn, are_rows}
+use Rattle.ghost_base.specs.declared.runs.ListRef.{ListRef}
 use Rattle.ghost_base.specs.Runs.{run_of}
 use Rattle.flash_pages.specs.declared.fault.PageFault.TheVariants.{Damaged}
 use Rattle.climbing_index.specs.declared.directory.Directory.{Directory}
@@ -21,6 +22,7 @@ use Rattle.climbing_index.specs.declared.index.IdIndex.{IdIndex}
 use Rattle.climbing_index.specs.declared.search.Group.{Group}
 use Rattle.climbing_index.specs.Directories.{HasDamage, entry_stands}
 use Rattle.climbing_index.specs.Searches.{FailsIn, header_count, header_stands, rows_of}
+use Rattle.climbing_index.specs.Laws.{BrokenCodesAreDamaged}
 use Rattle.climbing_index.proofs.HeldIndexes.{same_entry, same_id_entry}
 use Rattle.hidden_columns.specs.declared.file.ColumnFile.{ColumnFile}
 use Rattle.hidden_columns.specs.Files as columns
@@ -31,11 +33,11 @@ use Rattle.subtree_keys.specs.Laws.{TablesAreOfSlots}
 use Rattle.spill_pass.specs.Lists.{OutOfRowsIn}
 use Rattle.entry_lists.specs.declared.entries.EntryLists.{EntryLists}
 use Rattle.entry_lists.specs.declared.replies.ReplyLists.{ReplyLists}
-use Rattle.entry_lists.specs.Entries.{entries_in, entries_of, level_run}
+use Rattle.entry_lists.specs.Entries.{IsListOfEntry, entries_in}
 use Rattle.entry_lists.specs.Entries as of_entries
 use Rattle.entry_lists.specs.Replied as of_replies
-use Rattle.entry_lists.proofs.DamagedLists.{directory_damage}
-use Rattle.entry_lists.proofs.ValueLists.{file_at}
+use Rattle.entry_lists.specs.Laws.{rows_at}
+use Rattle.entry_lists.proofs.DamagedLists.{code_damage, directory_damage, id_code_is_damaged}
 use Rattle.candidate_rows.specs.declared.plan.SubtreeFile.{SubtreeFile}
 use Rattle.candidate_rows.specs.Plans.{IsFile, IsSubtreeFile}
 use Rattle.candidate_rows.specs.Laws.{wants_below}
@@ -65,15 +67,16 @@ comes_within first second entries entry low high comes =
       | inr one ↦ in_group second entries entry high one
     ]
 
--- an identifier that no row has is out of its range
-no_row : (cat : Catalog) (from id : ℕ) → (0 < id → id ≤ count_of cat from → ⊥) → is_row cat from id ≡ false
-no_row cat from id out = by_test (is_row cat from id) refl
-  where
-    by_test : (t : Bool) → (nat_le 1 id && nat_le id (count_of cat from)) ≡ t → t ≡ false
-    by_test false e = refl
-    by_test true e =
-        let both = and_parts (nat_le 1 id) (nat_le id (count_of cat from)) e in
-        absurd (out (leb-true 1 id both.0) (leb-true id (count_of cat from) both.1))
+-- so is one before the end of one of the groups that lists have
+before_ends : (lists : EntryLists) (first second : Group) (entries entry : ℕ) → lists.first ≡ first → lists.second ≡ second → EndsBy entries first → EndsBy entries second
+    → (entry < lists.first.first + lists.first.count) ⊎ (entry < lists.second.first + lists.second.count) → entry < entries
+before_ends lists first second entries entry first_is second_is low high before =
+    let one = ap (λ (g : Group). g.first + g.count) first_is in
+    let two = ap (λ (g : Group). g.first + g.count) second_is in
+    elim before [
+      | inl less ↦ omega (arith, one, low, less)
+      | inr less ↦ omega (arith, two, high, less)
+    ]
 
 none_spelled : (t : Bool) (rows : List ℕ) → (if t then Some rows else None) ≡ None → t ≡ false
 none_spelled true rows e = absurd (cc e)
@@ -96,7 +99,7 @@ above_first (first ∷ later) (suc level) top low e = any_at later level e
         either true = refl
         either false = refl
 
-module _ (summed : FilesLieAsSummed) (page : ℕ → List ℕ) (cat : Catalog) (asked : Query) (top : ℕ) where
+module _ (summed : FilesLieAsSummed) (broken : BrokenCodesAreDamaged) (page : ℕ → List ℕ) (cat : Catalog) (asked : Query) (top : ℕ) where
   abbrev laid : LieAsSummed cat
   laid = summed cat
 
@@ -150,28 +153,22 @@ module _ (summed : FilesLieAsSummed) (page : ℕ → List ℕ) (cat : Catalog) (
           | inr bad ↦ entry_is bad.place bad.room bad.within number slot found bad.damage
         ]
 
-    pub column_level_is : (directory : Directory) (other : ℕ) → directory ≡ index.directory → other ≡ level
-        → (number slot found : ℕ) → OutOfRowsIn page (level_run directory other) (count_of cat top) number slot found → IsDamagedFor page cat (IsListFile cat asked top) number slot found
-    column_level_is directory other same here number slot found out =
-        let low = slice_get_within (levels_of cat.schema table) level top at.level_is in
-        let file = index_level cat table column level in
-        let run = ap (λ (d : Directory). run_of (level_run d other)) same ∙ (ap (λ l. run_of (level_run index.directory l)) here
-        ∙ file_at (index_level cat table column) (length (levels_of cat.schema table)) index.directory at.index_is.levels_are level low) in
-        let rows = ap (count_of cat) (indexed (levels_of cat.schema table) level top at.level_is) in
-        let count = ap (λ (r : Run). r.count) (run ∙ laid.index_level table column level at.hidden low) in
+    -- reading the list of an entry gets to a code that is broken
+    code_is : (directory : Directory) (other : ℕ) → directory ≡ index.directory → other ≡ level → (entry : ℕ) → entry < rows_of index → entry < header_count page index
+        → (list : ListRef) → IsListOfEntry page directory other entry list
+        → (number slot found : ℕ) → OutOfRowsIn page list (count_of cat top) number slot found → IsDamagedFor page cat (IsListFile cat asked top) number slot found
+    code_is directory other same here entry low room list of number slot found out =
+        let levels = levels_of cat.schema table in
+        let near = slice_get_within levels level top at.level_is in
+        let rows : rows_at cat levels level ≡ count_of cat top = ap (count_of cat) (indexed levels level top at.level_is) in
+        let L : ℕ → Type 0 = λ l. IsListOfEntry page directory l entry list in
+        let O : ℕ → Type 0 = λ n. OutOfRowsIn page list n number slot found in
+        let own : OutOfRowsIn page list (rows_at cat levels level) number slot found = subst O (sym rows) out in
         record {
           file = IndexLevel table column level;
-          place = out.at;
+          place = own.place;
           read_for = (compared, at.level_is);
-          damaged = record {
-            has = ap (λ b. b && nat_lt level (length (levels_of cat.schema table))) at.hidden ∙ lt-ltb level (length (levels_of cat.schema table)) low;
-            within = omega (arith, count, out.within);
-            page_is = out.page_is ∙ ap (λ r. page_of r out.at) run;
-            slot_is = out.slot_is ∙ ap (λ r. slot_of r out.at) run;
-            damaged = inl (ap (λ t. is_row cat t (number_in (record_at page file out.at) 0)) (indexed (levels_of cat.schema table) level top at.level_is)
-                ∙ no_row cat top (id_at page file out.at) (let P : Run → Type 0 = λ r. 0 < id_at page r out.at → id_at page r out.at ≤ count_of cat top → ⊥ in subst P run out.out));
-            found_is = out.found_is ∙ ap (λ r. found_in (record_at page r out.at)) run;
-          };
+          damaged = code_damage broken page cat table column at.hidden index at.index_is directory same level near entry low room list (subst L here of) number slot found own;
         }
 
     pub entries_is : (first second : Group) → EndsBy (rows_of index) first → EndsBy (rows_of index) second → EndsBy (header_count page index) first → EndsBy (header_count page index) second
@@ -185,7 +182,10 @@ module _ (summed : FilesLieAsSummed) (page : ℕ → List ℕ) (cat : Catalog) (
               let comes = subst H are.second_is (subst G are.first_is one.comes) in
               entry_is one.entry (comes_within first second (rows_of index) one.entry a b comes) (comes_within first second (header_count page index) one.entry d e comes)
               number slot found (directory_damage page lists.directory index.directory are.directory_is one.entry number slot found one.damage))
-          | inr out ↦ column_level_is lists.directory lists.level are.directory_is are.level_is number slot found out
+          | inr code ↦ code_is lists.directory lists.level are.directory_is are.level_is code.may.entry
+              (before_ends lists first second (rows_of index) code.may.entry are.first_is are.second_is a b code.may.before)
+              (before_ends lists first second (header_count page index) code.may.entry are.first_is are.second_is d e code.may.before)
+              code.list code.may.is number slot found code.out
         ]
 
   -- ---- the index of identifiers
@@ -212,30 +212,24 @@ module _ (summed : FilesLieAsSummed) (page : ℕ → List ℕ) (cat : Catalog) (
           };
         }
 
-    pub id_level_is : (directory : Directory) (other : ℕ) → directory ≡ index.directory → other ≡ level - 1
-        → (number slot found : ℕ) → OutOfRowsIn page (level_run directory other) (count_of cat top) number slot found → IsDamagedFor page cat (IsListFile cat asked top) number slot found
-    id_level_is directory other same here number slot found out =
+    -- reading the list of an entry gets to a code that is broken
+    id_code_is : (directory : Directory) (other : ℕ) → directory ≡ index.directory → other ≡ level - 1 → (entry : ℕ) → entry < count_of cat table
+        → (list : ListRef) → IsListOfEntry page directory other entry list
+        → (number slot found : ℕ) → OutOfRowsIn page list (count_of cat top) number slot found → IsDamagedFor page cat (IsListFile cat asked top) number slot found
+    id_code_is directory other same here entry low list of number slot found out =
         let levels = levels_of cat.schema table in
-        let low = within_above levels level top at.above at.level_is in
-        let file = id_level cat table (level - 1) in
-        let run = ap (λ (d : Directory). run_of (level_run d other)) same ∙ (ap (λ l. run_of (level_run index.directory l)) here
-        ∙ file_at (id_level cat table) (length (above_of cat.schema table)) index.directory at.index_is.levels_are (level - 1) low) in
-        let is_top = indexed_above levels level top at.above at.level_is in
-        let count = ap (λ (r : Run). r.count) (run ∙ laid.id_level table (level - 1) at.there low) in
-        let next : level ≡ level - 1 + 1 = let above = at.above in omega (arith, above) in
+        let above = above_of cat.schema table in
+        let near = within_above levels level top at.above at.level_is in
+        let rows : rows_at cat above (level - 1) ≡ count_of cat top = ap (count_of cat) (indexed_above levels level top at.above at.level_is) in
+        let next : level ≡ level - 1 + 1 = let some = at.above in omega (arith, some) in
+        let L : ℕ → Type 0 = λ l. IsListOfEntry page directory l entry list in
+        let O : ℕ → Type 0 = λ n. OutOfRowsIn page list n number slot found in
+        let own : OutOfRowsIn page list (rows_at cat above (level - 1)) number slot found = subst O (sym rows) out in
         record {
           file = IdLevel table (level - 1);
-          place = out.at;
+          place = own.place;
           read_for = (sought, let L : ℕ → Type 0 = λ l. IsLevelOf cat.schema top table l in subst L next at.level_is);
-          damaged = record {
-            has = lt-ltb (level - 1) (length (above_of cat.schema table)) low;
-            within = omega (arith, count, out.within);
-            page_is = out.page_is ∙ ap (λ r. page_of r out.at) run;
-            slot_is = out.slot_is ∙ ap (λ r. slot_of r out.at) run;
-            damaged = inl (ap (λ t. is_row cat t (number_in (record_at page file out.at) 0)) is_top
-                ∙ no_row cat top (id_at page file out.at) (let P : Run → Type 0 = λ r. 0 < id_at page r out.at → id_at page r out.at ≤ count_of cat top → ⊥ in subst P run out.out));
-            found_is = out.found_is ∙ ap (λ r. found_in (record_at page r out.at)) run;
-          };
+          damaged = id_code_is_damaged broken page cat table at.there index at.index_is directory same (level - 1) near entry low list (subst L here of) number slot found own;
         }
 
     pub identifiers_is : (first second : Group) → EndsBy (count_of cat table) first → EndsBy (count_of cat table) second
@@ -249,7 +243,9 @@ module _ (summed : FilesLieAsSummed) (page : ℕ → List ℕ) (cat : Catalog) (
               let comes = subst H are.second_is (subst G are.first_is one.comes) in
               id_entry_is one.entry (comes_within first second (count_of cat table) one.entry a b comes)
               number slot found (directory_damage page lists.directory index.directory are.directory_is one.entry number slot found one.damage))
-          | inr out ↦ id_level_is lists.directory lists.level are.directory_is are.level_is number slot found out
+          | inr code ↦ id_code_is lists.directory lists.level are.directory_is are.level_is code.may.entry
+              (before_ends lists first second (count_of cat table) code.may.entry are.first_is are.second_is a b code.may.before)
+              code.list code.may.is number slot found code.out
         ]
 
     pub replies_is : (lists : ReplyLists) → AreRepliesAt index.directory (level - 1) (count_of cat table) (count_of cat top) lists
@@ -259,7 +255,9 @@ module _ (summed : FilesLieAsSummed) (page : ℕ → List ℕ) (cat : Catalog) (
           | inl one ↦ id_entry_is (_ - 1)
               (let rows = ap (λ (r : Run). r.count) at.index_is.run_is in let same = ap (λ (d : Directory). d.run.count) are.directory_is in omega (arith, one.some, one.most, rows, same))
               number slot found (directory_damage page lists.directory index.directory are.directory_is _ number slot found one.damage)
-          | inr out ↦ id_level_is lists.directory lists.level are.directory_is are.level_is number slot found out
+          | inr code ↦ id_code_is lists.directory lists.level are.directory_is are.level_is code.may.entry
+              (let rows = ap (λ (r : Run). r.count) at.index_is.run_is in let same = ap (λ (d : Directory). d.run.count) are.directory_is in omega (arith, code.may.is.there, rows, same))
+              code.list code.may.is number slot found code.out
         ]
 
 -- ---- the slot of a row

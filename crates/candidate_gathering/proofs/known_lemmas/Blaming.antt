@@ -1,21 +1,26 @@
 -- What is blamed of runs that may be was found in a file that is read, or, where pages are not told, in a reply or in scratch; and the
 -- file is the one in which the slot is damaged.
-use Rattle.std.proofs.Common.{◌≡◌, refl, sym, subst, ℕ, ◌-◌, ◌/◌, ◌<◌, ◌≤◌, inl, inr, Bool, true, false, not, ◌&&◌, ◌||◌, nat_eq, nat_le, nat_lt, Option, arith}
+use Rattle.std.proofs.Common.{◌≡◌, ◌∙◌, ap, refl, sym, subst, ℕ, ◌-◌, ◌/◌, ◌%◌, ◌<◌, ◌≤◌, inl, inr, Bool, true, false, not, ◌&&◌, ◌||◌, nat_eq, nat_le, nat_lt, List, [], ◌∷◌, length, drop, Option, arith}
+use Rattle.std.specs.Prelude.{if◌then◌else◌}
 use Rattle.std.specs.List.{list_any}
 use Rattle.std.proofs.lemmas.Bool.{and_parts, or_cases, leb-true, ltb-true, eqb-true}
+use Rattle.ghost_model.specs.core.Schema.{Schema, ancestor, is_empty}
 use Rattle.ghost_model.specs.core.Channel.{Catalog}
 use Rattle.ghost_model.specs.core.Query.{Query}
-use Rattle.ghost_model.specs.forms.Layout.{need, spool_end, File, run_of_file}
-use Rattle.ghost_model.specs.forms.Runs.{Run, page_of, per_page, run_end}
-use Rattle.ghost_model.specs.forms.Slots.{has_file}
+use Rattle.ghost_model.specs.forms.Layout.{above_of, descendants_of, is_hidden, levels_of, need, spool_end, File, Cells, Subtrees, IndexHeader, IndexDirectory, IndexLevel, IdDirectory, IdLevel, run_of_file}
+use Rattle.ghost_model.specs.forms.Runs.{Run, cell_in, found_in, page_of, per_page, record_at, run_end}
+use Rattle.ghost_model.specs.forms.Slots.{has_file, in_slot}
 use Rattle.ghost_model.specs.laws.LayoutLaws.{FilesLieAsSummed, FilesLieInOrder, LayoutIsSmall, RecordsStandWithin}
+use Rattle.ghost_model.proofs.LayoutLemmas.Small.{some_in}
 use Rattle.edge_traits.specs.Devices.{Device}
+use Rattle.flash_pages.specs.Reads.{bytes_in}
+use Rattle.flash_pages.proofs.ListFrames.{records_by_width}
 use Rattle.id_merge.specs.Since.{IsBlamed}
 use Rattle.leakless_plan.specs.declared.form.Form.{Form}
 use Rattle.visible_spool.specs.Areas.{half_begin, half_end}
 use Rattle.candidate_gathering.specs.known.Found.{InFile, InReplies, InScratch, WasFoundAt, WasFoundBetween, WasFoundByForms}
 use Rattle.candidate_gathering.specs.known.Laws.{BadSlotsAreRead, BlamedAreFound}
-use Rattle.candidate_gathering.specs.known.May.{files_in, is_run_read, is_same_run, lies_in, since_for}
+use Rattle.candidate_gathering.specs.known.May.{files_in, is_column, is_run_read, is_same_run, lies_in, since_for}
 use Rattle.candidate_gathering.specs.known.Reading.{IsBadSlotBy, IsReadByForms, is_read_by}
 use Rattle.candidate_gathering.proofs.known_lemmas.FilePages.{is_static}
 use Rattle.candidate_gathering.proofs.known_lemmas.Listed.{run_is, some_of}
@@ -46,18 +51,65 @@ lies_between low high run lies place within =
           (omega (arith, from, up), omega (arith, to, down)))
     ]
 
+-- ---- what a slot of a file has of its page
+
+-- a table of which a column is hidden has levels, its own first
+levels_some : (schema : Schema) (table column : ℕ) → is_hidden schema table column ≡ true → 0 < length (levels_of schema table)
+unfolding ancestor
+levels_some [] table column hidden = absurd (cc hidden)
+levels_some (first ∷ later) table column hidden = omega arith
+
+module _ (cat : Catalog) (bytes : List ℕ) where
+  by_record : (run : Run) (place : ℕ) → 4 ≤ run.width → bytes_in bytes run place ≡ record_at (λ _. bytes) run place
+  unfolding record_at
+  by_record run place wide =
+      ap (λ (codes : Bool). if codes then drop (place % (2048 / run.width)) bytes else cell_in bytes run.width (place % (2048 / run.width)))
+      (records_by_width run wide)
+
+  -- where it is no column's, what stands at a place of its run as a list's
+  slot_read : (file : File) (place : ℕ) → has_file cat.schema file ≡ true → is_column file ≡ false
+      → bytes_in bytes (run_of_file cat file) place ≡ in_slot (λ _. bytes) cat file place
+  slot_read (Cells table column) place has other = absurd (cc other)
+  slot_read (Subtrees table) place has other =
+      let some = some_in (descendants_of cat.schema table) (not_told (is_empty (descendants_of cat.schema table)) has) in
+      by_record (run_of_file cat (Subtrees table)) place (omega (arith, some))
+  slot_read (IndexHeader table column) place has other = by_record (run_of_file cat (IndexHeader table column)) place (omega arith)
+  slot_read (IndexDirectory table column) place has other =
+      let some = levels_some cat.schema table column has in
+      by_record (run_of_file cat (IndexDirectory table column)) place (omega (arith, some))
+  slot_read (IndexLevel table column level) place has other = refl
+  slot_read (IdDirectory table) place has other =
+      let some = some_in (above_of cat.schema table) (not_told (is_empty (above_of cat.schema table)) has) in
+      by_record (run_of_file cat (IdDirectory table)) place (omega (arith, some))
+  slot_read (IdLevel table level) place has other = refl
+
 module _ (told : Bool) (calls : ℕ) (device : Device) (cat : Catalog) (asked : Query) (forced : Option Form) (top side number slot found : ℕ)
     (blamed : IsBlamed (since_for told calls cat asked forced top side) device number slot found) where
-  found_at : WasFoundAt calls device blamed.run number slot found
+  found_at : WasFoundAt calls device blamed.run (λ bytes. bytes_in bytes blamed.run) number slot found
   found_at = record {
     place = blamed.place;
     within = blamed.within;
     page_is = blamed.page_is;
     slot_is = blamed.slot_is;
-    bytes = blamed.bytes;
-    read = blamed.read;
-    found_is = blamed.found_is;
+    bytes = blamed.read.bytes;
+    gave = blamed.read.gave;
+    found_is = blamed.found_is ∙ ap found_in blamed.read.are;
   }
+
+  found_in_file : (file : File) → has_file cat.schema file ≡ true → is_column file ≡ false → blamed.run ≡ run_of_file cat file
+      → WasFoundAt calls device (run_of_file cat file) (λ bytes. in_slot (λ _. bytes) cat file) number slot found
+  found_in_file file has other same =
+      let W : Run → Type 0 = λ run. WasFoundAt calls device run (λ bytes. bytes_in bytes run) number slot found in
+      let at = subst W same found_at in
+      record {
+        place = at.place;
+        within = at.within;
+        page_is = at.page_is;
+        slot_is = at.slot_is;
+        bytes = at.bytes;
+        gave = at.gave;
+        found_is = at.found_is ∙ ap found_in (slot_read cat at.bytes file at.place has other);
+      }
 
   between : (low high : ℕ) → lies_in low high blamed.run ≡ true → WasFoundBetween calls device low high number slot found
   between low high lies =
@@ -76,10 +128,16 @@ module _ (told : Bool) (calls : ℕ) (device : Device) (cat : Catalog) (asked : 
         | inl static ↦ (
             let one = some_of (is_run_read cat asked forced top blamed.run) (files_in cat.schema) static in
             let file = one.item in
-            let first = and_parts (has_file cat.schema file) (is_read_by cat asked forced top file && is_same_run blamed.run (run_of_file cat file)) one.passes in
-            let rest = and_parts (is_read_by cat asked forced top file) (is_same_run blamed.run (run_of_file cat file)) first.1 in
-            let W : Run → Type 0 = λ run. WasFoundAt calls device run number slot found in
-            InFile (record { file = file; has = first.0; read_for = rest.0; at = subst W (run_is blamed.run (run_of_file cat file) rest.1) found_at }))
+            let read = is_read_by cat asked forced top file && is_same_run blamed.run (run_of_file cat file) in
+            let first = and_parts (has_file cat.schema file) (not (is_column file) && read) one.passes in
+            let second = and_parts (not (is_column file)) read first.1 in
+            let rest = and_parts (is_read_by cat asked forced top file) (is_same_run blamed.run (run_of_file cat file)) second.1 in
+            InFile (record {
+              file = file;
+              has = first.0;
+              read_for = rest.0;
+              at = found_in_file file first.0 (not_told (is_column file) second.0) (run_is blamed.run (run_of_file cat file) rest.1);
+            }))
         | inr other ↦ (
             let parts = and_parts (not told) (replies || scratch) other in
             let untold = not_told told parts.0 in

@@ -1,9 +1,9 @@
 -- The static files lie below the end of the static part: so where static pages stay, each slot of a file has what it had.
-use Rattle.std.proofs.Common.{◌≡◌, refl, ap, ℕ, ◌+◌, ◌<◌, ◌≤◌, Bool, true, false, cond, nat_lt, not, List, [], ◌∷◌, length, arith}
+use Rattle.std.proofs.Common.{◌≡◌, refl, ap, ℕ, ◌+◌, ◌%◌, ◌<◌, ◌≤◌, Bool, true, false, cond, nat_lt, not, List, [], ◌∷◌, length, drop, arith}
 use Rattle.std.proofs.lemmas.Bool.{and_parts, ltb-true}
 use Rattle.ghost_model.specs.core.Schema.{is_empty}
 use Rattle.ghost_model.specs.core.Channel.{Catalog}
-use Rattle.ghost_model.specs.forms.Runs.{Run, page_of, run_end, run_pages}
+use Rattle.ghost_model.specs.forms.Runs.{page_of, run_end, run_pages}
 use Rattle.ghost_model.specs.forms.Layout.{static_end, files_end, is_hidden, levels_of, above_of, descendants_of, File, run_of_file}
 use Rattle.ghost_model.specs.laws.ShortWords.{subtree_table}
 use Rattle.ghost_model.specs.forms.Layout as layout
@@ -30,6 +30,17 @@ not_so false e = refl
 pub above_some : (xs : List ℕ) (level : ℕ) → level < length xs → is_empty xs ≡ false
 above_some [] level low = absurd (omega (arith, low))
 above_some (x ∷ xs) level low = refl
+
+-- a slot has what it had where its page does
+slot_same : (cat : Catalog) (page now : ℕ → List ℕ) (file : File) (place : ℕ)
+    → now (page_of (run_of_file cat file) place) ≡ page (page_of (run_of_file cat file) place) → in_slot now cat file place ≡ in_slot page cat file place
+slot_same cat page now (layout.Cells table column) place same = record_kept page now (run_of_file cat (layout.Cells table column)) place same
+slot_same cat page now (layout.Subtrees table) place same = record_kept page now (run_of_file cat (layout.Subtrees table)) place same
+slot_same cat page now (layout.IndexHeader table column) place same = record_kept page now (run_of_file cat (layout.IndexHeader table column)) place same
+slot_same cat page now (layout.IndexDirectory table column) place same = record_kept page now (run_of_file cat (layout.IndexDirectory table column)) place same
+slot_same cat page now (layout.IndexLevel table column level) place same = ap (drop (place % 2048)) same
+slot_same cat page now (layout.IdDirectory table) place same = record_kept page now (run_of_file cat (layout.IdDirectory table)) place same
+slot_same cat page now (layout.IdLevel table level) place same = ap (drop (place % 2048)) same
 
 module _ (cat : Catalog) (tree : IsTree cat.schema) (narrow : AreNarrow cat) (laid : LieAsSummed cat) (order : LieInOrder cat) where
   subtree_ends : (table : ℕ) → table < length cat.schema → is_empty (descendants_of cat.schema table) ≡ false → run_end (subtree_table cat table) ≤ files_end cat
@@ -71,14 +82,11 @@ module _ (cat : Catalog) (tree : IsTree cat.schema) (narrow : AreNarrow cat) (la
   is_static (layout.IndexLevel table column level) has =
       let both = and_parts (is_hidden cat.schema table column) (nat_lt level (length (levels_of cat.schema table))) has in
       let low = ltb-true level (length (levels_of cat.schema table)) both.1 in
-      let is = laid.index_level table column level both.0 low in
-      let width = ap (λ (r : Run). r.width) is in
-      let count = ap (λ (r : Run). r.count) is in
       record {
-        some = omega (arith, width);
-        fits = omega (arith, width);
+        some = omega arith;
+        fits = omega arith;
         end = level_ends cat laid order table column level both.0 low;
-        room = λ page. omega (arith, count);
+        room = λ page. omega arith;
       }
   is_static (layout.IdDirectory table) has =
       let above = not_so (is_empty (above_of cat.schema table)) has in
@@ -93,14 +101,11 @@ module _ (cat : Catalog) (tree : IsTree cat.schema) (narrow : AreNarrow cat) (la
       let low = ltb-true level (length (above_of cat.schema table)) has in
       let above = above_some (above_of cat.schema table) level low in
       let there = low_is_table cat.schema tree table above in
-      let is = laid.id_level table level there low in
-      let width = ap (λ (r : Run). r.width) is in
-      let count = ap (λ (r : Run). r.count) is in
       record {
-        some = omega (arith, width);
-        fits = omega (arith, width);
+        some = omega arith;
+        fits = omega arith;
         end = id_level_ends cat laid order table level there above low;
-        room = λ page. omega (arith, count);
+        room = λ page. omega arith;
       }
 
   -- a slot has what it had
@@ -111,7 +116,7 @@ module _ (cat : Catalog) (tree : IsTree cat.schema) (narrow : AreNarrow cat) (la
       let run = run_of_file cat file in
       let before : page_of run place < run_end run = (stand run static.some static.fits).page place low in
       let rounded : files_end cat ≤ static_end cat = order.static in
-      record_kept page now run place (keeps (page_of run place) (omega (arith, before, static.end, rounded)))
+      slot_same cat page now file place (keeps (page_of run place) (omega (arith, before, static.end, rounded)))
 
   pub slots_room : (file : File) → has_file cat.schema file ≡ true → (page : ℕ → List ℕ) → slots_in page cat file ≤ (run_of_file cat file).count
   slots_room file has page = (is_static file has).room page

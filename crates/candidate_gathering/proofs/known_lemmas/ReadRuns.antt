@@ -22,10 +22,10 @@ use Rattle.id_merge.specs.Since.{Since, MayBlame, Blamed, InOrder}
 use Rattle.leakless_plan.specs.declared.form.Form.{Form}
 use Rattle.leakless_plan.specs.declared.form.Form.TheVariants.{Pre, Post, CrossPre, CrossPost}
 use Rattle.leakless_plan.specs.Choices.{crosses, form_of, form_with, forms_of, is_crossed, is_linked, may_cross, plain, unites}
-use Rattle.flash_pages.proofs.RunFrames.{record_kept}
+use Rattle.flash_pages.proofs.ListFrames.{listed_by_width, listed_kept}
 use Rattle.climbing_index.specs.declared.index.ClimbingIndex.{ClimbingIndex}
 use Rattle.climbing_index.specs.declared.index.IdIndex.{IdIndex}
-use Rattle.spill_pass.specs.Lists.{IsOrdered}
+use Rattle.spill_pass.specs.Lists.{IsOrdered, id_of}
 use Rattle.visible_spool.specs.declared.half.Half.{Half}
 use Rattle.visible_spool.specs.declared.reply.Reply.{Reply as ReplyModel}
 use Rattle.visible_spool.specs.Areas.{half_begin, half_end}
@@ -46,7 +46,7 @@ use Rattle.candidate_gathering.specs.searching.Given.{SearchMay}
 use Rattle.candidate_gathering.proofs.searching_lemmas.Places.{some_above, within_above}
 use Rattle.candidate_gathering.specs.known.Known.{compares, is_comparison_of}
 use Rattle.candidate_gathering.specs.known.Laws.{RunsMay}
-use Rattle.candidate_gathering.specs.known.May.{ReplyMay, TermMay, TermsMay, files_in, is_run_read, is_same_run, lies_in, may_blame, since_for}
+use Rattle.candidate_gathering.specs.known.May.{ReplyMay, TermMay, TermsMay, files_in, is_column, is_run_read, is_same_run, lies_in, may_blame, since_for}
 use Rattle.candidate_gathering.specs.known.Reading.{AreTaken, IsReadByForms, MayTake, crosses_at, has_ids, has_lists, has_set, is_read_by, may_unite, seeks_by}
 use Rattle.candidate_gathering.proofs.known_lemmas.BlamedFiles.{above_first}
 use Rattle.candidate_gathering.proofs.known_lemmas.TablesThere.{low_is_table}
@@ -69,15 +69,17 @@ all_lie low high run inside = by (nat_lt 0 run.count) refl
         before (nat_eq run.count 0) (nat_le low (page_of run 0) && nat_lt (page_of run (run.count - 1)) high) (eq-eqb run.count 0 (omega (arith, none)))
 
 module _ (cat : Catalog) (asked : Query) (forced : Option Form) (top side : ℕ) where
-  files_may : FilesLieInOrder → (told : Bool) (file : File) → IsTree cat.schema → has_file cat.schema file ≡ true → IsReadByForms cat asked forced top file
+  files_may : FilesLieInOrder → (told : Bool) (file : File) → IsTree cat.schema → has_file cat.schema file ≡ true → is_column file ≡ false → IsReadByForms cat asked forced top file
       → may_blame told cat asked forced top side (run_of_file cat file) ≡ true
-  files_may orders told file tree has read =
+  files_may orders told file tree has other read =
       let run = run_of_file cat file in
       let replies = lies_in (half_begin cat side) (half_end cat side) run in
       let scratch = lies_in (spool_end cat) (need cat) run in
       before (list_any (is_run_read cat asked forced top run) (files_in cat.schema)) (not told && (replies || scratch))
       (listed cat tree (orders cat) (is_run_read cat asked forced top run) file has
-      (both (has_file cat.schema file) (is_read_by cat asked forced top file && is_same_run run run) has (both (is_read_by cat asked forced top file) (is_same_run run run) read (same_run run))))
+      (both (has_file cat.schema file) (not (is_column file) && (is_read_by cat asked forced top file && is_same_run run run)) has
+      (both (not (is_column file)) (is_read_by cat asked forced top file && is_same_run run run) (ap not other)
+      (both (is_read_by cat asked forced top file) (is_same_run run run) read (same_run run)))))
 
   spool_may : (run : Run) → ((place : ℕ) → place < run.count → (half_begin cat side ≤ page_of run place) × (page_of run place < half_end cat side))
       → may_blame false cat asked forced top side run ≡ true
@@ -95,10 +97,10 @@ module _ (cat : Catalog) (asked : Query) (forced : Option Form) (top side : ℕ)
 
 -- ---- replies
 
--- the rows of a reply ascend
-rows_ascend : (page : ℕ → List ℕ) (reply : ReplyModel) (held : List (List ℕ)) (rows : ℕ) → HoldsRows page reply held → (0 < reply.run.count → reply.rows ≡ rows)
+-- the rows of a reply ascend, whose records are wider than a code
+rows_ascend : (page : ℕ → List ℕ) (reply : ReplyModel) → 4 ≤ reply.run.width → (held : List (List ℕ)) (rows : ℕ) → HoldsRows page reply held → (0 < reply.run.count → reply.rows ≡ rows)
     → IsOrdered page page rows (rows_list reply)
-rows_ascend page reply held rows holds same = record {
+rows_ascend page reply wide held rows holds same = record {
   above = λ i low. let e = id_is i low in let some = holds.are.some i (within i low) in omega (arith, e, some);
   order = λ i j less low. let e = id_is i (omega (arith, less, low)) in let f = id_is j low in let up = holds.are.ascend i j less (within j low) in omega (arith, e, f, up);
   within = λ i low. let e = id_is i low in let most = holds.are.within i (within i low) in let rest = same (omega (arith, low)) in omega (arith, e, most, rest);
@@ -108,8 +110,11 @@ rows_ascend page reply held rows holds same = record {
     within : (i : ℕ) → i < reply.run.count → i < length held
     within i low = let count = holds.has.count in omega (arith, count, low)
 
-    id_is : (i : ℕ) → (low : i < reply.run.count) → id_at page (run_of reply.run) (0 + i) ≡ number_in (get_or held i []) 0
-    id_is i low = let here : 0 + i ≡ i = omega arith in ap (id_at page (run_of reply.run)) here ∙ ap (λ bytes. number_in bytes 0) (holds.has.each i low)
+    id_is : (i : ℕ) → (low : i < reply.run.count) → id_of page (rows_list reply) i ≡ number_in (get_or held i []) 0
+    id_is i low =
+        let here : 0 + i ≡ i = omega arith in
+        listed_by_width page (run_of reply.run) 0 i wide
+        ∙ (ap (id_at page (run_of reply.run)) here ∙ ap (λ bytes. number_in bytes 0) (holds.has.each i low))
 
 module _ (calls : ℕ) (cat : Catalog) (asked : Query) (forced : Option Form) (top side : ℕ) (half : Half) (device : Device) (table : ℕ) where
   reply_with : (told : Bool) (rows : ℕ) → IsHalf told cat side device half → table < 12 → (0 < (reply_of half table).run.count → (reply_of half table).rows ≡ rows)
@@ -119,7 +124,7 @@ module _ (calls : ℕ) (cat : Catalog) (asked : Query) (forced : Option Form) (t
       record {
         there = there;
         few = few;
-        may = InOrder refl (rows_ascend device.page (reply_of half table) whole.rows rows whole.holds same);
+        may = InOrder refl (rows_ascend device.page (reply_of half table) (is.readable table there).sound.wide whole.rows rows whole.holds same);
       }
     where
       few : (reply_of half table).run.count ≤ rows
@@ -170,18 +175,18 @@ module _ (orders : FilesLieInOrder) (levels : LevelsAreAncestors) (told : Bool) 
   abbrev since : Since
   since = since_for told calls cat asked forced top side
 
-  may_file : (file : File) (run : Run) → run ≡ run_of_file cat file → has_file cat.schema file ≡ true → is_read_by cat asked forced top file ≡ true → since.may run ≡ true
-  may_file file run same has read = ap since.may same ∙ files_may cat asked forced top side orders told file tree has read
+  may_file : (file : File) (run : Run) → run ≡ run_of_file cat file → has_file cat.schema file ≡ true → is_column file ≡ false → is_read_by cat asked forced top file ≡ true → since.may run ≡ true
+  may_file file run same has other read = ap since.may same ∙ files_may cat asked forced top side orders told file tree has other read
 
   -- the index of a hidden column, at a table at which lists are read
   entries_may : (at table column : ℕ) (index : ClimbingIndex) (level : ℕ) → IsIndexAt cat at table column index level → compares asked table column ≡ true
       → has_lists cat.schema asked forced top at ≡ true → SearchMay since index × IndexMay since index.directory level
   entries_may at table column index level is compared lists =
       let low = slice_get_within (levels_of cat.schema table) level at is.level_is in
-      let directory = may_file (IndexDirectory table column) (run_of index.directory.run) is.index_is.run_is is.hidden compared in
+      let directory = may_file (IndexDirectory table column) (run_of index.directory.run) is.index_is.run_is is.hidden refl compared in
       let level_read = ap (λ found. option_map_or (has_lists cat.schema asked forced top) found false) is.level_is ∙ lists in (
         record {
-          header = may_file (IndexHeader table column) (run_of index.header) is.index_is.header_is is.hidden compared;
+          header = may_file (IndexHeader table column) (run_of index.header) is.index_is.header_is is.hidden refl compared;
           entries = directory;
         },
         record {
@@ -189,7 +194,7 @@ module _ (orders : FilesLieInOrder) (levels : LevelsAreAncestors) (told : Bool) 
           lists =
               may_file (IndexLevel table column level) (run_of (level_run index.directory level))
               (file_at (index_level cat table column) (length (levels_of cat.schema table)) index.directory is.index_is.levels_are level low)
-              (both (is_hidden cat.schema table column) (nat_lt level (length (levels_of cat.schema table))) is.hidden (lt-ltb level (length (levels_of cat.schema table)) low))
+              (both (is_hidden cat.schema table column) (nat_lt level (length (levels_of cat.schema table))) is.hidden (lt-ltb level (length (levels_of cat.schema table)) low)) refl
               (both (compares asked table column) (option_map_or (has_lists cat.schema asked forced top) (slice_get (levels_of cat.schema table) level) false) compared level_read);
         },
       )
@@ -203,12 +208,12 @@ module _ (orders : FilesLieInOrder) (levels : LevelsAreAncestors) (told : Bool) 
       let F : Option ℕ → Bool = λ found. option_map_or (has_ids cat.schema asked forced top table) found false in
       record {
         entries =
-            may_file (IdDirectory table) (run_of index.directory.run) is.index_is.run_is (ap not (some_above (levels_of cat.schema table) level at is.above is.level_is))
+            may_file (IdDirectory table) (run_of index.directory.run) is.index_is.run_is (ap not (some_above (levels_of cat.schema table) level at is.above is.level_is)) refl
             (both (is_below cat.schema top table) (seeks_by cat.schema asked forced table) below sought);
         lists =
             may_file (IdLevel table (level - 1)) (run_of (level_run index.directory (level - 1)))
             (file_at (id_level cat table) (length (above_of cat.schema table)) index.directory is.index_is.levels_are (level - 1) low)
-            (lt-ltb (level - 1) (length (above_of cat.schema table)) low)
+            (lt-ltb (level - 1) (length (above_of cat.schema table)) low) refl
             (ap (λ l. F (slice_get (levels_of cat.schema table) l)) next ∙ (ap F is.level_is ∙ has));
       }
 
@@ -416,8 +421,8 @@ ordered_still page now rows reply keeps is = record {
   same = λ i low some most. refl;
 }
   where
-    id_is : (i : ℕ) → i < reply.run.count → id_at now (run_of reply.run) (0 + i) ≡ id_at page (run_of reply.run) (0 + i)
-    id_is i low = ap (λ bytes. number_in bytes 0) (record_kept page now (run_of reply.run) (0 + i) (keeps (0 + i) (omega (arith, low))))
+    id_is : (i : ℕ) → i < reply.run.count → id_of now (rows_list reply) i ≡ id_of page (rows_list reply) i
+    id_is i low = listed_kept page now (run_of reply.run) 0 i (omega (arith, low)) keeps
 
 reply_still : (since : Since) (half : Half) (page now : ℕ → List ℕ) (rows table : ℕ) → KeepsReply page now (reply_of half table) → ReplyMay since half page rows table → ReplyMay since half now rows table
 reply_still since half page now rows table keeps is = record { there = is.there; few = is.few; may = by is.may }
@@ -437,7 +442,7 @@ term_still since half page now top rows keeps (Reply table index level) may = (r
 
 pub runs_may : FilesLieInOrder → LevelsAreAncestors → RunsMay
 runs_may orders levels = record {
-  files = λ told cat asked forced top side file tree has read. files_may cat asked forced top side orders told file tree has read;
+  files = λ told cat asked forced top side file tree has other read. files_may cat asked forced top side orders told file tree has other read;
   spool = λ cat asked forced top side run inside. spool_may cat asked forced top side run inside;
   scratch = λ cat asked forced top side run inside. scratch_may cat asked forced top side run inside;
   reply = λ told calls cat asked forced top side half device table is there. reply_may calls cat asked forced top side half device table told is there;

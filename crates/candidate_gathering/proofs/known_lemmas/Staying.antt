@@ -1,26 +1,24 @@
 -- What is known of the pages stays known where the static pages stay, and a bad slot stays bad.
-use Rattle.std.proofs.Common.{◌≡◌, refl, ap, ap₂, sym, ◌∙◌, ℕ, zero, suc, ◌+◌, ◌-◌, ◌*◌, ◌<◌, ◌≤◌, min, true, false, not, ◌&&◌, nat_lt, inl, inr, List, length, drop, Some, arith}
-use Rattle.std.specs.Prelude.{if◌then◌else◌}
+use Rattle.std.proofs.Common.{◌≡◌, refl, ap, ap₂, sym, ◌∙◌, ℕ, zero, suc, ◌+◌, ◌-◌, ◌*◌, ◌<◌, ◌≤◌, min, true, not, nat_lt, inl, inr, List, length, drop, slice_index, Some, arith}
+use Rattle.std.specs.Prelude.{if◌then◌else◌, option_and_then, option_map}
 use Rattle.std.proofs.lemmas.Bool.{and_parts, lt-ltb, ltb-true}
-use Rattle.ghost_model.specs.core.Schema.{is_empty}
 use Rattle.ghost_model.specs.core.Values.{Database}
 use Rattle.ghost_model.specs.core.Channel.{Catalog}
-use Rattle.ghost_model.specs.core.Split.{Hidden, hidden_of}
+use Rattle.ghost_model.specs.core.Split.{hidden_of}
 use Rattle.ghost_model.specs.laws.SchemaTrees.{IsTree}
-use Rattle.ghost_model.specs.laws.LayoutLaws.{AreFew, LieAsSummed, LieInOrder, LevelsAreAncestors, FilesLieAsSummed, FilesLieInOrder, LayoutIsSmall, RecordsStandWithin}
-use Rattle.ghost_model.specs.laws.ListLaws.{ListsPartition, IdListsPartition}
+use Rattle.ghost_model.specs.laws.LayoutLaws.{FilesLieAsSummed, FilesLieInOrder, LayoutIsSmall, RecordsStandWithin}
 use Rattle.ghost_model.specs.laws.FlashLaws.{HoldingsAreKept}
-use Rattle.ghost_model.specs.laws.RunLaws.{NumbersAreRead}
-use Rattle.ghost_model.specs.forms.Runs.{Run, number_in, record_at, found_in}
+use Rattle.ghost_model.specs.forms.Runs.{number_in, record_at, found_in}
 use Rattle.ghost_model.specs.forms.Layout.{is_hidden, width_at, count_of, levels_of, above_of, descendants_of, files_end, static_end, File, Cells, Subtrees, IndexHeader, IndexDirectory, IndexLevel, IdDirectory, IdLevel, run_of_file}
-use Rattle.ghost_model.specs.forms.Slots.{AreInOneList, IsBound, IsDamagedIn, before_slot, has_file, in_slot, list_end, may_follow, may_stand, slots_in}
-use Rattle.ghost_model.specs.laws.ShortWords.{first_listed}
+use Rattle.ghost_model.specs.forms.Gaps as gaps
+use Rattle.ghost_model.specs.forms.Gaps.{code_in, reading_at, reading_of, rest_at}
+use Rattle.ghost_model.specs.forms.Slots.{IsBrokenCode, IsDamagedIn, IsWrong, IsWrongRecord, before_slot, code_stands, has_file, in_slot, may_follow, may_stand, slots_in}
 use Rattle.climbing_index.specs.declared.index.ClimbingIndex.{ClimbingIndex}
 use Rattle.climbing_index.specs.Indexes.{IsIndexOf}
 use Rattle.climbing_index.specs.Searches.{header_count}
-use Rattle.climbing_index.specs.Holding.{HasRecord, HasRecordBut, HoldsIndexBut, IsIndexBy, IsIdIndexBy}
-use Rattle.climbing_index.specs.Laws.{IsOf}
-use Rattle.climbing_index.proofs.WholeIndexes.{value_rows, id_rows}
+use Rattle.climbing_index.specs.Holding.{HoldsIndexBut}
+use Rattle.climbing_index.specs.Laws.{HaveSameSlots, HeldIndexesStay, IsOf, ReadingsStay}
+use Rattle.flash_pages.proofs.ListFrames.{codes_by_width, reading_of_codes}
 use Rattle.subtree_keys.specs.Laws.{rows_spelled}
 use Rattle.candidate_lists.specs.Held.{over}
 use Rattle.candidate_gathering.specs.known.Reading.{IsReadByForms}
@@ -28,60 +26,9 @@ use Rattle.candidate_gathering.specs.known.Known.{KeepsStatic, KnowsIndexes, IsB
 use Rattle.candidate_gathering.specs.known.Laws.{KnowledgeStays}
 use Rattle.candidate_gathering.proofs.known_lemmas.FilePages.{above_some, slot_kept, slots_room}
 
--- in static pages that stay, each slot of a file has what it had
-abbrev AreKept : (page now : ℕ → List ℕ) → Catalog → Type 0
-AreKept page now cat =
-    (file : File) → has_file cat.schema file ≡ true → (place : ℕ) → place < (run_of_file cat file).count → in_slot now cat file place ≡ in_slot page cat file place
-
-whole_kept : (page now : ℕ → List ℕ) (cat : Catalog) (file : File) (place : ℕ) (bytes : List ℕ) → in_slot now cat file place ≡ in_slot page cat file place
-    → HasRecord page cat file place bytes → HasRecord now cat file place bytes
-whole_kept page now cat file place bytes same has = record { is = same ∙ has.is; stands = ap (may_stand cat file) same ∙ has.stands }
-
-but_kept : (page now : ℕ → List ℕ) (cat : Catalog) (file : File) (place : ℕ) (bytes : List ℕ) → in_slot now cat file place ≡ in_slot page cat file place
-    → HasRecordBut page cat file place bytes → HasRecordBut now cat file place bytes
-but_kept page now cat file place bytes same has =
-    elim has [
-      | inl is ↦ inl (same ∙ is)
-      | inr wrong ↦ inr (ap (may_stand cat file) same ∙ wrong)
-    ]
-
--- ---- indexes
-
-module _ (cat : Catalog) (database : Database) (of : IsOf cat database) (levels : LevelsAreAncestors) (laid : LieAsSummed cat) (order : LieInOrder cat) (few : AreFew cat)
-    (read : NumbersAreRead) (before after : File → (place : ℕ) → List ℕ → Type 0)
-    (kept : (file : File) → has_file cat.schema file ≡ true → (place : ℕ) → place < (run_of_file cat file).count → (bytes : List ℕ) → before file place bytes → after file place bytes) where
-  abbrev hidden : Hidden
-  hidden = hidden_of cat.schema database
-
-  index_kept : ListsPartition → (table column : ℕ) → is_hidden cat.schema table column ≡ true → (values : List (List ℕ))
-      → IsIndexBy before cat (hidden_of cat.schema database) table column values → IsIndexBy after cat (hidden_of cat.schema database) table column values
-  index_kept partition table column h values is = record {
-    are_values = is.are_values;
-    few = is.few;
-    header = kept (IndexHeader table column) h 0 (omega arith) _ is.header;
-    entries = λ entry low. kept (IndexDirectory table column) h entry (omega (arith, low, is.few)) _ (is.entries entry low);
-    lists = λ level low place within.
-        let rows = value_rows cat database of levels few read partition table column level h (order.there_are table column h).0 low values is.are_values in
-        let count = ap (λ (r : Run). r.count) (laid.index_level table column level h low) in
-        let size = rows.size in
-        kept (IndexLevel table column level) (ap (λ t. t && nat_lt level (length (levels_of cat.schema table))) h ∙ lt-ltb level (length (levels_of cat.schema table)) low)
-        place (omega (arith, within, size, count)) _ (is.lists level low place within);
-  }
-
-  id_index_kept : IdListsPartition → (table : ℕ) → table < length cat.schema → is_empty (above_of cat.schema table) ≡ false
-      → IsIdIndexBy before cat (hidden_of cat.schema database) table → IsIdIndexBy after cat (hidden_of cat.schema database) table
-  id_index_kept partition table there above is = record {
-    entries = λ entry low. kept (IdDirectory table) (ap not above) entry low _ (is.entries entry low);
-    lists = λ level low place within.
-        let rows = id_rows cat database of levels few read partition table level there low in
-        let count = ap (λ (r : Run). r.count) (laid.id_level table level there low) in
-        let size = rows.size in
-        kept (IdLevel table level) (lt-ltb level (length (above_of cat.schema table)) low) place (omega (arith, within, size, count)) _ (is.lists level low place within);
-  }
-
 -- ---- damaged slots
 
-module _ (cat : Catalog) (page now : ℕ → List ℕ) (kept : AreKept page now cat) (room : (file : File) → has_file cat.schema file ≡ true → (pages : ℕ → List ℕ) → slots_in pages cat file ≤ (run_of_file cat file).count) where
+module _ (cat : Catalog) (page now : ℕ → List ℕ) (kept : HaveSameSlots page now cat) (room : (file : File) → has_file cat.schema file ≡ true → (pages : ℕ → List ℕ) → slots_in pages cat file ≤ (run_of_file cat file).count) where
   slots_same : (file : File) → has_file cat.schema file ≡ true → slots_in now cat file ≡ slots_in page cat file
   slots_same (Cells table column) has = refl
   slots_same (Subtrees table) has = refl
@@ -91,37 +38,65 @@ module _ (cat : Catalog) (page now : ℕ → List ℕ) (kept : AreKept page now 
   slots_same (IdDirectory table) has = refl
   slots_same (IdLevel table level) has = refl
 
-  list_kept : (directory : File) → has_file cat.schema directory ≡ true → (skipped place : ℕ) → AreInOneList page cat directory skipped place → AreInOneList now cat directory skipped place
-  list_kept directory has skipped place list =
-      let size = slots_same directory has in
-      let same = kept directory has list.entry (omega (arith, list.there, room directory has page)) in
-      let first = ap (λ bytes. first_listed (drop skipped bytes)) same in
-      let end = ap (λ bytes. list_end (drop skipped bytes)) same in
-      record {
-        entry = list.entry;
-        there = omega (arith, list.there, size);
-        after_first = omega (arith, list.after_first, first);
-        before_end = omega (arith, list.before_end, end);
-      }
-
-  bound_kept : (file : File) → has_file cat.schema file ≡ true → (place : ℕ) → IsBound page cat file place → IsBound now cat file place
-  bound_kept (Cells table column) has place bound = tt
-  bound_kept (Subtrees table) has place bound = tt
-  bound_kept (IndexHeader table column) has place bound = tt
-  bound_kept (IndexDirectory table column) has place bound = tt
-  bound_kept (IndexLevel table column level) has place bound =
-      list_kept (IndexDirectory table column) (and_parts (is_hidden cat.schema table column) (nat_lt level (length (levels_of cat.schema table))) has).0
-      (width_at cat.schema table column + 8 * level) place bound
-  bound_kept (IdDirectory table) has place bound = tt
-  bound_kept (IdLevel table level) has place bound =
-      list_kept (IdDirectory table) (ap not (above_some (above_of cat.schema table) level (ltb-true level (length (above_of cat.schema table)) has))) (8 * level) place bound
-
   before_same : (file : File) → has_file cat.schema file ≡ true → (place : ℕ) → place < (run_of_file cat file).count → before_slot now cat file place ≡ before_slot page cat file place
   before_same file has zero low = refl
   before_same file has (suc place) low = ap Some (kept file has place (omega (arith, low)))
 
-  damage_kept : (file : File) (place number slot found : ℕ) → IsDamagedIn cat page file place number slot found → IsDamagedIn cat now file place number slot found
-  damage_kept file place number slot found at =
+  record_wrong : (file : File) → has_file cat.schema file ≡ true → (place : ℕ) → place < (run_of_file cat file).count → IsWrongRecord page cat file place → IsWrongRecord now cat file place
+  record_wrong file has place low wrong =
+      let same = kept file has place low in
+      elim wrong [
+        | inl bad ↦ inl (ap (may_stand cat file) same ∙ bad)
+        | inr out ↦ inr (ap₂ (may_follow cat file) (before_same file has place low) same ∙ out)
+      ]
+
+  -- reading the list of an entry gets to the same broken code
+  code_broken : (file directory : File) → has_file cat.schema directory ≡ true → (run_of_file cat file).width ≡ 1
+      → ((begin i : ℕ) → reading_of now (run_of_file cat file) begin i ≡ reading_of page (run_of_file cat file) begin i)
+      → (skipped rows place : ℕ) → rest_at now (run_of_file cat file).first place ≡ rest_at page (run_of_file cat file).first place
+      → IsBrokenCode page cat file directory skipped rows place → IsBrokenCode now cat file directory skipped rows place
+  code_broken file directory has width readings skipped rows place same code =
+      let run = run_of_file cat file in
+      let codes = codes_by_width run width in
+      let size = slots_same directory has in
+      let entry = kept directory has code.entry (let there = code.there in let most = room directory has page in omega (arith, there, most)) in
+      let begin = ap (λ bytes. number_in (drop skipped bytes) 0) entry in
+      let count = ap (λ bytes. number_in (drop skipped bytes) 4) entry in
+      let own = number_in (drop skipped (in_slot page cat directory code.entry)) 0 in
+      record {
+        entry = code.entry;
+        there = let there = code.there in omega (arith, there, size);
+        i = code.i;
+        within = let within = code.within in omega (arith, within, count);
+        last = code.last;
+        gets =
+            ap (λ b. reading_at now run.first run.count b code.i) begin
+            ∙ (sym (reading_of_codes now run own code.i codes) ∙ (readings own code.i ∙ (reading_of_codes page run own code.i codes ∙ code.gets)));
+        broken =
+            ap (λ bytes. code_stands rows (option_map (λ read. (code.last + read.0, read.1)) (option_and_then (gaps.within run.count place) (code_in bytes)))) same
+            ∙ code.broken;
+      }
+
+  wrong_kept : ReadingsStay → (file : File) → has_file cat.schema file ≡ true → (place : ℕ) → place < (run_of_file cat file).count → IsWrong page cat file place → IsWrong now cat file place
+  wrong_kept stay (Cells table column) has place low wrong = record_wrong (Cells table column) has place low wrong
+  wrong_kept stay (Subtrees table) has place low wrong = record_wrong (Subtrees table) has place low wrong
+  wrong_kept stay (IndexHeader table column) has place low wrong = record_wrong (IndexHeader table column) has place low wrong
+  wrong_kept stay (IndexDirectory table column) has place low wrong = record_wrong (IndexDirectory table column) has place low wrong
+  wrong_kept stay (IndexLevel table column level) has place low code =
+      let both = and_parts (is_hidden cat.schema table column) (nat_lt level (length (levels_of cat.schema table))) has in
+      code_broken (IndexLevel table column level) (IndexDirectory table column) both.0 refl
+      (stay.values page now cat kept table column level both.0 (ltb-true level (length (levels_of cat.schema table)) both.1))
+      (width_at cat.schema table column + 8 * level) (count_of cat (slice_index (levels_of cat.schema table) level)) place
+      (kept (IndexLevel table column level) has place low) code
+  wrong_kept stay (IdDirectory table) has place low wrong = record_wrong (IdDirectory table) has place low wrong
+  wrong_kept stay (IdLevel table level) has place low code =
+      let under = ltb-true level (length (above_of cat.schema table)) has in
+      code_broken (IdLevel table level) (IdDirectory table) (ap not (above_some (above_of cat.schema table) level under)) refl
+      (stay.identifiers page now cat kept table level under) (8 * level) (count_of cat (slice_index (above_of cat.schema table) level)) place
+      (kept (IdLevel table level) has place low) code
+
+  damage_kept : ReadingsStay → (file : File) (place number slot found : ℕ) → IsDamagedIn cat page file place number slot found → IsDamagedIn cat now file place number slot found
+  damage_kept stay file place number slot found at =
       let inside : place < (run_of_file cat file).count = omega (arith, at.within, room file at.has page) in
       let same = kept file at.has place inside in
       let size = slots_same file at.has in
@@ -130,29 +105,21 @@ module _ (cat : Catalog) (page now : ℕ → List ℕ) (kept : AreKept page now 
         within = omega (arith, at.within, size);
         page_is = at.page_is;
         slot_is = at.slot_is;
-        damaged = elim at.damaged [
-          | inl wrong ↦ inl (ap (may_stand cat file) same ∙ wrong)
-          | inr out ↦ inr (record {
-            bound = bound_kept file at.has place out.bound;
-            broken = ap₂ (may_follow cat file) (before_same file at.has place inside) same ∙ out.broken;
-          })
-        ];
+        damaged = wrong_kept stay file at.has place inside at.damaged;
         found_is = at.found_is ∙ ap found_in (sym same);
       }
 
 -- ---- the laws
 
 module _ (summed : FilesLieAsSummed) (orders : FilesLieInOrder) (small : LayoutIsSmall) (stand : RecordsStandWithin)
-    (levels : LevelsAreAncestors) (read : NumbersAreRead) (partition : ListsPartition) (id_partition : IdListsPartition) (holdings : HoldingsAreKept) where
-  are_kept : (cat : Catalog) → IsTree cat.schema → (page now : ℕ → List ℕ) → KeepsStatic cat page now → AreKept page now cat
+    (stay : HeldIndexesStay) (readings : ReadingsStay) (holdings : HoldingsAreKept) where
+  are_kept : (cat : Catalog) → IsTree cat.schema → (page now : ℕ → List ℕ) → KeepsStatic cat page now → HaveSameSlots page now cat
   are_kept cat tree page now keeps = slot_kept cat tree (small.narrow cat tree) (summed cat) (orders cat) stand page now keeps
 
   pages : (page now right : ℕ → List ℕ) (cat : Catalog) (database : Database) → KeepsStatic cat page now → KnowsIndexes page right cat database → KnowsIndexes now right cat database
   pages page now right cat database keeps knows =
       let of = knows.is_of in
       let kept = are_kept cat of.limited.tree page now keeps in
-      let each : (file : File) → has_file cat.schema file ≡ true → (place : ℕ) → place < (run_of_file cat file).count → (bytes : List ℕ) → HasRecordBut page cat file place bytes → HasRecordBut now cat file place bytes =
-      λ file has place low bytes. but_kept page now cat file place bytes (kept file has place low) in
       record {
         is_of = of;
         indexes = λ table column h.
@@ -160,13 +127,13 @@ module _ (summed : FilesLieAsSummed) (orders : FilesLieInOrder) (small : LayoutI
             record {
               values = index.values;
               whole = index.whole;
-              but = index_kept cat database of levels (summed cat) (orders cat) (small.few cat of.limited) read (HasRecordBut page cat) (HasRecordBut now cat) each partition table column h index.values index.but;
+              but = stay.but page now cat database of kept table column h index.values index.but;
             };
         ids = λ table there above.
             let index = knows.ids table there above in
             record {
               whole = index.whole;
-              but = id_index_kept cat database of levels (summed cat) (orders cat) (small.few cat of.limited) read (HasRecordBut page cat) (HasRecordBut now cat) each id_partition table there above index.but;
+              but = stay.id_but page now cat database of kept table there above index.but;
             };
         subtrees = λ table there below identifier some within rows on.
             let same = kept (Subtrees table) (ap not below) (identifier - 1) (omega (arith, some, within)) in
@@ -177,21 +144,19 @@ module _ (summed : FilesLieAsSummed) (orders : FilesLieInOrder) (small : LayoutI
   right_pages page right other cat database keeps knows =
       let of = knows.is_of in
       let kept = are_kept cat of.limited.tree right other keeps in
-      let each : (file : File) → has_file cat.schema file ≡ true → (place : ℕ) → place < (run_of_file cat file).count → (bytes : List ℕ) → HasRecord right cat file place bytes → HasRecord other cat file place bytes =
-      λ file has place low bytes. whole_kept right other cat file place bytes (kept file has place low) in
       record {
         is_of = of;
         indexes = λ table column h.
             let index = knows.indexes table column h in
             record {
               values = index.values;
-              whole = index_kept cat database of levels (summed cat) (orders cat) (small.few cat of.limited) read (HasRecord right cat) (HasRecord other cat) each partition table column h index.values index.whole;
+              whole = stay.whole right other cat database of kept table column h index.values index.whole;
               but = index.but;
             };
         ids = λ table there above.
             let index = knows.ids table there above in
             record {
-              whole = id_index_kept cat database of levels (summed cat) (orders cat) (small.few cat of.limited) read (HasRecord right cat) (HasRecord other cat) each id_partition table there above index.whole;
+              whole = stay.id_whole right other cat database of kept table there above index.whole;
               but = index.but;
             };
         subtrees = knows.subtrees;
@@ -201,9 +166,7 @@ module _ (summed : FilesLieAsSummed) (orders : FilesLieInOrder) (small : LayoutI
       → (table column : ℕ) → is_hidden cat.schema table column ≡ true → (values : List (List ℕ))
       → HoldsIndexBut page cat (hidden_of cat.schema database) table column values → HoldsIndexBut now cat (hidden_of cat.schema database) table column values
   one_index page now cat database of keeps table column h values but =
-      let kept = are_kept cat of.limited.tree page now keeps in
-      index_kept cat database of levels (summed cat) (orders cat) (small.few cat of.limited) read (HasRecordBut page cat) (HasRecordBut now cat)
-      (λ file has place low bytes. but_kept page now cat file place bytes (kept file has place low)) partition table column h values but
+      stay.but page now cat database of (are_kept cat of.limited.tree page now keeps) table column h values but
 
   header_same : (page now : ℕ → List ℕ) (cat : Catalog) → IsTree cat.schema → KeepsStatic cat page now
       → (table column : ℕ) → is_hidden cat.schema table column ≡ true → (index : ClimbingIndex) → IsIndexOf cat table column index → header_count now index ≡ header_count page index
@@ -225,7 +188,7 @@ module _ (summed : FilesLieAsSummed) (orders : FilesLieInOrder) (small : LayoutI
         place = bad.place;
         read_for = bad.read_for;
         damaged =
-            damage_kept cat page now (are_kept cat tree page now keeps) (slots_room cat tree (small.narrow cat tree) (summed cat) (orders cat)) bad.file bad.place number slot found bad.damaged;
+            damage_kept cat page now (are_kept cat tree page now keeps) (slots_room cat tree (small.narrow cat tree) (summed cat) (orders cat)) readings bad.file bad.place number slot found bad.damaged;
         never = λ holds. bad.never (holdings.files now page cat (hidden_of cat.schema database) tree (λ at low high. sym (keeps at (omega (arith, high, rounded)))) holds);
       }
 

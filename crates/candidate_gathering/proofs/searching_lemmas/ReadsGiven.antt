@@ -1,9 +1,10 @@
 -- What was read: buffers that others leave alone keep what reads gave, and a slot that a search blames is one that may be blamed.
-use Rattle.std.proofs.Common.{◌≡◌, ℕ, inl, inr, Bool, List, sym, subst, arith}
+use Rattle.std.proofs.Common.{◌≡◌, ℕ, ◌≤◌, inl, inr, Bool, List, sym, subst, arith}
 use Rattle.ghost_base.specs.Runs.{run_of}
 use Rattle.edge_traits.specs.Devices.{Device}
 use Rattle.page_pool.specs.Laws.{SameBuffer}
 use Rattle.page_pool.specs.Pools.{Pool, IsFree, leased}
+use Rattle.flash_pages.proofs.ListFrames.{records_by_width, was_listed}
 use Rattle.flash_pages.specs.declared.fault.PageFault.{PageFault}
 use Rattle.flash_pages.specs.declared.fault.PageFault.TheVariants.{Flash, Damaged}
 use Rattle.id_merge.specs.declared.cursor.Cursor.{Cursor}
@@ -56,10 +57,10 @@ lists_leased {told = told} {device = device} {pool = pool} {later = later} since
 -- ---- blamed by a search
 
 pub search_blames :
-    (since : Since) (device : Device) (index : ClimbingIndex) → IsReadable device index → SearchMay since index → (fault : PageFault)
+    (since : Since) (device : Device) (index : ClimbingIndex) → IsReadable device index → 4 ≤ index.directory.run.width → SearchMay since index → (fault : PageFault)
     → BlamesIn since.calls device index fault → FaultIsBlamed since device fault
-search_blames since device index readable may Flash blames = tt
-search_blames since device index readable may (Damaged number slot found) (inl blames) = record {
+search_blames since device index readable wide may Flash blames = tt
+search_blames since device index readable wide may (Damaged number slot found) (inl blames) = record {
   run = run_of index.header;
   may = may.header;
   place = 0;
@@ -67,10 +68,10 @@ search_blames since device index readable may (Damaged number slot found) (inl b
   page_is = blames.page_is;
   slot_is = blames.slot_is;
   bytes = blames.bytes;
-  read = blames.read;
+  read = was_listed (records_by_width (run_of index.header) (let header = readable.wide in omega (arith, header))) blames.read;
   found_is = blames.found_is;
 }
-search_blames since device index readable may (Damaged number slot found) (inr entry) =
+search_blames since device index readable wide may (Damaged number slot found) (inr entry) =
     let blames = entry.blames in
     record {
       run = run_of index.directory.run;
@@ -80,6 +81,6 @@ search_blames since device index readable may (Damaged number slot found) (inr e
       page_is = blames.page_is;
       slot_is = blames.slot_is;
       bytes = blames.bytes;
-      read = blames.read;
+      read = was_listed (records_by_width (run_of index.directory.run) wide) blames.read;
       found_is = blames.found_is;
     }

@@ -1,8 +1,9 @@
 -- The rows of a reply are one list.
-use Rattle.std.proofs.Common.{◌≡◌, ◌∙◌, ap, sym, ℕ, ◌+◌, ◌<◌, List, [], length, map, Contains, arith}
+use Rattle.std.proofs.Common.{◌≡◌, ◌∙◌, ap, sym, ℕ, ◌+◌, ◌<◌, ◌≤◌, List, [], length, map, Contains, arith}
 use Rattle.std.specs.Prelude.{◌↔◌}
 use Rattle.ghost_model.specs.forms.Runs.{id_at, number_in}
 use Rattle.ghost_base.specs.Runs.{run_of}
+use Rattle.flash_pages.proofs.ListFrames.{listed_by_width}
 use Rattle.visible_spool.specs.declared.reply.Reply.{Reply}
 use Rattle.visible_spool.specs.Replies.{HoldsRows, id_of, id_of_bytes}
 use Rattle.spill_pass.specs.Lists as lists
@@ -10,10 +11,12 @@ use Rattle.spill_pass.specs.Lists.{InList, IsOrdered}
 use Rattle.candidate_gathering.specs.searching.Begun.{rows_list}
 use Rattle.candidate_gathering.proofs.searching_lemmas.Places.{many, mapped_get}
 
-module _ (reply : Reply) (held : List (List ℕ)) where
+module _ (reply : Reply) (wide : 4 ≤ reply.run.width) (held : List (List ℕ)) where
   -- the identifier of each row
   id_is : (page : ℕ → List ℕ) → HoldsRows page reply held → (i : ℕ) → i < reply.run.count → lists.id_of page (rows_list reply) i ≡ id_of held i
-  id_is page holds i within = ap (λ n. id_at page (run_of reply.run) n) (plain i) ∙ ap (λ bytes. number_in bytes 0) (holds.has.each i within)
+  id_is page holds i within =
+      listed_by_width page (run_of reply.run) 0 i wide
+      ∙ (ap (λ n. id_at page (run_of reply.run) n) (plain i) ∙ ap (λ bytes. number_in bytes 0) (holds.has.each i within))
     where
       plain : (n : ℕ) → 0 + n ≡ n
       plain n = omega arith

@@ -2,10 +2,11 @@
 use Rattle.std.proofs.Common.{◌≡◌, ◌∙◌, ap, sym, subst, ℕ, ◌+◌, ◌<◌, ◌≤◌, Bool, true, false, nat_lt, if◌then◌else◌, refl, List, [], ◌∷◌, drop, arith}
 use Rattle.std.proofs.lemmas.Bool.{lt-ltb, ltb-false, ltb-true}
 use Rattle.std.proofs.lemmas.Bool.Decides.{nat_tests}
-use Rattle.ghost_model.specs.forms.Runs.{number_in, page_of}
+use Rattle.ghost_model.specs.forms.Runs.{page_of}
 use Rattle.ghost_base.specs.declared.runs.Run.{Run}
 use Rattle.ghost_base.specs.declared.runs.ListRef.{ListRef}
 use Rattle.ghost_base.specs.Runs.{run_of}
+use Rattle.flash_pages.proofs.ListFrames.{KeepsRun, listed_kept}
 use Rattle.flash_pages.proofs.RunFrames.{record_kept}
 use Rattle.climbing_index.specs.declared.directory.Directory.{Directory}
 use Rattle.climbing_index.specs.Directories.{GivesPlace, entry_bytes}
@@ -26,10 +27,8 @@ module _ (page right now : ℕ → List ℕ) (rows : ℕ) (directory : Directory
   id_same : (list : ListRef) → list.run ≡ level_run directory level → list.first + list.count ≤ list.run.count → (i : ℕ) → i < list.count
       → id_of now list i ≡ id_of right list i
   id_same list run_is inside i within =
-      let count = ap (λ (r : Run). r.count) run_is in
-      let U : Run → Type 0 = λ r. now (page_of (run_of r) (list.first + i)) ≡ right (page_of (run_of r) (list.first + i)) in
-      let kept = subst U (sym run_is) (same_lists (list.first + i) (omega (arith, count, inside, within))) in
-      ap (λ r. number_in r 0) (record_kept right now (run_of list.run) (list.first + i) kept)
+      let K : Run → Type 0 = λ r. KeepsRun right now (run_of r) in
+      listed_kept right now (run_of list.run) list.first i (omega (arith, inside, within)) (subst K (sym run_is) same_lists)
 
   ordered_by : (list : ListRef) → list.run ≡ level_run directory level → list.first + list.count ≤ list.run.count → IsOrdered page right rows list
       → IsOrdered page now rows list

@@ -6,36 +6,36 @@ use Rattle.ghost_model.specs.core.Channel.{Catalog}
 use Rattle.ghost_model.specs.core.Query.{Query}
 use Rattle.ghost_model.specs.forms.Layout.{need, spool_end, File, run_of_file}
 use Rattle.ghost_model.specs.forms.Runs.{Run, found_in, page_of, slot_of}
-use Rattle.ghost_model.specs.forms.Slots.{has_file}
-use Rattle.edge_traits.specs.Devices.{Device}
-use Rattle.flash_pages.specs.Reads.{WasRead}
+use Rattle.ghost_model.specs.forms.Slots.{has_file, in_slot}
+use Rattle.edge_traits.specs.Devices.{Device, GaveSince}
+use Rattle.flash_pages.specs.Reads.{bytes_in}
 use Rattle.leakless_plan.specs.declared.form.Form.{Form}
 use Rattle.visible_spool.specs.Areas.{half_begin, half_end}
 use Rattle.candidate_gathering.specs.known.Reading.{IsReadByForms}
 
--- what was found stood in a slot of a run, as a read from that count of calls on gave it
-pub record WasFoundAt (since : ℕ) (device : Device) (run : Run) (number slot found : ℕ) : Type 0 where
+-- what was found stood in a slot of a run, which has some of the bytes of its page, as a read from that count of calls on gave these
+pub record WasFoundAt (since : ℕ) (device : Device) (run : Run) (slot_bytes : (bytes : List ℕ) → (place : ℕ) → List ℕ) (number slot found : ℕ) : Type 0 where
   pub place : ℕ
   pub within : place < run.count
   pub page_is : number ≡ page_of run place
   pub slot_is : slot ≡ slot_of run place
   pub bytes : List ℕ
-  pub read : WasRead since device run place bytes
-  pub found_is : found ≡ found_in bytes
+  pub gave : GaveSince since device bytes (page_of run place)
+  pub found_is : found ≡ found_in (slot_bytes bytes place)
 
 -- in a slot of a file that is read
 pub record WasFoundInFile (since : ℕ) (device : Device) (cat : Catalog) (read : File → Type 0) (number slot found : ℕ) : Type 0 where
   pub file : File
   pub has : has_file cat.schema file ≡ true
   pub read_for : read file
-  pub at : WasFoundAt since device (run_of_file cat file) number slot found
+  pub at : WasFoundAt since device (run_of_file cat file) (λ bytes. in_slot (λ _. bytes) cat file) number slot found
 
--- in a slot of a page from one on and below another
+-- in a slot of a list's run, in a page from one on and below another
 pub record WasFoundBetween (since : ℕ) (device : Device) (low high number slot found : ℕ) : Type 0 where
   pub from : low ≤ number
   pub to : number < high
   pub run : Run
-  pub at : WasFoundAt since device run number slot found
+  pub at : WasFoundAt since device run (λ bytes. bytes_in bytes run) number slot found
 
 -- a slot that is blamed: of such a file, or, where pages are not told, of the half of the spool in which the replies lie, or of scratch
 pub data WasFoundIn (told : Bool) (since : ℕ) (device : Device) (cat : Catalog) (read : File → Type 0) (side number slot found : ℕ) : Type 0 where

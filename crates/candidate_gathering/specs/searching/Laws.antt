@@ -73,15 +73,15 @@ pub record ListsHaveTheirRows : Type 0 where
       → (held : List (List ℕ)) → HoldsRows page lists.reply held → map id_of_bytes held ≡ replied_ids reply
       → HaveRows page right cat database given top (of_term.Reply table index level) (Replies lists)
 
--- The rows of a reply of the top table, which the pages have and which are right, are one list: its identifiers ascend and are of
--- the rows, and they are those of exactly the rows that meet the term.
+-- The rows of a reply of the top table, which the pages have and which are right, are one list, since each is wider than a code: its
+-- identifiers ascend and are of the rows, and they are those of exactly the rows that meet the term.
 pub record RepliesAreLists : Type 0 where
   pub ordered :
-      (page right : ℕ → List ℕ) (reply : Reply) (held : List (List ℕ)) → HoldsRows page reply held → HoldsRows right reply held
+      (page right : ℕ → List ℕ) (reply : Reply) → 4 ≤ reply.run.width → (held : List (List ℕ)) → HoldsRows page reply held → HoldsRows right reply held
       → IsOrdered page right reply.rows (rows_list reply)
   pub rows :
       (right : ℕ → List ℕ) (cat : Catalog) (database : Database) (given : List replies.Reply) (top : ℕ) (one : Reply) (reply : replies.Reply)
-      → AreReplied cat given top reply → (held : List (List ℕ)) → HoldsRows right one held → map id_of_bytes held ≡ replied_ids reply
+      → AreReplied cat given top reply → 4 ≤ one.run.width → (held : List (List ℕ)) → HoldsRows right one held → map id_of_bytes held ≡ replied_ids reply
       → (identifier : ℕ) → InList right (rows_list one) identifier ↔ IsMet cat database given top of_term.TopReply identifier
 
 pub record DamageOfListsIsOfSlots : Type 0 where

@@ -19,15 +19,13 @@ pub fn held_files_have_no_damage()
     held_files_are_known();
     hidden_columns::laws::columns_give_values();
     subtree_keys::laws::tables_give_rows();
-    ghost_base::laws::cell_order_is_value_order();
+    climbing_index::laws::whole_indexes_have_no_damage();
     ghost_model::layout::layout_is_small();
-    ghost_model::layout::files_lie_in_order();
-    ghost_model::layout::levels_are_ancestors();
     ghost_model::flash::hidden_cells_fit();
     ghost_model::flash::hidden_parts_go_with_catalogs();
     ghost_model::flash::records_are_as_wide();
-    ghost_model::flash::lists_partition();
-    ghost_model::flash::id_lists_partition();
+    ghost_model::flash::lists_ascend();
+    ghost_model::gaps::level_files_fit();
     ghost_model::runs::numbers_are_read();
 }
 
@@ -39,11 +37,8 @@ pub fn knowledge_stays()
     ghost_model::layout::files_lie_in_order();
     ghost_model::layout::layout_is_small();
     ghost_model::layout::records_stand_within();
-    ghost_model::layout::levels_are_ancestors();
     ghost_model::flash::holdings_are_kept();
-    ghost_model::flash::lists_partition();
-    ghost_model::flash::id_lists_partition();
-    ghost_model::runs::numbers_are_read();
+    climbing_index::laws::held_indexes_stay();
 }
 
 /// What searches, lists and reads of rows can blame is bad: a slot of a file that is read for the query, and pages that hold all files
@@ -53,6 +48,7 @@ pub fn damage_is_bad()
 {
     held_files_have_no_damage();
     ghost_model::layout::files_lie_as_summed();
+    climbing_index::laws::broken_codes_are_damaged();
     hidden_columns::laws::files_are_of_columns();
     subtree_keys::laws::tables_are_of_slots();
 }

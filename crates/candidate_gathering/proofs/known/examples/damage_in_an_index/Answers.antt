@@ -21,7 +21,7 @@ returns c = record {
       within = omega arith;
       page_is = refl;
       slot_is = refl;
-      damaged = inr (record { bound = tt; broken = refl });
+      damaged = inr refl;
       found_is = refl;
     };
     never = λ h. let clash : 70 ≡ 0 = ap (λ bytes. slice_index bytes 0) ((h.subtrees 2 (omega arith) refl).has.each 0 (omega arith)) in absurd (omega (arith, clash));
