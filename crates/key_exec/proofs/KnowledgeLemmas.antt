@@ -1,5 +1,5 @@
 -- What is known of the pages, and what of it stays.
-use Rattle.std.proofs.Common.{◌≡◌, ◌∙◌, inl, inr, ◌⊎◌, ◌≤◌, ◌<◌, ◌+◌, ◌-◌, ℕ, Bool, true, false, not, List, [], ◌∷◌, length, if◌then◌else◌, ap, sym, refl, arith, is_some}
+use Rattle.std.proofs.Common.{◌≡◌, ◌∙◌, inl, inr, ◌≤◌, ◌<◌, ◌+◌, ◌-◌, ℕ, Bool, true, false, not, List, [], ◌∷◌, length, if◌then◌else◌, ap, sym, refl, arith, is_some}
 use Rattle.ghost_model.specs.core.Schema.{is_empty}
 use Rattle.ghost_model.specs.core.Values.{Database}
 use Rattle.ghost_model.specs.core.Channel.{Catalog}
@@ -9,7 +9,7 @@ use Rattle.ghost_model.specs.core.Asks.{kind_at}
 use Rattle.ghost_model.specs.forms.Runs.{Run, Stores, page_of, record_at, run_end, run_pages, found_in}
 use Rattle.ghost_model.specs.forms.Layout.{is_hidden, count_of, width_at, descendants_of, static_end, files_end, Cells}
 use Rattle.ghost_model.specs.laws.ShortWords.{column_file, subtree_table}
-use Rattle.ghost_model.specs.forms.Slots.{child_rows, spelled, may_stand, IsOutOfOrder, in_slot}
+use Rattle.ghost_model.specs.forms.Slots.{child_rows, spelled, may_stand, IsWrong, in_slot}
 use Rattle.ghost_model.specs.laws.SchemaTrees.{IsTree}
 use Rattle.ghost_model.specs.laws.LayoutLaws.{LayoutIsSmall, FilesLieInOrder, RecordsStandWithin, FilesLieAsSummed, IsLimited}
 use Rattle.ghost_model.specs.laws.LayoutSums as sums
@@ -49,16 +49,13 @@ not_both b is isnt = true_false (sym is ∙ isnt)
     true_false : true ≡ false → ⊥
     true_false e = cc
 
--- and no slot is damaged
-no_broken : (page : ℕ → List ℕ) (cat : Catalog) (table column place : ℕ) → IsOutOfOrder page cat (Cells table column) place → ⊥
-no_broken page cat table column place out = not_both true refl out.broken
-
+-- and no slot is damaged; cells of a column keep no order
 no_damaged :
     (page : ℕ → List ℕ) (cat : Catalog) (table column place : ℕ)
     → may_stand cat (Cells table column) (in_slot page cat (Cells table column) place) ≡ true
-    → (may_stand cat (Cells table column) (in_slot page cat (Cells table column) place) ≡ false) ⊎ IsOutOfOrder page cat (Cells table column) place → ⊥
+    → IsWrong page cat (Cells table column) place → ⊥
 no_damaged page cat table column place may (inl not) = not_both (may_stand cat (Cells table column) (in_slot page cat (Cells table column) place)) may not
-no_damaged page cat table column place may (inr out) = no_broken page cat table column place out
+no_damaged page cat table column place may (inr out) = not_both true refl out
 
 no_scan_damage :
     ColumnsGiveValues → (told : Bool) (page : ℕ → List ℕ) (cat : Catalog) (asked : Query) (top side : ℕ) (half : Half) (database : Database) (number slot found : ℕ) → IsTree cat.schema
@@ -150,10 +147,9 @@ columns_kept small order stand told page now cat database tree keeps knows = rec
 damaged_kept :
     (page now : ℕ → List ℕ) (cat : Catalog) (table column place : ℕ)
     → in_slot now cat (Cells table column) place ≡ in_slot page cat (Cells table column) place
-    → (may_stand cat (Cells table column) (in_slot page cat (Cells table column) place) ≡ false) ⊎ IsOutOfOrder page cat (Cells table column) place
-    → (may_stand cat (Cells table column) (in_slot now cat (Cells table column) place) ≡ false) ⊎ IsOutOfOrder now cat (Cells table column) place
+    → IsWrong page cat (Cells table column) place → IsWrong now cat (Cells table column) place
 damaged_kept page now cat table column place same (inl not) = inl (ap (may_stand cat (Cells table column)) same ∙ not)
-damaged_kept page now cat table column place same (inr out) = absurd (no_broken page cat table column place out)
+damaged_kept page now cat table column place same (inr out) = absurd (not_both true refl out)
 
 scan_damage_kept :
     LayoutIsSmall → FilesLieInOrder → RecordsStandWithin → (told : Bool) (page now : ℕ → List ℕ) (cat : Catalog) (asked : Query) (top side : ℕ) (half : Half) (number slot found : ℕ) → IsTree cat.schema

@@ -7,11 +7,12 @@ use Rattle.ghost_model.specs.core.Channel.{Catalog}
 use Rattle.ghost_model.specs.core.Query.{Query}
 use Rattle.ghost_model.specs.forms.Layout.{Cells, Subtrees}
 use Rattle.ghost_model.specs.laws.ShortWords.{column_file, subtree_table}
-use Rattle.ghost_model.specs.forms.Runs.{Run, found_in, page_of, slot_of}
+use Rattle.ghost_model.specs.forms.Runs.{Run, cell_in, found_in, page_of, record_at, slot_of}
 use Rattle.ghost_base.specs.Runs.{run_of}
 use Rattle.edge_traits.specs.Devices.{Device}
 use Rattle.flash_pages.specs.declared.fault.PageFault.{PageFault}
 use Rattle.flash_pages.specs.Reads.{WasRead}
+use Rattle.flash_pages.proofs.ListFrames.{records_by_width, was_listed}
 use Rattle.flash_pages.specs.declared.fault.PageFault.TheVariants.{Flash, Damaged}
 use Rattle.visible_spool.specs.declared.half.Half.{Half}
 use Rattle.visible_spool.specs.Halves.{reply_of}
@@ -28,18 +29,26 @@ use Rattle.key_exec.specs.Blaming.{BlamesRead}
 use Rattle.key_exec.proofs.BlameLemmas.{not_whole}
 use Rattle.key_exec.proofs.ChosenLemmas.{IsChosen}
 
+-- the record at a place, by the bytes of its page
+in_page : (bytes : List ℕ) (run : Run) (place : ℕ) → cell_in bytes run.width (slot_of run place) ≡ record_at (λ number. bytes) run place
+unfolding record_at
+in_page bytes run place = refl
+
 -- one of a run
 module _ (since : ℕ) (now : Device) (run run' : Run) (same : run ≡ run') (place number slot found : ℕ) (bytes : List ℕ) where
-  at_run : place < run'.count → number ≡ page_of run place → slot ≡ slot_of run place → WasRead since now run place bytes → found ≡ found_in bytes → WasFoundAt since now run' number slot found
-  at_run within page_is slot_is read found_is = record {
-    place = place;
-    within = within;
-    page_is = page_is ∙ ap (λ (r : Run). page_of r place) same;
-    slot_is = slot_is ∙ ap (λ (r : Run). slot_of r place) same;
-    bytes = bytes;
-    read = subst (λ (r : Run). WasRead since now r place bytes) same read;
-    found_is = found_is;
-  }
+  pub at_run : place < run'.count → number ≡ page_of run place → slot ≡ slot_of run place → WasRead since now run place bytes → found ≡ found_in bytes
+      → WasFoundAt since now run' (λ held i. record_at (λ at. held) run' i) number slot found
+  at_run within page_is slot_is read found_is =
+      let was : WasRead since now run' place bytes = subst (λ (r : Run). WasRead since now r place bytes) same read in
+      record {
+        place = place;
+        within = within;
+        page_is = page_is ∙ ap (λ (r : Run). page_of r place) same;
+        slot_is = slot_is ∙ ap (λ (r : Run). slot_of r place) same;
+        bytes = was.bytes;
+        gave = was.gave;
+        found_is = found_is ∙ ap found_in (was.record_is ∙ in_page was.bytes run' place);
+      }
 
 -- ---- the work on a candidate
 
@@ -71,18 +80,20 @@ module _ (told : Bool) (since : ℕ) (before now : Device) (forced : Option Form
       })
   need_was_read (OfRow look) (Damaged number slot found) needed chosen blames fails =
       let lies = is_half.lies look.table needed blames.place blames.within in
+      let run = run_of (reply_of half look.table).run in
+      let listed = was_listed (records_by_width run (is_half.readable look.table needed).sound.wide) blames.read in
       InReplies (untold told refl (not_whole told cat side before half look (Damaged number slot found) needed is_half fails)) (record {
         from = omega (arith, lies.0, blames.page_is);
         to = omega (arith, lies.1, blames.page_is);
-        run = run_of (reply_of half look.table).run;
+        run = run;
         at = record {
           place = blames.place;
           within = blames.within;
           page_is = blames.page_is;
           slot_is = blames.slot_is;
-          bytes = blames.bytes;
-          read = blames.read;
-          found_is = blames.found_is;
+          bytes = listed.bytes;
+          gave = listed.gave;
+          found_is = blames.found_is ∙ ap found_in listed.are;
         };
       })
   need_was_read (OfRecord file identifier) (Damaged number slot found) needed chosen blames fails =

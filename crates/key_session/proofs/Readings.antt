@@ -6,6 +6,7 @@ use Rattle.ghost_model.specs.core.Channel.{Catalog}
 use Rattle.ghost_model.specs.core.Lines.{Reason}
 use Rattle.ghost_model.specs.core.Query.{Query}
 use Rattle.ghost_model.specs.forms.Layout.{run_of_file}
+use Rattle.ghost_model.specs.forms.Slots.{in_slot}
 use Rattle.visible_spool.specs.declared.half.Half.{Half}
 use Rattle.edge_traits.specs.Devices.{Device, GaveSince}
 use Rattle.flash_pages.specs.Reads as reads
@@ -32,25 +33,26 @@ module _ (early since : ℕ) (before now : Device) (earlier : early ≤ since) (
   read_on : (run : runs.Run) (place : ℕ) (bytes : List ℕ) → reads.WasRead since before run place bytes → reads.WasRead early now run place bytes
   read_on run place bytes read = record { bytes = read.bytes; gave = gave_on read.bytes (runs.page_of run place) read.gave; record_is = read.record_is }
 
-  found_at : (run : runs.Run) (number slot found : ℕ) → WasFoundAt since before run number slot found → WasFoundAt early now run number slot found
-  found_at run number slot found at = record {
+  found_at : (run : runs.Run) (slot_bytes : List ℕ → ℕ → List ℕ) (number slot found : ℕ)
+      → WasFoundAt since before run slot_bytes number slot found → WasFoundAt early now run slot_bytes number slot found
+  found_at run slot_bytes number slot found at = record {
     place = at.place;
     within = at.within;
     page_is = at.page_is;
     slot_is = at.slot_is;
     bytes = at.bytes;
-    read = read_on run at.place at.bytes at.read;
+    gave = gave_on at.bytes (runs.page_of run at.place) at.gave;
     found_is = at.found_is;
   }
 
   found_on : (pages_told : Bool) (catalog : Catalog) (asked : Query) (forced : Option Form) (top side number slot found : ℕ)
       → WasFoundByForms pages_told since before catalog asked forced top side number slot found → WasFoundByForms pages_told early now catalog asked forced top side number slot found
   found_on pages_told catalog asked forced top side number slot found (InFile was) =
-      InFile (record { file = was.file; has = was.has; read_for = was.read_for; at = found_at (run_of_file catalog was.file) number slot found was.at })
+      InFile (record { file = was.file; has = was.has; read_for = was.read_for; at = found_at (run_of_file catalog was.file) (λ bytes. in_slot (λ _. bytes) catalog was.file) number slot found was.at })
   found_on pages_told catalog asked forced top side number slot found (InReplies untold was) =
-      InReplies untold (record { from = was.from; to = was.to; run = was.run; at = found_at was.run number slot found was.at })
+      InReplies untold (record { from = was.from; to = was.to; run = was.run; at = found_at was.run (λ bytes. reads.bytes_in bytes was.run) number slot found was.at })
   found_on pages_told catalog asked forced top side number slot found (InScratch untold was) =
-      InScratch untold (record { from = was.from; to = was.to; run = was.run; at = found_at was.run number slot found was.at })
+      InScratch untold (record { from = was.from; to = was.to; run = was.run; at = found_at was.run (λ bytes. reads.bytes_in bytes was.run) number slot found was.at })
 
   damage_on : (plan : Plan) (pages_told : Bool) (catalog : Catalog) (asked : Query) (top side : ℕ) (half : Half) (number slot found : ℕ)
       → WasDamaged plan pages_told since before catalog asked top side half number slot found → WasDamaged plan pages_told early now catalog asked top side half number slot found

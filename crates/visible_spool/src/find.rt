@@ -7,7 +7,7 @@ ghost use Rattle.page_pool.specs.Pools.{Pool, page_at};
 ghost use Rattle.flash_pages.specs.Reads.{ReadsPages, CanRead, WasGiven};
 ghost use Rattle.flash_pages.specs.Cursors.{IsReady, IsPageOf, ids_left};
 ghost use Rattle.visible_spool.specs.Searches.{GivesRow, IsCursorOf};
-ghost use Rattle.visible_spool.specs.Replies.{IsReadable, HoldsRows, WasFound, id_of_bytes};
+ghost use Rattle.visible_spool.specs.Replies.{IsReadable, IsSound, HoldsRows, WasFound, id_of_bytes};
 
 use crate::reply::Reply;
 use crate::row::SpoolRow;
@@ -54,7 +54,7 @@ impl Reply {
     /// The identifiers of the rows, in their order.
     pub fn ids(&self, lease: Lease) -> RunCursor
         ensures begins { IsCursorOf self.now lease result }
-        ensures ids { (page : ℕ → List ℕ) (rows : List (List ℕ)) → HoldsRows page self.now rows → ids_left page result ≡ map id_of_bytes rows }
+        ensures ids { IsSound self.now → (page : ℕ → List ℕ) (rows : List (List ℕ)) → HoldsRows page self.now rows → ids_left page result ≡ map id_of_bytes rows }
         ensures ready { (told : Bool) (device : Device) (pool : Pool) → IsReadable device self.now → CanRead told device pool lease → IfSome (page_at pool lease) (IsPageOf (run_of self.now.run)) → IsReady told device pool result }
     {
         ghost_model::runs::identifiers_of_records();

@@ -6,7 +6,7 @@ ghost use Rattle.page_pool.specs.Pools.{Pool, page_at};
 ghost use Rattle.edge_traits.specs.Devices.{Device};
 ghost use Rattle.flash_pages.specs.Reads.{ReadsPages, CanRead, WasGiven};
 ghost use Rattle.flash_pages.specs.Cursors.{IsReady, IsPageOf, ids_left};
-ghost use Rattle.visible_spool.specs.Replies.{IsReadable, HoldsRows, WasFound, id_of_bytes};
+ghost use Rattle.visible_spool.specs.Replies.{IsReadable, IsSound, HoldsRows, WasFound, id_of_bytes};
 ghost use Rattle.visible_spool.specs.Searches.{GivesRow, IsCursorOf};
 ghost use Rattle.visible_spool.specs.Halves.{reply_of, no_half, HasNoReply};
 
@@ -89,7 +89,7 @@ impl Half {
     pub fn ids(&self, table: usize, lease: Lease) -> RunCursor
         requires there { table < MAX_TABLES }
         ensures begins { IsCursorOf (reply_of self.now table) lease result }
-        ensures ids { (page : ℕ → List ℕ) (rows : List (List ℕ)) → HoldsRows page (reply_of self.now table) rows → ids_left page result ≡ map id_of_bytes rows }
+        ensures ids { IsSound (reply_of self.now table) → (page : ℕ → List ℕ) (rows : List (List ℕ)) → HoldsRows page (reply_of self.now table) rows → ids_left page result ≡ map id_of_bytes rows }
         ensures ready { (told : Bool) (device : Device) (pool : Pool) → IsReadable device (reply_of self.now table) → CanRead told device pool lease → IfSome (page_at pool lease) (IsPageOf (run_of (reply_of self.now table).run)) → IsReady told device pool result }
     {
         self.reply_at(table).ids(lease)

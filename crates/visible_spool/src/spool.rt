@@ -10,7 +10,7 @@ ghost use Rattle.page_pool.specs.Pools.{Pool, IsOut, ChangesPage, page_at};
 ghost use Rattle.ghost_base.specs.Runs.{run_of};
 ghost use Rattle.flash_pages.specs.Reads.{ReadsPages, CanRead, WasGiven};
 ghost use Rattle.flash_pages.specs.Cursors.{IsReady, IsPageOf, ids_left};
-ghost use Rattle.visible_spool.specs.Replies.{HoldsRows, IsReadable, WasFound, id_of_bytes, kinds_of};
+ghost use Rattle.visible_spool.specs.Replies.{HoldsRows, IsReadable, IsSound, WasFound, id_of_bytes, kinds_of};
 ghost use Rattle.visible_spool.specs.Searches.{GivesRow, IsCursorOf};
 ghost use Rattle.visible_spool.specs.Halves.{reply_of};
 ghost use Rattle.visible_spool.specs.Areas.{AreAreasOf, AreAreas, first_of, end_of};
@@ -349,7 +349,7 @@ impl Spool {
     pub fn ids(&self, text: u32, table: usize, lease: Lease) -> RunCursor
         requires there { table < MAX_TABLES }
         ensures begins { IsCursorOf (reply_of (replies_of self.now.sides text) table) lease result }
-        ensures ids { (page : ℕ → List ℕ) (rows : List (List ℕ)) → HoldsRows page (reply_of (replies_of self.now.sides text) table) rows → ids_left page result ≡ map id_of_bytes rows }
+        ensures ids { IsSound (reply_of (replies_of self.now.sides text) table) → (page : ℕ → List ℕ) (rows : List (List ℕ)) → HoldsRows page (reply_of (replies_of self.now.sides text) table) rows → ids_left page result ≡ map id_of_bytes rows }
         ensures ready { (told : Bool) (device : Device) (pool : Pool) → IsReadable device (reply_of (replies_of self.now.sides text) table) → CanRead told device pool lease → IfSome (page_at pool lease) (IsPageOf (run_of (reply_of (replies_of self.now.sides text) table).run)) → IsReady told device pool result }
     {
         self.half(text).ids(table, lease)
