@@ -13,7 +13,7 @@ use crate::values::bound_of;
 use climbing_index::{Bound, ClimbingIndex, Group};
 use edge_traits::flash::Flash;
 use edge_traits::mem_flash::MemFlash;
-use flash_layout::{is_hidden, need};
+use flash_layout::{Layout, is_hidden, need};
 use flash_pages::cursor::RunCursor;
 use flash_pages::fault::PageFault;
 use ghost_base::runs::ListRef;
@@ -67,7 +67,7 @@ fn list_at(
     requires within { entry < index.now.directory.run.count }
     requires level { level < length index.now.directory.levels.items }
     ensures run { IfOk result (λ list. HasRun (⟦<MemFlash as Flash>⟧.state flash.new) (run_of list.run)) }
-    ensures width { IfOk result (λ list. list.run.width ≡ 4) }
+    ensures width { IfOk result (λ list. list.run.width ≡ 1) }
     ensures within { IfOk result (λ list. list.first + list.count ≤ list.run.count) }
 {
     let Ok(mut pool) = PagePool::new(alloc, 8) else {
@@ -95,15 +95,28 @@ fn put_rest(
     Ok(())
 }
 
-/// Puts the identifiers of a list there.
+/// How many rows the table of a level has, counted from the table itself.
+pub(crate) fn rows_above(cat: &Catalog, table: usize, level: usize) -> u32 {
+    if table >= cat.schema().tables() {
+        return 0;
+    }
+    let laid = Layout::of(cat);
+    match laid.levels(table).get(level) {
+        None => 0,
+        Some(above) => laid.rows(*above),
+    }
+}
+
+/// Puts the identifiers of a list there, which are of so many rows.
 pub(crate) fn put_ids(
     alloc: Global,
     flash: &mut MemFlash,
     list: ListRef,
+    rows: u32,
     line: &mut Line,
 ) -> Result<(), PageFault>
     requires run { HasRun (⟦<MemFlash as Flash>⟧.state flash.old) (run_of list.run) }
-    requires width { list.run.width ≡ 4 }
+    requires width { list.run.width ≡ 1 }
     requires within { list.first + list.count ≤ list.run.count }
 {
     let Ok(mut pool) = PagePool::new(alloc, 8) else {
@@ -112,7 +125,7 @@ pub(crate) fn put_ids(
     let Some(lease) = pool.lease() else {
         return Err(PageFault::Flash);
     };
-    let mut cursor = RunCursor::begin(list, list.run.count, lease);
+    let mut cursor = RunCursor::begin(list, rows, lease);
     put_rest(flash, &mut pool, &mut cursor, line)
 }
 
@@ -132,8 +145,9 @@ fn put_list(
         return Err(PageFault::Flash);
     }
     put(line, "/");
+    let rows = rows_above(&loaded.cat, place.0, level);
     let list = list_at(alloc, &mut loaded.flash, &index, entry, level)?;
-    put_ids(alloc, &mut loaded.flash, list, line)
+    put_ids(alloc, &mut loaded.flash, list, rows, line)
 }
 
 /// Puts the entries of a group there, with their lists at so many levels.

@@ -6,7 +6,7 @@ ghost use Rattle.flash_pages.specs.Runs.{HasRun};
 ghost use Rattle.climbing_index.specs.Indexes.{IsIdReadable};
 
 use crate::device::Loaded;
-use crate::found::put_ids;
+use crate::found::{put_ids, rows_above};
 use crate::lines::{Line, put, put_fault, put_number};
 use crate::values::bound_of;
 use climbing_index::IdIndex;
@@ -46,7 +46,7 @@ fn list_at(
     requires above { 1 ≤ level }
     requires level { level ≤ length index.now.directory.levels.items }
     ensures run { IfOk result (λ list. HasRun (⟦<MemFlash as Flash>⟧.state flash.new) (run_of list.run)) }
-    ensures width { IfOk result (λ list. list.run.width ≡ 4) }
+    ensures width { IfOk result (λ list. list.run.width ≡ 1) }
     ensures within { IfOk result (λ list. list.first + list.count ≤ list.run.count) }
 {
     let Ok(mut pool) = PagePool::new(alloc, 8) else {
@@ -75,8 +75,9 @@ fn put_list(
         return Err(PageFault::Flash);
     }
     put(line, "/");
+    let rows = rows_above(&loaded.cat, table, level);
     let list = list_at(alloc, &mut loaded.flash, &index, entry, level)?;
-    put_ids(alloc, &mut loaded.flash, list, line)
+    put_ids(alloc, &mut loaded.flash, list, rows, line)
 }
 
 /// Puts the entries between two bounds there, with their lists at each level above.

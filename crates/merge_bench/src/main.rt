@@ -1,16 +1,18 @@
 //! Merges and reductions of drawn lists over a flash in memory: what came, and how many calls it took.
 //!
-//! The words `merge UNIONS LISTS IDS` intersect so many unions of so many lists each, at most 64 lists; `reduce ROOM LISTS IDS`
+//! The words `merge UNIONS LISTS IDS` intersect so many unions of so many lists each, at most 64 lists; `codes UNIONS LISTS IDS` does
+//! so where the lists are codes of one to three bytes, the more of them the fewer identifiers a list has; `reduce ROOM LISTS IDS`
 //! reduces so many lists to one with that room, 6 to 62; `draw BLOCKS LISTS IDS` only draws the lists and writes them to a flash
-//! with so many blocks behind them, so that what this takes can be told from the rest. The lists have about so many identifiers in
-//! all. It prints a line for each of these:
+//! with so many blocks behind them, and `encode BLOCKS LISTS IDS` writes them as codes, so that what this takes can be told from the
+//! rest. The lists have about so many identifiers in all. It prints a line for each of these:
 //!
 //! - how many lists there are, how many identifiers they have, and how many came;
-//! - how many pages the identifiers of the lists fill, and for `reduce` those of the one list;
+//! - how many pages the lists fill, and for `reduce` the one list;
 //! - how many calls the flash got, and how many of them read a page; the others write a page or erase a block;
 //! - how many calls there are for a page that is filled.
 #![tactic(auto)]
 
+mod coded;
 mod drawing;
 mod lists;
 mod merging;
@@ -51,6 +53,8 @@ fn count(alloc: Global, words: &[String]) -> Result<Option<Figures>, AttachFault
         return Ok(None);
     };
     match what.as_str() {
+        "codes" => coded::figures(alloc, one, lists, ids),
+        "encode" => coded::written(alloc, one, lists, ids),
         "draw" => drawing::figures(alloc, one, lists, ids),
         "merge" => merging::figures(alloc, one, lists, ids),
         "reduce" => reducing::figures(alloc, one, lists, ids),

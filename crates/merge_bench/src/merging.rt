@@ -15,7 +15,11 @@ use page_pool::PagePool;
 use std::alloc::{AllocError, Global};
 
 /// How many identifiers a merge gives. It gives its leases back.
-fn came(merge: Merge, flash: &mut MemFlash, pool: &mut PagePool) -> Result<u64, PageFault>
+pub(crate) fn came(
+    merge: Merge,
+    flash: &mut MemFlash,
+    pool: &mut PagePool,
+) -> Result<u64, PageFault>
     requires can { CanMerge true (⟦<MemFlash as Flash>⟧.state flash.old) pool.old merge }
 {
     let mut merge = merge;
@@ -36,7 +40,11 @@ fn came(merge: Merge, flash: &mut MemFlash, pool: &mut PagePool) -> Result<u64, 
 }
 
 /// The lists that have these places, in unions of so many.
-fn pieces_of(alloc: Global, places: &[u32], lists: u32) -> Result<Vec<Piece>, AllocError> {
+pub(crate) fn pieces_of(
+    alloc: Global,
+    places: &[u32],
+    lists: u32,
+) -> Result<Vec<Piece>, AllocError> {
     let mut pieces = Vec::new(alloc);
     let mut left = lists;
     for place in places.chunks_exact(2) {

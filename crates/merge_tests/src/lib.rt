@@ -4,6 +4,7 @@
 #![tactic(auto)]
 
 pub mod areas;
+pub mod codes;
 pub mod device;
 #[cfg(test)]
 mod merges;

@@ -1,5 +1,6 @@
 //! What merges give, against sets.
 
+use crate::codes::{Codes, bytes_of};
 use crate::device::lay_out;
 use crate::pieces::{Piece, agrees, merge_of};
 use crate::rows::{Numbers, ascending, none_of, note, note_range, retain};
@@ -142,6 +143,40 @@ fn came(
     Ok((agreed, left_in(&mut pool)))
 }
 
+/// What a merge of the same pieces comes to, where their lists are codes.
+fn coded(
+    alloc: Global,
+    ids: &[u32],
+    pieces: &[Piece],
+    rows: u32,
+    wanted: &[bool],
+) -> Result<Came, AttachFault> {
+    let mut codes = Codes::none(alloc);
+    let mut over_codes = Vec::new(alloc);
+    for piece in pieces {
+        let piece = match *piece {
+            Piece::List(first, count) => {
+                let behind = first.saturating_add(count) as usize;
+                let list = ids.get(first as usize..behind).unwrap_or(&[]);
+                Piece::List(codes.put_list(list)?, count)
+            }
+            other => other,
+        };
+        let Ok(()) = over_codes.push(piece) else {
+            return Err(AttachFault::NoMemory);
+        };
+    }
+    let numbers = codes.numbers(alloc)?;
+    if numbers.len() > 2_000_000 {
+        return Err(AttachFault::NoMemory);
+    }
+    let mut laid = lay_out(alloc, &numbers, &[], 1, &[])?;
+    let mut pool = PagePool::new(alloc, 64)?;
+    let merge = merge_of(&over_codes, &bytes_of(&laid.one), rows, &mut pool);
+    let agreed = agrees(merge, &mut laid.flash, &mut pool, wanted);
+    Ok((agreed, left_in(&mut pool)))
+}
+
 #[test]
 fn a_merge_gives_what_is_in_each_union(rt: HostRuntime) -> Result<(), AttachFault> {
     let cases: [Case; 12] = [
@@ -162,6 +197,31 @@ fn a_merge_gives_what_is_in_each_union(rt: HostRuntime) -> Result<(), AttachFaul
         let drawn = draw(rt.alloc(), case)?;
         let (agreed, left) = came(rt.alloc(), &drawn.ids, &drawn.pieces, &drawn.wanted, &[])?;
         assert!(rt; matches!(agreed, Ok(true)) && left == 64, "case {}", case.0);
+        let (agreed, left) = coded(rt.alloc(), &drawn.ids, &drawn.pieces, ROWS, &drawn.wanted)?;
+        assert!(rt;
+            matches!(agreed, Ok(true)) && left == 64,
+            "codes of case {}",
+            case.0
+        );
+    }
+    Ok(())
+}
+
+#[test]
+fn codes_of_one_two_and_three_bytes_are_merged(rt: HostRuntime) -> Result<(), AttachFault> {
+    let rows = 1_900_000;
+    for step in [1u32, 2, 100, 20_000, 400_000] {
+        let mut drawn = Drawn::nothing(rt.alloc())?;
+        let mut wanted = none_of(rt.alloc(), rows)?;
+        let mut numbers = Numbers::seeded(u64::from(step));
+        for count in [2046u32, 3, 700, 5000, 1] {
+            let first = drawn.ids.len();
+            let count = ascending(&mut drawn.ids, &mut numbers, count, step, rows)?;
+            note(&mut wanted, drawn.ids.get(first..).unwrap_or(&[]));
+            drawn.add(Piece::List(u32::try_from(first).unwrap_or(0), count))?;
+        }
+        let (agreed, left) = coded(rt.alloc(), &drawn.ids, &drawn.pieces, rows, &wanted)?;
+        assert!(rt; matches!(agreed, Ok(true)) && left == 64, "step {step}");
     }
     Ok(())
 }

@@ -4,6 +4,7 @@ ghost use Rattle.std.specs.Prelude.{◌≡◌, ◌+◌, ◌<◌, ◌≤◌, true
 ghost use Rattle.ghost_base.specs.Runs.{run_of};
 ghost use Rattle.edge_traits.specs.Devices.{Device};
 ghost use Rattle.page_pool.specs.Pools.{Pool};
+ghost use Rattle.flash_pages.specs.Cursors.{IsListWidth};
 ghost use Rattle.flash_pages.specs.Runs.{HasRun};
 ghost use Rattle.id_merge.specs.Cursors.{AllReady};
 ghost use Rattle.id_merge.specs.Merges.{CanMerge};
@@ -23,7 +24,7 @@ use page_pool::PagePool;
 pub enum Piece {
     /// Another union begins.
     Another,
-    /// A list of so many numbers of a run, from one on.
+    /// A list of so many identifiers of a run, from a place on.
     List(u32, u32),
     /// A range.
     Range(u32, u32),
@@ -45,7 +46,7 @@ impl Together {
         requires room { length self.old.unions.items < 96 }
         ensures sums { sum self.new.unions.items + self.new.last ≡ length self.new.cursors.items }
         ensures room { length self.new.unions.items < 96 }
-        ensures ready { (device : Device) → HasRun device (run_of run.now) → run.now.width ≡ 4 → AllReady true device pool.old self.old.cursors.items → AllReady true device pool.new self.new.cursors.items }
+        ensures ready { (device : Device) → HasRun device (run_of run.now) → IsListWidth run.now.width → AllReady true device pool.old self.old.cursors.items → AllReady true device pool.new self.new.cursors.items }
     {
         match piece {
             Piece::Another => self.begin_union(),
@@ -81,7 +82,7 @@ impl Together {
         requires sums { sum self.old.unions.items + self.old.last ≡ length self.old.cursors.items }
         ensures sums { sum self.new.unions.items + self.new.last ≡ length self.new.cursors.items }
         ensures unions { self.new.unions ≡ self.old.unions }
-        ensures ready { (device : Device) → HasRun device (run_of list.run) → list.run.width ≡ 4 → list.first + list.count ≤ list.run.count → AllReady true device pool.old self.old.cursors.items → AllReady true device pool.new self.new.cursors.items }
+        ensures ready { (device : Device) → HasRun device (run_of list.run) → IsListWidth list.run.width → list.first + list.count ≤ list.run.count → AllReady true device pool.old self.old.cursors.items → AllReady true device pool.new self.new.cursors.items }
     {
         if self.cursors.is_full() {
             return;
@@ -110,7 +111,7 @@ impl Together {
 
 /// A merge of lists of a run and ranges, with a lease of each list.
 pub fn merge_of(pieces: &[Piece], run: &Run, rows: u32, pool: &mut PagePool) -> Merge
-    ensures can { (device : Device) → HasRun device (run_of run.now) → run.now.width ≡ 4 → CanMerge true device pool.new result }
+    ensures can { (device : Device) → HasRun device (run_of run.now) → IsListWidth run.now.width → CanMerge true device pool.new result }
 {
     let mut together = Together {
         cursors: ArrayVec::new(),

@@ -21,9 +21,10 @@ const LEAF: &str =
 /// That of a table without a visible column.
 const SECRET: &str = "CREATE TABLE secret (id INTEGER PRIMARY KEY, value INTEGER HIDDEN);\n";
 
-/// How many records the files of the clinic have, and of how many bytes, page after page from 64 on.
+/// How many records the files of the clinic have, and of how many bytes, page after page from 64 on. A level file has the bytes
+/// of its room.
 const CLINIC_FILES: &str =
-    "3x2 1x4 3x18 3x4 4x4 3x8 4x4 2x8 1x4 2x24 2x4 4x4 2x8 4x4 4x8 4x8 4x8 4x8 1x4 4x16 4x4 1x4 4x16 4x4 1x4 4x16 4x4";
+    "3x2 1x4 3x18 2048x1 2048x1 3x8 2048x1 2x8 1x4 2x24 2048x1 2048x1 2x8 2048x1 4x8 4x8 4x8 4x8 1x4 4x16 2048x1 1x4 4x16 2048x1 1x4 4x16 2048x1";
 
 /// Some files: the first page of each, how many records it has, and of how many bytes.
 type Files = ArrayVec<(u32, u32, u32), 40>;

@@ -1,4 +1,4 @@
-use Rattle.std.proofs.Common.{◌∷◌, [], length, arith}
+use Rattle.std.proofs.Common.{◌∷◌, [], arith}
 use Rattle.std.proofs.lemmas.List.{length-append}
 use Rattle.merge_tests.proofs.Putting.{pushed_sum}
 use Rattle.merge_tests.proofs.pieces.merge_of.Goals as goal

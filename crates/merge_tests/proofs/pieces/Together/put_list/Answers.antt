@@ -12,4 +12,4 @@ returns-in-Some-clause-ready c = λ device there width within ready.
     let is = subst L (sym c.begin-cursor.ensures.lease) c.in-Some.ensures.leased in
     let free = subst F (sym c.begin-cursor.ensures.lease) c.in-Some.ensures.was_free in
     rw (c.push.ensures.items)
-    (list_ready c.args.self.now.cursors.items c.args.list run c.begin-cursor.ensures.list c.begin-cursor.ensures.at is free there width within ready)
+    (list_ready c.args.self.now.cursors.items c.args.list run c.begin-cursor.ensures.list c.begin-cursor.ensures.at c.begin-cursor.ensures.place c.begin-cursor.ensures.last is free there width within ready)
