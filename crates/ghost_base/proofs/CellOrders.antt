@@ -8,8 +8,8 @@ use Rattle.std.specs.Cmp.{nat_cmp_is, first_so, second_so}
 use Rattle.std.specs.Cmp.Lexicographic.{slice_cmp}
 use Rattle.std.specs.List.{list_all}
 use Rattle.std.specs.Int.{bytes_high_first, byte_at, to_be_bytes}
-use Rattle.ghost_model.specs.core.Schema.{Kind, Integer, Chars}
-use Rattle.ghost_model.specs.core.Values.{Value, Number, Text}
+use Rattle.ghost_model.specs.core.Schema.{Kind, Integer, Chars, IntegerOrNull, CharsOrNull}
+use Rattle.ghost_model.specs.core.Values.{Value, Null, Number, Text}
 use Rattle.ghost_model.specs.refusals.Tokens.{is_printable}
 use Rattle.ghost_model.specs.forms.Cells.{encode_cell, above_lowest}
 use Rattle.ghost_model.specs.core.Database.{is_of_kind, fits_integer, order_of}
@@ -94,14 +94,36 @@ padded_order (x ∷ xs) [] n (suc m) e h k = rw (zero_last x (first_so _ _ h)) r
 padded_order (x ∷ xs) (y ∷ ys) n m e h k =
     ap (ordering_then (nat_cmp x y)) (padded_order xs ys n m (omega arith) (second_so _ _ h) (second_so _ _ k))
 
-pub cell_order : (kind : Kind) (a b : Value) → IsTrue (is_of_kind kind a) → IsTrue (is_of_kind kind b)
-    → byte_order (encode_cell kind a) (encode_cell kind b) ≡ order_of a b
-cell_order Integer (Number a) (Number b) h k = integer_order a b h k
-cell_order Integer (Number a) (Text b) h k = cc
-cell_order Integer (Text a) b h k = cc
-cell_order (Chars most) (Number a) b h k = cc
-cell_order (Chars most) (Text a) (Number b) h k = cc
-cell_order (Chars most) (Text a) (Text b) h k =
+text_order : (most : ℕ) (a b : List ℕ) → IsTrue (is_of_kind (Chars most) (Text a)) → IsTrue (is_of_kind (Chars most) (Text b))
+    → byte_order (encode_cell (Chars most) (Text a)) (encode_cell (Chars most) (Text b)) ≡ byte_order a b
+text_order most a b h k =
     let short_a : length a ≤ most = leb-true _ _ (first_so _ _ h) in
     let short_b : length b ≤ most = leb-true _ _ (first_so _ _ k) in
     padded_order a b (most - length a) (most - length b) (omega arith) (second_so _ _ h) (second_so _ _ k)
+
+pub cell_order : (kind : Kind) (a b : Value) → IsTrue (is_of_kind kind a) → IsTrue (is_of_kind kind b)
+    → byte_order (encode_cell kind a) (encode_cell kind b) ≡ order_of a b
+cell_order Integer Null b h k = cc
+cell_order Integer (Number a) Null h k = cc
+cell_order Integer (Number a) (Number b) h k = integer_order a b h k
+cell_order Integer (Number a) (Text b) h k = cc
+cell_order Integer (Text a) b h k = cc
+cell_order (Chars most) Null b h k = cc
+cell_order (Chars most) (Number a) b h k = cc
+cell_order (Chars most) (Text a) Null h k = cc
+cell_order (Chars most) (Text a) (Number b) h k = cc
+cell_order (Chars most) (Text a) (Text b) h k = text_order most a b h k
+cell_order IntegerOrNull Null Null h k = refl
+cell_order IntegerOrNull Null (Number b) h k = refl
+cell_order IntegerOrNull Null (Text b) h k = cc
+cell_order IntegerOrNull (Number a) Null h k = refl
+cell_order IntegerOrNull (Number a) (Number b) h k = integer_order a b h k
+cell_order IntegerOrNull (Number a) (Text b) h k = cc
+cell_order IntegerOrNull (Text a) b h k = cc
+cell_order (CharsOrNull most) Null Null h k = zeros_alike (suc most)
+cell_order (CharsOrNull most) Null (Number b) h k = cc
+cell_order (CharsOrNull most) Null (Text b) h k = refl
+cell_order (CharsOrNull most) (Number a) b h k = cc
+cell_order (CharsOrNull most) (Text a) Null h k = refl
+cell_order (CharsOrNull most) (Text a) (Number b) h k = cc
+cell_order (CharsOrNull most) (Text a) (Text b) h k = text_order most a b h k

@@ -1,5 +1,5 @@
 -- An integer and its distance to the lowest give each other, and a distance and its eight bytes do.
-use Rattle.std.proofs.Common.{◌≡◌, ℕ, zero, suc, ◌^◌, ◌<◌, ℤ, pos, negsuc, List, [], ◌∷◌, length, get_or, nat_lt, IsTrue, refl, sym, ap, ◌∙◌, arith, w64, ltb-true}
+use Rattle.std.proofs.Common.{◌≡◌, ℕ, zero, suc, ◌^◌, ◌<◌, ℤ, pos, negsuc, List, [], ◌∷◌, length, get_or, nat_lt, lt-ltb, true, IsTrue, refl, sym, ap, ◌∙◌, arith, w64, ltb-true}
 use Rattle.std.specs.List.{list_all}
 use Rattle.std.specs.Int.{to_be_bytes, from_be_bytes}
 use Rattle.std.proofs.lemmas.Nat.{from_be_bytes-to_be_bytes_8, be_bytes_8}
@@ -26,6 +26,13 @@ pub byte_at_place : (bytes : List ℕ) → IsTrue (list_all (λ byte. nat_lt byt
 byte_at_place [] h i = omega arith
 byte_at_place (x ∷ xs) h zero = ltb-true x 256 (first_so _ _ h)
 byte_at_place (x ∷ xs) h (suc i) = byte_at_place xs (second_so _ _ h) i
+
+-- bytes, place by place, are bytes
+pub bytes_small : (bytes : List ℕ) → ((i : ℕ) → get_or bytes i 0 < 256) → IsTrue (list_all (λ byte. nat_lt byte 256) bytes)
+bytes_small [] h = refl
+bytes_small (x ∷ xs) h =
+    let front : nat_lt x 256 ≡ true = lt-ltb x 256 (h 0) in
+    rw (front, bytes_small xs (λ i. h (suc i))) refl
 
 pub spelled_fits : (bytes : List ℕ) → IsTrue (list_all (λ byte. nat_lt byte 256) bytes) → from_be_bytes w64 bytes < 2 ^ 64
 spelled_fits bytes h =

@@ -24,7 +24,7 @@ text_of_padded (x ∷ xs) n h =
     take_while-cons is_not_zero x (xs ++ replicate n 0)
     ∙ rw (printable_is_not_zero x (first_so _ _ h)) (ap (λ t. x ∷ t) (text_of_padded xs n (second_so _ _ h)))
 
-padding_is_zero : (n : ℕ) → list_all (λ byte. byte == 0) (replicate n 0) ≡ true
+pub padding_is_zero : (n : ℕ) → list_all (λ byte. byte == 0) (replicate n 0) ≡ true
 padding_is_zero zero = refl
 padding_is_zero (suc n) = padding_is_zero n
 
@@ -39,7 +39,7 @@ padded_is_text_cell text n h = rw (text_of_padded text n h, h, drop_front text (
 pub zeros_behind : (n : ℕ) → drop {A = ℕ} n (replicate 64 0) ≡ replicate (64 - n) 0
 zeros_behind n = drop-replicate n 64 0
 
-zeros : (xs : List ℕ) → list_all (λ byte. byte == 0) xs ≡ true → xs ≡ replicate (length xs) 0
+pub zeros : (xs : List ℕ) → list_all (λ byte. byte == 0) xs ≡ true → xs ≡ replicate (length xs) 0
 zeros [] h = refl
 zeros (x ∷ xs) h = let e : x ≡ 0 = eqb-true x 0 (first_so _ _ h) in rw e (ap (λ t. 0 ∷ t) (zeros xs (second_so _ _ h)))
 

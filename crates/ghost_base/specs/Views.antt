@@ -12,8 +12,11 @@ use Rattle.ghost_base.specs.declared.value.Value.TheVariants as value
 abbrev pub kind_of : Kind → schema.Kind
 kind_of kind.Integer = schema.Integer
 kind_of (kind.Chars most) = schema.Chars most
+kind_of kind.IntegerOrNull = schema.IntegerOrNull
+kind_of (kind.CharsOrNull most) = schema.CharsOrNull most
 
 abbrev pub value_of : Value → values.Value
+value_of value.Null = values.Null
 value_of (value.Int number) = values.Number number
 value_of (value.Chars text) = values.Text text
 

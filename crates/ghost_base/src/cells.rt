@@ -1,11 +1,12 @@
 //! Cells: the bytes of one value in a column of a kind.
 
-ghost use Rattle.std.specs.Prelude.{◌≡◌, ◌≤◌, ◌++◌, ◌-◌, ◌==◌, length, replicate, IsTrue, IfSome, Some, option_map};
+ghost use Rattle.std.specs.Prelude.{◌≡◌, ◌≤◌, ◌++◌, ◌-◌, ◌==◌, false, length, replicate, IsTrue, IfSome, Some, option_map};
 ghost use Rattle.std.specs.Int.{from_be_bytes, w64};
 ghost use Rattle.std.specs.List.{list_all};
 ghost use Rattle.ghost_model.specs.forms.Cells as cells;
 ghost use Rattle.ghost_model.specs.readings.CellReading as reading;
 ghost use Rattle.ghost_model.specs.refusals.Tokens.{is_printable};
+ghost use Rattle.ghost_model.specs.core.Schema.{is_nullable, plain_of};
 ghost use Rattle.ghost_base.specs.Views.{kind_of, value_of};
 ghost use Rattle.ghost_model.specs.core.Database as database;
 
@@ -20,22 +21,26 @@ pub fn cell_width(kind: Kind) -> usize
     match kind {
         Kind::Integer => 8,
         Kind::Chars(most) => most as usize,
+        Kind::IntegerOrNull => 9,
+        Kind::CharsOrNull(most) => most as usize + 1,
     }
 }
 
-/// Whether a value is of a kind: an integer, or a text of printable bytes, at most as many as the kind says.
+/// Whether a value is of a kind: an integer, or a text of printable bytes, at most as many as the kind says; or NULL where
+/// the kind allows it.
 pub fn is_of_kind(kind: Kind, value: &Value) -> bool
     ensures { result ≡ database.is_of_kind (kind_of kind) (value_of value.now) }
 {
     match (kind, value) {
-        (Kind::Integer, Value::Int(number)) => {
+        (Kind::Integer | Kind::IntegerOrNull, Value::Int(number)) => {
             // Read, so that the proof knows it as a number of 64 bits.
             let _number = *number;
             true
         }
-        (Kind::Chars(most), Value::Chars(text)) => {
+        (Kind::Chars(most) | Kind::CharsOrNull(most), Value::Chars(text)) => {
             text.len() <= most as usize && is_printable_text(text.as_bytes())
         }
+        (_, Value::Null) => kind.is_nullable(),
         _ => false,
     }
 }
@@ -47,6 +52,24 @@ pub fn encode_cell(kind: Kind, value: &Value, out: &mut [u8])
     requires width { length out.old ≡ cells.cell_width (kind_of kind) }
     ensures cell { out.new ≡ cells.encode_cell (kind_of kind) (value_of value.now) }
     ensures spells { reading.decode_cell (kind_of kind) out.new ≡ Some (value_of value.now) }
+{
+    if value.is_null() {
+        out.fill(0);
+    } else if kind.is_nullable() {
+        let (flag, cell) = out.split_at_mut(1);
+        flag.fill(1);
+        encode_plain(kind.plain(), value, cell);
+    } else {
+        encode_plain(kind, value, out);
+    }
+}
+
+/// Writes the cell of a value in a column that may not be NULL.
+fn encode_plain(kind: Kind, value: &Value, out: &mut [u8])
+    requires plain { is_nullable (kind_of kind) ≡ false }
+    requires kind { IsTrue (database.is_of_kind (kind_of kind) (value_of value.now)) }
+    requires width { length out.old ≡ cells.cell_width (kind_of kind) }
+    ensures cell { out.new ≡ cells.encode_cell (kind_of kind) (value_of value.now) }
 {
     match (kind, value) {
         (Kind::Integer, Value::Int(number)) => {
@@ -60,10 +83,29 @@ pub fn encode_cell(kind: Kind, value: &Value, out: &mut [u8])
 /// The value that bytes spell in a column of a kind, and `None` exactly where they spell none.
 #[tactic(auto, using(crate::proofs::CellSpelling::spells_a_cell))]
 pub fn decode_cell(kind: Kind, bytes: &[u8]) -> Option<Value>
-    requires { cells.cell_width (kind_of kind) ≤ MAX_CHARS }
+    requires { cells.cell_width (plain_of (kind_of kind)) ≤ MAX_CHARS }
     ensures value { option_map value_of result ≡ reading.decode_cell (kind_of kind) bytes.now }
     ensures kind { IfSome result (λ value. IsTrue (database.is_of_kind (kind_of kind) (value_of value))) }
     ensures cell { IfSome result (λ value. cells.encode_cell (kind_of kind) (value_of value) ≡ bytes.now) }
+{
+    if !kind.is_nullable() {
+        return decode_plain(kind, bytes);
+    }
+    let Some((flag, cell)) = bytes.split_first() else {
+        return None;
+    };
+    match *flag {
+        1 => decode_plain(kind.plain(), cell),
+        0 if cell.len() == cell_width(kind.plain()) && is_zero(cell) => Some(Value::Null),
+        _ => None,
+    }
+}
+
+/// The value that bytes spell in a column that may not be NULL.
+fn decode_plain(kind: Kind, bytes: &[u8]) -> Option<Value>
+    requires plain { is_nullable (kind_of kind) ≡ false }
+    requires width { cells.cell_width (kind_of kind) ≤ MAX_CHARS }
+    ensures value { option_map value_of result ≡ reading.decode_cell (kind_of kind) bytes.now }
 {
     if bytes.len() != cell_width(kind) {
         return None;
@@ -77,6 +119,7 @@ pub fn decode_cell(kind: Kind, bytes: &[u8]) -> Option<Value>
             }
             Some(Value::Chars(Text64::of(text)))
         }
+        Kind::IntegerOrNull | Kind::CharsOrNull(_) => None,
     }
 }
 

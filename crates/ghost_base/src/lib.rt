@@ -1,7 +1,7 @@
 //! The vocabulary of the product: kinds and values, their cells, and the limits.
 //!
-//! A value is a 64-bit integer or a text of at most 64 printable bytes. It lies in itself, so none of the calls here
-//! takes memory. A cell is the bytes of one value in a column of a kind; the byte order of the cells of one kind is
+//! A value is a 64-bit integer, a text of at most 64 printable bytes, or NULL. It lies in itself, so none of the calls
+//! here takes memory. A cell is the bytes of one value in a column of a kind; the byte order of the cells of one kind is
 //! the order of their values.
 #![tactic(auto)]
 

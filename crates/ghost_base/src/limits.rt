@@ -15,6 +15,9 @@ pub const MIN_CHARS: usize = 1;
 /// The most bytes that a CHAR column can be declared to hold.
 pub const MAX_CHARS: usize = 64;
 
+/// The most bytes of a cell: those of a text of the greatest length in a column that may be NULL.
+pub const MAX_CELL: usize = 65;
+
 /// The most rows of a table, and so the greatest identifier.
 pub const MAX_ROWS: u32 = 1_000_000;
 

@@ -45,10 +45,10 @@ impl Operator {
         }
     }
 
-    /// Whether the operator holds between two values, a column's first.
+    /// Whether the operator holds between two values, a column's first. No operator holds where either is NULL.
     pub fn holds(self, left: &Value, right: &Value) -> bool
         ensures held { result ≡ database.holds (operator_of self) (value_of left.now) (value_of right.now) }
     {
-        self.meets(compare(left, right))
+        !left.is_null() && !right.is_null() && self.meets(compare(left, right))
     }
 }

@@ -8,10 +8,10 @@ use Rattle.std.proofs.lemmas.Fmt.{IsAscii-decimal}
 use Rattle.ghost_model.specs.refusals.Tokens.{is_name_byte}
 use Rattle.ghost_model.specs.laws.Spelled.{is_name}
 use Rattle.ghost_model.specs.forms.Frames.{AreBytes}
-use Rattle.ghost_model.specs.core.Schema.{Integer, Chars, Kind, Column, Table, Schema, columns_or_none, column_at}
+use Rattle.ghost_model.specs.core.Schema.{Integer, Chars, IntegerOrNull, CharsOrNull, Kind, Column, Table, Schema, columns_or_none, column_at}
 use Rattle.ghost_model.specs.laws.SchemaTrees.{IsTree}
 use Rattle.ghost_model.specs.core.Channel.{Catalog}
-use Rattle.ghost_model.specs.forms.Catalog.{kind_text, name_or_none, table_name, reference_text, hidden_text, column_text, table_text, canonical_text, catalog_version, counts_bytes, catalog_bytes}
+use Rattle.ghost_model.specs.forms.Catalog.{kind_text, name_or_none, table_name, reference_text, hidden_text, column_text, table_text, canonical_text, is_version, counts_bytes, catalog_bytes}
 
 no_bytes : AreBytes []
 no_bytes i = lit< tt
@@ -82,11 +82,17 @@ hidden_bytes : (hidden : Bool) → AreBytes (hidden_text hidden)
 hidden_bytes true = fixed_bytes (codes " HIDDEN") refl
 hidden_bytes false = no_bytes
 
-kind_bytes : (kind : Kind) → ((most : ℕ) → kind ≡ Chars most → most ≤ 64) → AreBytes (kind_text kind)
-kind_bytes Integer h = fixed_bytes (codes "INTEGER") refl
-kind_bytes (Chars most) h =
-    append_bytes (codes "CHAR(") (decimal most ++ codes ")") (fixed_bytes (codes "CHAR(") refl)
-    (append_bytes (decimal most) (codes ")") (decimal_bytes most (h most refl)) (fixed_bytes (codes ")") refl))
+chars_bytes : (most : ℕ) (behind : List ℕ) → most ≤ 64 → AreBytes behind → AreBytes (codes "CHAR(" ++ (decimal most ++ behind))
+chars_bytes most behind h rest =
+    append_bytes (codes "CHAR(") (decimal most ++ behind) (fixed_bytes (codes "CHAR(") refl)
+    (append_bytes (decimal most) behind (decimal_bytes most h) rest)
+
+kind_bytes : (kind : Kind) → ((most : ℕ) → kind ≡ Chars most → most ≤ 64) → ((most : ℕ) → kind ≡ CharsOrNull most → most ≤ 64)
+    → AreBytes (kind_text kind)
+kind_bytes Integer h n = fixed_bytes (codes "INTEGER") refl
+kind_bytes (Chars most) h n = chars_bytes most (codes ")") (h most refl) (fixed_bytes (codes ")") refl)
+kind_bytes IntegerOrNull h n = fixed_bytes (codes "INTEGER NULL") refl
+kind_bytes (CharsOrNull most) h n = chars_bytes most (codes ") NULL") (n most refl) (fixed_bytes (codes ") NULL") refl)
 
 column_bytes : (schema : Schema) → IsTree schema → (at i : ℕ) (column : Column) → column_at schema at i ≡ Some column
     → AreBytes (column_text schema column)
@@ -94,7 +100,7 @@ column_bytes schema tree at i column e =
     append_bytes (codes ", ") _ (fixed_bytes (codes ", ") refl)
     (append_bytes column.name _ (whole_name_bytes column.name (tree.names_are_names at i column e))
     (append_bytes (codes " ") _ (fixed_bytes (codes " ") refl)
-    (append_bytes (kind_text column.kind) _ (kind_bytes column.kind (λ most k. (tree.text_lengths at i most column e k).1))
+    (append_bytes (kind_text column.kind) _ (kind_bytes column.kind (λ most k. (tree.text_lengths at i most column e k).1) (λ most k. (tree.nullable_text_lengths at i most column e k).1))
     (append_bytes (reference_text schema column.child) (hidden_text column.hidden) (reference_bytes schema tree column.child) (hidden_bytes column.hidden)))))
 
 table_bytes : (schema : Schema) → IsTree schema → (at : ℕ) (table : Table) → slice_get schema at ≡ Some table → AreBytes (table_text schema table)
@@ -108,10 +114,10 @@ table_bytes schema tree at table e =
     (ap (λ (found : Option Table). slice_get (columns_or_none found) (suc i)) e ∙ later_column table.columns i column k)))
     (append_bytes (codes ");") (10 ∷ []) (fixed_bytes (codes ");") refl) (fixed_bytes (10 ∷ []) refl)))))
 
-one_byte : (version : ℕ) → version ≡ catalog_version → AreBytes (version ∷ [])
-one_byte version e = more_bytes version [] (omega (arith, e)) no_bytes
+one_byte : (version : ℕ) → is_version version ≡ true → AreBytes (version ∷ [])
+one_byte version e = let few : version < 256 = grind (arith, nat_tests) in more_bytes version [] few no_bytes
 
-pub catalog_is_bytes : (cat : Catalog) → IsTree cat.schema → cat.version ≡ catalog_version → AreBytes (catalog_bytes cat)
+pub catalog_is_bytes : (cat : Catalog) → IsTree cat.schema → is_version cat.version ≡ true → AreBytes (catalog_bytes cat)
 catalog_is_bytes cat tree version =
     let text = canonical_text cat.schema in
     let counted = text ++ counts_bytes cat.counts in

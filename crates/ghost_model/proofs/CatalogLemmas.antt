@@ -592,5 +592,5 @@ catalog_of_text text cat means counted few some fits version = record {
   few_rows = few;
   some_generation = some;
   generation_fits = fits;
-  one_version = version;
+  some_version = version;
 }

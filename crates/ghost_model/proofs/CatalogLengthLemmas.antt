@@ -7,7 +7,7 @@ use Rattle.std.proofs.lemmas.Bool.{cases_order}
 use Rattle.std.proofs.lemmas.Bool.Decides.{Decides-ltb, Decides-eqb}
 use Rattle.std.proofs.lemmas.Fmt.{length-decimal-le}
 use Rattle.std.proofs.lemmas.List.Sums.{sum_by-cons}
-use Rattle.ghost_model.specs.core.Schema.{Kind, Integer, Chars, Column, Table, Schema, columns_or_none, is_table, references_to, places_from}
+use Rattle.ghost_model.specs.core.Schema.{Kind, Integer, Chars, IntegerOrNull, CharsOrNull, is_nullable, Column, Table, Schema, columns_or_none, is_table, references_to, places_from}
 use Rattle.ghost_model.specs.refusals.SchemaFaults.{references_naming}
 use Rattle.ghost_model.specs.laws.SchemaTrees.{IsTree}
 use Rattle.ghost_model.specs.forms.Catalog.{kind_text, name_or_none, table_name, reference_text, hidden_text, column_text, table_text, canonical_text, catalog_head, counts_bytes}
@@ -131,9 +131,11 @@ text_length : (name kind reference hidden : List ℕ) (most : ℕ) → length na
     → length (codes ", " ++ (name ++ (codes " " ++ (kind ++ (reference ++ hidden))))) ≤ 50 + most
 text_length name kind reference hidden most a b c d = simp length-append (omega arith)
 
-kind_length : (kind : Kind) → ((most : ℕ) → kind ≡ Chars most → most ≤ 64) → length (kind_text kind) ≤ 8
-kind_length Integer h = omega arith
-kind_length (Chars most) h =
+kind_length : (kind : Kind) → is_nullable kind ≡ false → ((most : ℕ) → kind ≡ Chars most → most ≤ 64) → length (kind_text kind) ≤ 8
+kind_length Integer n h = omega arith
+kind_length IntegerOrNull n h = absurd (cc)
+kind_length (CharsOrNull most) n h = absurd (cc)
+kind_length (Chars most) n h =
     let few : most ≤ 64 = h most refl in
     let digits : length (decimal most) ≤ 2 = length-decimal-le 2 most (omega arith) (omega arith) (omega arith) in
     simp length-append (omega (arith, digits))
@@ -163,13 +165,14 @@ module _ (schema : Schema) (tree : IsTree schema) where
 
   record IsSmall (column : Column) : Type 0 where
     name : length column.name ≤ 32
+    not_null : is_nullable column.kind ≡ false
     kind : (most : ℕ) → column.kind ≡ Chars most → most ≤ 64
     child : (table : ℕ) → column.child ≡ Some table → table < length schema
 
   column_length : (column : Column) → IsSmall column → length (column_text schema column) ≤ 50 + 48 * one_if (is_before (length schema) column.child)
   column_length column small =
       text_length column.name (kind_text column.kind) (reference_text schema column.child) (hidden_text column.hidden)
-      (48 * one_if (is_before (length schema) column.child)) small.name (kind_length column.kind small.kind)
+      (48 * one_if (is_before (length schema) column.child)) small.name (kind_length column.kind small.not_null small.kind)
       (reference_length column.child small.child) (hidden_length column.hidden)
 
   columns_length : (columns : List Column) → ((j : ℕ) (column : Column) → slice_get columns j ≡ Some column → IsSmall column)
@@ -224,6 +227,7 @@ module _ (schema : Schema) (tree : IsTree schema) where
         let there = ap (λ o. slice_get (columns_or_none o) j) e ∙ h in
         record {
           name = tree.short_names k j column there;
+          not_null = tree.not_null k j column there;
           kind = λ most f. (tree.text_lengths k j most column there f).1;
           child = λ child f. tree.references_name_tables k j child column there f;
         };

@@ -1,6 +1,6 @@
 -- Bytes spell at most one catalog, and at most one catalog's bytes begin them: the head has a fixed length and says how
 -- long the text is, the text means one schema, and the schema says how many counts follow.
-use Rattle.std.proofs.Common.{◌≡◌, ℕ, ◌*◌, ◌<◌, ◌≤◌, ◌^◌, nat_le, true, List, [], ◌∷◌, ◌++◌, length, take, drop, refl, sym, ap, ◌∙◌, subst, append_assoc, append-nil, arith}
+use Rattle.std.proofs.Common.{◌≡◌, ℕ, ◌*◌, ◌<◌, ◌≤◌, ◌^◌, nat_le, true, List, [], ◌∷◌, ◌++◌, length, take, drop, slice_index, refl, sym, ap, ◌∙◌, subst, append_assoc, append-nil, arith}
 use Rattle.std.specs.List.{list_all}
 use Rattle.std.specs.Int.{to_be_bytes, from_be_bytes, w32}
 use Rattle.std.proofs.lemmas.Bool.{and_parts, leb-true}
@@ -28,6 +28,9 @@ same_front (p ∷ a) (q ∷ b) x y n e =
 
 generation_in : (version generation size : ℕ) → generation < 2 ^ 32 → from_be_bytes w32 (take 4 (drop 8 (catalog_head version generation size))) ≡ generation
 generation_in version generation size h = from_be_bytes-to_be_bytes_4 generation h
+
+version_in : (version generation size : ℕ) → slice_index (catalog_head version generation size) 7 ≡ version
+version_in version generation size = refl
 
 size_in : (version generation size : ℕ) → size < 2 ^ 32 → from_be_bytes w32 (take 4 (drop 12 (catalog_head version generation size))) ≡ size
 size_in version generation size h = from_be_bytes-to_be_bytes_4 size h
@@ -68,6 +71,9 @@ one_front cat other rest more p q e =
     let generation : cat.generation ≡ other.generation =
     sym (generation_in cat.version cat.generation (length text) p.generation_fits)
     ∙ (ap (λ (bytes : List ℕ). from_be_bytes w32 (take 4 (drop 8 bytes))) heads.0 ∙ generation_in other.version other.generation (length text_too) q.generation_fits) in
+    let version : cat.version ≡ other.version =
+    sym (version_in cat.version cat.generation (length text))
+    ∙ (ap (λ (bytes : List ℕ). slice_index bytes 7) heads.0 ∙ version_in other.version other.generation (length text_too)) in
     let size : length text ≡ length text_too =
     sym (size_in cat.version cat.generation (length text) (omega (arith, short)))
     ∙ (ap (λ (bytes : List ℕ). from_be_bytes w32 (take 4 (drop 12 bytes))) heads.0 ∙ size_in other.version other.generation (length text_too) (omega (arith, short_too))) in
@@ -82,7 +88,7 @@ one_front cat other rest more p q e =
       ap (λ (s : Schema). record cat { schema = s }) schema
           ∙ (ap (λ (c : List ℕ). record cat { schema = other.schema; counts = c }) count
           ∙ (ap (λ (n : ℕ). record cat { schema = other.schema; counts = other.counts; generation = n }) generation
-          ∙ ap (λ (v : ℕ). record other { version = v }) (p.one_version ∙ sym q.one_version))),
+          ∙ ap (λ (v : ℕ). record other { version = v }) version)),
       counts.1,
     )
 

@@ -366,12 +366,12 @@ is_short false true false false m n k e s = absurd (invalid_is_not_short k e)
 is_short false true false true m n k e s = absurd (whole_is_not_short k e)
 
 record Greets (version kind serial size : ℕ) : Type 0 where
-  version_is : version ≡ 1
+  version_is : version ≡ frame_version
   kind_is : kind ≡ 17
   serial_is : serial ≡ 0
   some : 2 ≤ size
 
-greets : (version kind serial size missing : ℕ) → (version == 1 && kind == 17 && serial == 0 && nat_le 2 size && nat_le size 2040 && nat_le size (missing + 1)) ≡ true → Greets version kind serial size
+greets : (version kind serial size missing : ℕ) → (version == frame_version && kind == 17 && serial == 0 && nat_le 2 size && nat_le size 2040 && nat_le size (missing + 1)) ≡ true → Greets version kind serial size
 greets version kind serial size missing e = record {
   version_is = grind (arith, nat_tests);
   kind_is = grind (arith, nat_tests);

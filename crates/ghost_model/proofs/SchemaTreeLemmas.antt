@@ -5,7 +5,7 @@ use Rattle.std.proofs.lemmas.Bool.{ltb-true, ltb-false, leb-true, and_parts, or_
 use Rattle.std.proofs.lemmas.List.{length-map}
 use Rattle.std.proofs.lemmas.Option.{slice_get-map}
 use Rattle.std.proofs.lemmas.Slice.Eq.{bytes_eq-Decides}
-use Rattle.ghost_model.specs.core.Schema.{Integer, Chars, Column, Table, Schema, columns_or_none, columns_of, column_at, places_of, parent, ancestor}
+use Rattle.ghost_model.specs.core.Schema.{Integer, Chars, is_nullable, Column, Table, Schema, columns_or_none, columns_of, column_at, places_of, parent, ancestor}
 use Rattle.ghost_model.specs.core.Query.{Field}
 use Rattle.ghost_model.specs.refusals.Tokens.{Symbol, Comma, Closing, Semicolon, EndOfText, number_of, is_between}
 use Rattle.ghost_model.specs.refusals.Grammar.{separated}
@@ -228,6 +228,11 @@ lengths_kept tables (CharColumn name digits hidden) most e k =
 lengths_kept tables (IntegerColumn name primary None hidden) most e k = absurd (cc)
 lengths_kept tables (IntegerColumn name primary (Some (To table says_id)) hidden) most e k = absurd (cc)
 
+never_null : (tables : SchemaText) (column : ColumnDeclaration) → is_nullable (column_of tables column).kind ≡ false
+never_null tables (CharColumn name digits hidden) = refl
+never_null tables (IntegerColumn name primary None hidden) = refl
+never_null tables (IntegerColumn name primary (Some (To table says_id)) hidden) = refl
+
 key_is_integer : (tables : SchemaText) (column : ColumnDeclaration) (child : ℕ) → (column_of tables column).child ≡ Some child
     → (column_of tables column).kind ≡ Integer
 key_is_integer tables (CharColumn name digits hidden) child e = absurd (cc)
@@ -382,6 +387,13 @@ module _ (tables : SchemaText) (obeys : MeetsAll (rules_of_schemas tables)) (spe
     text_lengths = λ table column most held e k.
         let w = written table column held e in
         lengths_kept tables w.text most (column_kept table column w.holder w.text w.in_tables w.in_columns) (ap (λ (c : Column). c.kind) w.means ∙ k);
+    nullable_text_lengths = λ table column most held e k.
+        let w = written table column held e in
+        let clash : false ≡ true = sym (never_null tables w.text) ∙ ap is_nullable (ap (λ (c : Column). c.kind) w.means ∙ k) in
+        absurd (cc);
+    not_null = λ table column held e.
+        let w = written table column held e in
+        ap (λ (c : Column). is_nullable c.kind) (sym w.means) ∙ never_null tables w.text;
     references_are_integers = λ table column child held e h.
         let w = written table column held e in
         ap (λ (c : Column). c.kind) (sym w.means) ∙ key_is_integer tables w.text child (ap (λ (c : Column). c.child) w.means ∙ h);

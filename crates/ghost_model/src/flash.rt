@@ -4,7 +4,7 @@ ghost use Rattle.ghost_model.specs.laws.FlashLaws.{HiddenValuesByPlace, HiddenPa
 ghost use Rattle.ghost_model.specs.laws.WorkLaws.{PagesAddUp, ValuesAreCounted};
 ghost use Rattle.ghost_model.specs.laws.ListLaws.{ListsPartition, IdListsPartition, ListsAscend};
 ghost use Rattle.ghost_model.specs.examples.Slots.{RangesOfSlots, OrderOfSlots, DamagedSlots};
-ghost use Rattle.ghost_model.specs.examples.Flash.{CellsOfTheClinic, IndexesOfTheClinic, HoldingsOfTheClinic, PagesOfTheClinic};
+ghost use Rattle.ghost_model.specs.examples.Flash.{CellsOfTheClinic, IndexesOfTheClinic, HoldingsOfTheClinic, FreshDevices, PagesOfTheClinic};
 
 /// Where a row of the hidden part has the value of a hidden column.
 pub fn hidden_values_by_place()
@@ -46,7 +46,7 @@ pub fn pages_add_up()
     ensures { PagesAddUp }
 {}
 
-/// Static files and the catalog are held as long as their pages stay.
+/// Static files, the catalog, the gate and the headers are held as long as their pages stay.
 pub fn holdings_are_kept()
     ensures { HoldingsAreKept }
 {}
@@ -89,6 +89,11 @@ pub fn indexes_of_the_clinic()
 /// All its pages hold it, and do not with a byte changed.
 pub fn holdings_of_the_clinic()
     ensures { HoldingsOfTheClinic }
+{}
+
+/// The gate and the headers of devices that were just loaded.
+pub fn fresh_devices()
+    ensures { FreshDevices }
 {}
 
 /// Some of its pages, pages that do not hold it, and how many pages are built.

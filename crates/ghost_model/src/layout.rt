@@ -1,7 +1,7 @@
 //! Examples and laws of the layout of the flash.
 
 ghost use Rattle.ghost_model.specs.laws.LayoutLaws.{FilesFollow, FollowingRunsStandApart, FilesLieAsSummed, FilesLieInOrder, AreasAreWholeBlocks, RecordsStandWithin, CatalogsAreLimited, LayoutIsSmall, LevelsAreAncestors, SumsByPlace};
-ghost use Rattle.ghost_model.specs.examples.Layout.{LayoutOfTheClinic, LayoutOfTheNotes, LayoutsOfLargerDatabases};
+ghost use Rattle.ghost_model.specs.examples.Layout.{LayoutOfTheClinic, LayoutAtVersionOne, PublicPages, RowsAndRoom, LayoutOfTheNotes, LayoutsOfLargerDatabases};
 
 /// Files and areas follow one another.
 pub fn files_follow()
@@ -23,7 +23,7 @@ pub fn files_lie_in_order()
     ensures { FilesLieInOrder }
 {}
 
-/// The areas of spool and scratch begin at blocks, and a device is of whole blocks.
+/// The areas of spool and scratch and those for appended rows begin at blocks, and a device is of whole blocks.
 pub fn areas_are_whole_blocks()
     ensures { AreasAreWholeBlocks }
 {}
@@ -56,6 +56,21 @@ pub fn levels_are_ancestors()
 /// Where each file and area of the clinic lies.
 pub fn layout_of_the_clinic()
     ensures { LayoutOfTheClinic }
+{}
+
+/// Where they lie at version 1.
+pub fn layout_at_version_one()
+    ensures { LayoutAtVersionOne }
+{}
+
+/// Which pages are public, at both versions.
+pub fn public_pages()
+    ensures { PublicPages }
+{}
+
+/// How many rows there are, and for how many there is room.
+pub fn rows_and_room()
+    ensures { RowsAndRoom }
 {}
 
 /// Where each file and area of the notes lies.

@@ -2,7 +2,7 @@
 
 ghost use Rattle.ghost_model.specs.laws.MeaningLaws.{RowsLeadToRows, FilesSpellADatabase, FilesKeepTheRowLimit, LongFilesAreToldFirst, SplitIsRejoined, PublicPartsGoWithCatalogs, ImagesAreAsLong, OneRowEach};
 ghost use Rattle.ghost_model.specs.laws.SplitByFlags.{PartsByFlags};
-ghost use Rattle.ghost_model.specs.examples.Databases.{ClinicIsSpelled, IntegersOfFields, RecordsOfFiles, HeadersOfFiles, OneRuleBroken, TwoRulesBroken, PartsOfRows, NoShorterImage};
+ghost use Rattle.ghost_model.specs.examples.Databases.{ClinicIsSpelled, IntegersOfFields, ValuesOfFields, ComparisonsWithNull, RecordsOfFiles, HeadersOfFiles, OneRuleBroken, TwoRulesBroken, PartsOfRows, NoShorterImage};
 ghost use Rattle.ghost_model.specs.examples.Meaning.{PartsOfTheClinic, AnswersOfTheClinic, RefusedTexts, LinesOfRows};
 
 /// The clinic's files spell its database.
@@ -13,6 +13,16 @@ pub fn clinic_is_spelled()
 /// The integers that fields spell.
 pub fn integers_of_fields()
     ensures { IntegersOfFields }
+{}
+
+/// The values of fields in columns of each kind, and their faults.
+pub fn values_of_fields()
+    ensures { ValuesOfFields }
+{}
+
+/// No comparison with NULL is true.
+pub fn comparisons_with_null()
+    ensures { ComparisonsWithNull }
 {}
 
 /// The records of some files.

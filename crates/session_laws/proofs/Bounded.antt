@@ -72,11 +72,11 @@ record Greets (kind size missing : ℕ) : Type 0 where
   few : size ≤ missing + 1
 
 greets : (version kind serial size missing : ℕ)
-    → (version == 1 && kind == 17 && serial == 0 && nat_le 2 size && nat_le size 2040 && nat_le size (missing + 1)) ≡ true → Greets kind size missing
+    → (version == frame_version && kind == 17 && serial == 0 && nat_le 2 size && nat_le size 2040 && nat_le size (missing + 1)) ≡ true → Greets kind size missing
 greets version kind serial size missing e = record { kind_is = grind (arith, nat_tests); some = grind (arith, nat_tests); few = grind (arith, nat_tests) }
 
 piece_of_greeting : (part : List ℕ) → nat_lt (length part) (8 + size_in part) ≡ false → (missing : List ℕ) (last : ℕ) (piece : List ℕ) → frame_in part ≡ WelcomeFrame last piece
-    → (version_in part == 1 && kind_in part == 17 && serial_in part == 0 && nat_le 2 (size_in part) && nat_le (size_in part) 2040 && nat_le (size_in part) (length missing + 1)) ≡ true
+    → (version_in part == frame_version && kind_in part == 17 && serial_in part == 0 && nat_le 2 (size_in part) && nat_le (size_in part) 2040 && nat_le (size_in part) (length missing + 1)) ≡ true
     → bytes_eq piece (take (length piece) missing) ≡ true → IsPiece missing piece
 piece_of_greeting part enough missing last piece is header same =
     let g = greets (version_in part) (kind_in part) (serial_in part) (size_in part) (length missing) header in

@@ -16,19 +16,19 @@ abbrev pub doctors_journal : Journal
 doctors_journal =
     dialled []
     ∷ sends (HelloFrame 1)
-    ∷ takes 8 (codes "1101016e00000000")
+    ∷ takes 8 (codes "1102016e00000000")
     ∷ welcomed clinic_catalog
     ∷ sends (AskFrame 1 (hex (codes "00010100")))
-    ∷ takes 8 (codes "1201000c00000001")
+    ∷ takes 8 (codes "1202000c00000001")
     ∷ takes 12 (codes "0000000163617264696f0000")
     ∷ sends (MoreFrame 1)
-    ∷ takes 8 (codes "1201000c00000001")
+    ∷ takes 8 (codes "1202000c00000001")
     ∷ takes 12 (codes "000000026e6575726f000000")
     ∷ sends (MoreFrame 1)
-    ∷ takes 8 (codes "1201000c00000001")
+    ∷ takes 8 (codes "1202000c00000001")
     ∷ takes 12 (codes "0000000363617264696f0000")
     ∷ sends (MoreFrame 1)
-    ∷ takes 8 (codes "1301000400000001")
+    ∷ takes 8 (codes "1302000400000001")
     ∷ takes 4 (codes "00000003")
     ∷ sends ByeFrame
     ∷ closed

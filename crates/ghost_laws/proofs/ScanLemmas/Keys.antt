@@ -7,7 +7,7 @@ use Rattle.std.specs.declared.cmp.Ordering.TheVariants as order
 use Rattle.std.proofs.lemmas.List.Sums.{sum_by-cons}
 use Rattle.ghost_model.specs.core.Schema.{Schema, Column, Table, column_at, parent, is_table, references_to, first_of, places_from, ancestor}
 use Rattle.ghost_model.specs.laws.SchemaTrees.{IsTree}
-use Rattle.ghost_model.specs.core.Values.{Value, Number, Text, Row, Database}
+use Rattle.ghost_model.specs.core.Values.{Value, Null, Number, Text, Row, Database}
 use Rattle.ghost_model.specs.core.Query.{Query, Field, Condition, Compare, Join}
 use Rattle.ghost_model.specs.core.Query as query
 use Rattle.ghost_model.specs.refusals.QueryMeaning.{is_reference_to, is_join_of}
@@ -136,6 +136,7 @@ join_holds value at (Join one other) = compares query.Equal (seen value at one) 
 
 identifier_back : (o : Option Value) (identifier : ℕ) → identifier_in o ≡ Some identifier → o ≡ Some (Number (pos identifier))
 identifier_back None identifier h = cc
+identifier_back (Some Null) identifier h = let bad : ⊥ = cc in absurd bad
 identifier_back (Some (Text text)) identifier h = let bad : ⊥ = cc in absurd bad
 identifier_back (Some (Number (pos n))) identifier h = ap (λ o. Some (Number (pos (unwrap_or o n)))) h
 identifier_back (Some (Number (negsuc n))) identifier h = let bad : ⊥ = cc in absurd bad

@@ -1,19 +1,20 @@
 -- A row with one value for each selected column of an accepted query has a short line.
-use Rattle.std.proofs.Common.{◌≡◌, ℕ, zero, suc, ◌+◌, ◌*◌, ◌≤◌, ◌^◌, pos, negsuc, true, false, List, [], ◌∷◌, ◌++◌, map, flat_map, length, sym, ap, subst, refl, arith, Option, Some, None, nat_lt, nat_le, leb-true, length-append, codes}
+use Rattle.std.proofs.Common.{◌≡◌, ℕ, zero, suc, ◌+◌, ◌*◌, ◌≤◌, ◌^◌, ℤ, pos, negsuc, true, false, List, [], ◌∷◌, ◌++◌, map, flat_map, length, sym, ap, ◌∙◌, subst, refl, arith, Option, Some, None, nat_lt, nat_le, leb-true, length-append, codes}
 use Rattle.std.specs.Prelude.{decimal}
+use Rattle.std.specs.Fmt.{signed_decimal}
 use Rattle.std.specs.List.{list_all, list_any, join_with_byte}
 use Rattle.std.proofs.lemmas.Bool.{ltb-true, ltb-false, le-leb}
 use Rattle.std.proofs.lemmas.Fmt.{length-decimal-le}
 use Rattle.std.proofs.lemmas.List.{length-map}
-use Rattle.ghost_model.specs.core.Schema.{Schema, Column, Kind, Integer, Chars, column_at}
+use Rattle.ghost_model.specs.core.Schema.{Schema, Column, Kind, Integer, Chars, IntegerOrNull, CharsOrNull, plain_of, column_at}
 use Rattle.ghost_model.specs.laws.SchemaTrees.{IsTree}
-use Rattle.ghost_model.specs.core.Values.{Value, Number, Text, Row}
+use Rattle.ghost_model.specs.core.Values.{Value, Null, Number, Text, Row}
 use Rattle.ghost_model.specs.core.Query.{Query, Field}
 use Rattle.ghost_model.specs.refusals.QueryGrammar.{ColumnText, Selection, All, Columns, QueryText}
 use Rattle.ghost_model.specs.refusals.QueryMeaning.{meanings, from_tables, selected_fields, selected_count, columns_in, selection_columns, Means}
 use Rattle.ghost_model.proofs.QueryReadingLemmas.{kept_rules}
 use Rattle.ghost_model.specs.refusals.Tokens.{is_printable}
-use Rattle.ghost_model.specs.core.Database.{is_of_kind}
+use Rattle.ghost_model.specs.core.Database.{is_of_kind, is_text, fits_integer}
 use Rattle.ghost_model.specs.core.Asks.{kind_or_none, kind_at}
 use Rattle.ghost_model.specs.core.Split.{are_of_kinds}
 use Rattle.ghost_model.specs.core.Printed.{field_text}
@@ -55,28 +56,52 @@ select_few schema text asked means =
 number_short : (n : ℕ) → n ≤ 2 ^ 63 → length (decimal n) ≤ 20
 number_short n h = length-decimal-le 20 n (omega arith) (omega (arith, h)) (omega (arith, h))
 
-value_short : (kind : Kind) → ((most : ℕ) → kind ≡ Chars most → most ≤ 64) → (value : Value) → is_of_kind kind value ≡ true
-    → length (field_text value) ≤ 64
-value_short Integer few (Number (pos n)) h =
+integer_short : (number : ℤ) → fits_integer number ≡ true → length (signed_decimal number) ≤ 64
+integer_short (pos n) h =
     let within = ltb-true n (2 ^ 63) h in
     let short = number_short n (omega (arith, within)) in
     omega (arith, short)
-value_short Integer few (Number (negsuc n)) h =
+integer_short (negsuc n) h =
     let within = ltb-true n (2 ^ 63) h in
     let short = number_short (suc n) (omega (arith, within)) in
     omega (arith, short)
-value_short Integer few (Text text) h = let bad : ⊥ = cc in absurd bad
-value_short (Chars most) few (Number number) h = let bad : ⊥ = cc in absurd bad
-value_short (Chars most) few (Text text) h =
+
+text_short : (most : ℕ) (text : List ℕ) → most ≤ 64 → is_text most text ≡ true → length text ≤ 64
+text_short most text few h =
     let within = leb-true (length text) most (both_true (nat_le (length text) most) (list_all is_printable text) h).0 in
-    let limit = few most refl in
-    omega (arith, within, limit)
+    omega (arith, within, few)
+
+-- the text of NULL is empty
+value_short : (kind : Kind) → ((most : ℕ) → plain_of kind ≡ Chars most → most ≤ 64) → (value : Value) → is_of_kind kind value ≡ true
+    → length (field_text value) ≤ 64
+value_short kind few Null h = omega arith
+value_short Integer few (Number number) h = integer_short number h
+value_short IntegerOrNull few (Number number) h = integer_short number h
+value_short Integer few (Text text) h = let bad : ⊥ = cc in absurd bad
+value_short IntegerOrNull few (Text text) h = let bad : ⊥ = cc in absurd bad
+value_short (Chars most) few (Number number) h = let bad : ⊥ = cc in absurd bad
+value_short (CharsOrNull most) few (Number number) h = let bad : ⊥ = cc in absurd bad
+value_short (Chars most) few (Text text) h = text_short most text (few most refl) h
+value_short (CharsOrNull most) few (Text text) h = text_short most text (few most refl) h
+
+-- how long the texts of a kind may be
+abbrev length_in : Kind → ℕ
+length_in (Chars most) = most
+length_in kind = 0
 
 module _ (schema : Schema) (tree : IsTree schema) where
-  texts_short : (table column : ℕ) (o : Option Column) → column_at schema table column ≡ o → (most : ℕ) → kind_or_none o ≡ Chars most → most ≤ 64
+  texts_in : (table column : ℕ) (held : Column) → column_at schema table column ≡ Some held → (kind : Kind) → held.kind ≡ kind
+      → (most : ℕ) → plain_of kind ≡ Chars most → most ≤ 64
+  texts_in table column held h Integer is most same = let bad : ⊥ = cc in absurd bad
+  texts_in table column held h IntegerOrNull is most same = let bad : ⊥ = cc in absurd bad
+  texts_in table column held h (Chars other) is most same = (tree.text_lengths table column most held h (is ∙ same)).1
+  texts_in table column held h (CharsOrNull other) is most same =
+      (tree.nullable_text_lengths table column most held h (is ∙ ap (λ kind. CharsOrNull (length_in kind)) same)).1
+
+  texts_short : (table column : ℕ) (o : Option Column) → column_at schema table column ≡ o → (most : ℕ) → plain_of (kind_or_none o) ≡ Chars most → most ≤ 64
   texts_short table column None h zero same = omega arith
   texts_short table column None h (suc most) same = let bad : ⊥ = cc in absurd bad
-  texts_short table column (Some declared) h most same = (tree.text_lengths table column most declared h same).1
+  texts_short table column (Some declared) h most same = texts_in table column declared h declared.kind refl most same
 
   each_short : (select : List Field) (row : Row) → are_of_kinds (map (λ (one : Field). kind_at schema one.table one.column) select) row ≡ true
       → (length row ≡ length select) × Each (λ (text : List ℕ). length text ≤ 64) (map field_text row)

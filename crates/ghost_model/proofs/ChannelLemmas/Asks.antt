@@ -2,22 +2,23 @@
 use Rattle.std.proofs.Common.{◌≡◌, ℕ, zero, suc, ◌+◌, ◌-◌, ◌<◌, ◌≤◌, ◌^◌, Bool, true, false, ◌&&◌, List, [], ◌∷◌, ◌++◌, length, take, drop, slice_index, replicate, ◌∙◌, ap, subst, refl, arith, length-append, Option, Some, None, pos, negsuc, ℤ}
 use Rattle.std.specs.Prelude.{◌==◌, nat_le, if◌then◌else◌, bytes_eq, flat_map}
 use Rattle.std.specs.List.{list_all, prefix_len}
+use Rattle.std.specs.Int.{to_be_bytes, w64}
 use Rattle.std.proofs.lemmas.List.{length-replicate}
 use Rattle.std.proofs.lemmas.Nat.{from_be_bytes-to_be_bytes_8}
 use Rattle.std.proofs.lemmas.Bool.Decides.{nat_tests}
 use Rattle.std.proofs.lemmas.Bool.{ltb-true, leb-true}
 use Rattle.std.proofs.lemmas.Slice.Eq.{bytes_eq-Decides}
 use Rattle.std.proofs.Math.Seq.{drop-append_seam}
-use Rattle.ghost_model.specs.core.Schema.{Schema, Kind, Integer, Chars}
+use Rattle.ghost_model.specs.core.Schema.{Schema, Kind, Integer, Chars, IntegerOrNull, CharsOrNull}
 use Rattle.ghost_model.specs.core.Query.{Operator, Equal, Unequal, Less, AtMost, More, AtLeast}
 use Rattle.ghost_model.specs.core.Channel.{Ask, Test}
 use Rattle.ghost_model.specs.core.Asks as asks
 use Rattle.ghost_model.specs.readings.AskReading as reading
-use Rattle.ghost_model.specs.core.Values.{Value, Number, Text}
+use Rattle.ghost_model.specs.core.Values.{Value, Null, Number, Text}
 use Rattle.ghost_model.specs.refusals.Tokens.{is_printable}
-use Rattle.ghost_model.specs.core.Database.{is_of_kind, fits_integer}
+use Rattle.ghost_model.specs.core.Database.{is_of_kind, is_text, fits_integer}
 use Rattle.ghost_model.specs.forms.Cells.{cell_width, encode_cell, above_lowest, padded}
-use Rattle.ghost_model.specs.readings.CellReading.{decode_cell, from_lowest, text_in, is_text_cell, is_not_zero}
+use Rattle.ghost_model.specs.readings.CellReading.{decode_cell, integer_spelled, text_spelled, is_zero, from_lowest, text_in, is_text_cell, is_not_zero}
 use Rattle.ghost_model.proofs.ChannelLemmas.Tests.{false_is_not, both_hold, hold_both, take_front, drop_front, BothHold}
 
 -- an integer of 64 bits, its distance to the lowest and back
@@ -88,14 +89,13 @@ is_padded_text most text e =
 decoded_if : (ok : Bool) (value other : Value) → ok ≡ true → value ≡ other → (if ok then Some value else None) ≡ Some other
 decoded_if ok value other e f = rw (e, f)
 
--- the cell of a value of its kind spells that value
-pub cell_is_read : (kind : Kind) (value : Value) → is_of_kind kind value ≡ true → decode_cell kind (encode_cell kind value) ≡ Some value
-cell_is_read Integer (Number z) e =
+integer_is_read : (z : ℤ) → fits_integer z ≡ true → integer_spelled (to_be_bytes w64 (above_lowest z)) ≡ Some (Number z)
+integer_is_read z e =
     ap (λ (n : ℕ). Some (Number (from_lowest n))) (from_be_bytes-to_be_bytes_8 (above_lowest z) (distance_bound z e))
     ∙ ap (λ (n : ℤ). Some (Number n)) (back_from_lowest z e)
-cell_is_read Integer (Text _) e = absurd (false_is_not e)
-cell_is_read (Chars most) (Number _) e = absurd (false_is_not e)
-cell_is_read (Chars most) (Text text) e =
+
+text_is_read : (most : ℕ) (text : List ℕ) → is_text most text ≡ true → text_spelled most (padded most text) ≡ Some (Text text)
+text_is_read most text e =
     let both : BothHold (nat_le (length text) most) (list_all is_printable text) = both_hold _ _ e in
     let short : length text ≤ most = leb-true (length text) most both.one in
     let size : (length (padded most text) == most) ≡ true = ap (λ (n : ℕ). n == most) (padded_length most text short) ∙ same_number most in
@@ -103,14 +103,44 @@ cell_is_read (Chars most) (Text text) e =
     (hold_both _ _ size (is_padded_text most text both.other))
     (ap (λ (t : List ℕ). Text t) (text_of_padded text (most - length text) both.other))
 
+all_zero_bytes : (most : ℕ) → (length (replicate {A = ℕ} most 0) == most && is_zero (replicate most 0)) ≡ true
+all_zero_bytes most =
+    hold_both _ _ (ap (λ (n : ℕ). n == most) (length-replicate {A = ℕ} most 0) ∙ same_number most) (all_zero most)
+
+-- the cell of a value of its kind spells that value
+pub cell_is_read : (kind : Kind) (value : Value) → is_of_kind kind value ≡ true → decode_cell kind (encode_cell kind value) ≡ Some value
+cell_is_read Integer (Number z) e = integer_is_read z e
+cell_is_read Integer (Text _) e = absurd (false_is_not e)
+cell_is_read Integer Null e = absurd (false_is_not e)
+cell_is_read (Chars most) (Number _) e = absurd (false_is_not e)
+cell_is_read (Chars most) (Text text) e = text_is_read most text e
+cell_is_read (Chars most) Null e = absurd (false_is_not e)
+cell_is_read IntegerOrNull (Number z) e = integer_is_read z e
+cell_is_read IntegerOrNull (Text _) e = absurd (false_is_not e)
+cell_is_read IntegerOrNull Null e = refl
+cell_is_read (CharsOrNull most) (Number _) e = absurd (false_is_not e)
+cell_is_read (CharsOrNull most) (Text text) e = text_is_read most text e
+cell_is_read (CharsOrNull most) Null e = decoded_if _ Null Null (all_zero_bytes most) refl
+
+text_cell_length : (most : ℕ) (text : List ℕ) → is_text most text ≡ true → length (padded most text) ≡ most
+text_cell_length most text e =
+    let both : BothHold (nat_le (length text) most) (list_all is_printable text) = both_hold _ _ e in
+    padded_length most text (leb-true (length text) most both.one)
+
 -- the cell of a value of its kind has its width
 pub cell_length : (kind : Kind) (value : Value) → is_of_kind kind value ≡ true → length (encode_cell kind value) ≡ cell_width kind
 cell_length Integer (Number z) e = refl
 cell_length Integer (Text _) e = absurd (false_is_not e)
+cell_length Integer Null e = absurd (false_is_not e)
 cell_length (Chars most) (Number _) e = absurd (false_is_not e)
-cell_length (Chars most) (Text text) e =
-    let both : BothHold (nat_le (length text) most) (list_all is_printable text) = both_hold _ _ e in
-    padded_length most text (leb-true (length text) most both.one)
+cell_length (Chars most) (Text text) e = text_cell_length most text e
+cell_length (Chars most) Null e = absurd (false_is_not e)
+cell_length IntegerOrNull (Number z) e = refl
+cell_length IntegerOrNull (Text _) e = absurd (false_is_not e)
+cell_length IntegerOrNull Null e = refl
+cell_length (CharsOrNull most) (Number _) e = absurd (false_is_not e)
+cell_length (CharsOrNull most) (Text text) e = ap suc (text_cell_length most text e)
+cell_length (CharsOrNull most) Null e = length-replicate {A = ℕ} (suc most) 0
 
 operator_back : (operator : Operator) → reading.operator_of (asks.operator_code operator) ≡ operator
 operator_back Equal = refl

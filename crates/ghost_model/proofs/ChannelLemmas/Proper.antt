@@ -9,8 +9,8 @@ use Rattle.std.proofs.lemmas.List.Folds.{list_all-append, list_all-map}
 use Rattle.std.proofs.lemmas.Grind.{flat_map-append}
 use Rattle.std.proofs.lemmas.List.Sums.{sum_by-cons}
 use Rattle.std.proofs.lemmas.Bool.{ltb-false, lt-ltb, le-leb}
-use Rattle.ghost_model.specs.core.Schema.{Schema, Column, Kind, Integer, Chars, columns_of, column_at, is_visible, is_shown, places_from}
-use Rattle.ghost_model.specs.core.Values.{Value, Number, Text}
+use Rattle.ghost_model.specs.core.Schema.{Schema, Column, Kind, Integer, Chars, IntegerOrNull, CharsOrNull, columns_of, column_at, is_visible, is_shown, places_from}
+use Rattle.ghost_model.specs.core.Values.{Value, Null, Number, Text}
 use Rattle.ghost_model.specs.core.Query.{Query, Field, Condition, Compare, Join, AtLeast, AtMost}
 use Rattle.ghost_model.specs.core.Channel.{Test}
 use Rattle.ghost_model.specs.refusals.Tokens.{Symbol, Quoted, EndOfText, Word, AndWord, Comma, is_printable, symbols}
@@ -136,6 +136,7 @@ ascending q before at (x ∷ xs) h =
 
 -- a value that breaks no rule of literals is of its column's kind; `printable` says that a text is
 abbrev is_plain : Value → Bool
+is_plain Null = false
 is_plain (Number _) = true
 is_plain (Text bytes) = list_all is_printable bytes
 
@@ -144,10 +145,15 @@ not_not true e = refl
 not_not false e = absurd (false_is_not (sym e))
 
 by_kind : (kind : Kind) (value : Value) → meaning.is_other_kind (Some kind) value ≡ false → meaning.is_too_large (Some kind) value ≡ false → is_plain value ≡ true → is_of_kind kind value ≡ true
+by_kind kind Null a b c = absurd (false_is_not c)
 by_kind Integer (Number z) a b c = not_not (fits_integer z) b
 by_kind Integer (Text text) a b c = absurd (false_is_not (sym a))
 by_kind (Chars most) (Number z) a b c = absurd (false_is_not (sym a))
 by_kind (Chars most) (Text text) a b c = hold_both _ _ (le-leb (length text) most (ltb-false most (length text) b)) c
+by_kind IntegerOrNull (Number z) a b c = not_not (fits_integer z) b
+by_kind IntegerOrNull (Text text) a b c = absurd (false_is_not (sym a))
+by_kind (CharsOrNull most) (Number z) a b c = absurd (false_is_not (sym a))
+by_kind (CharsOrNull most) (Text text) a b c = hold_both _ _ (le-leb (length text) most (ltb-false most (length text) b)) c
 
 by_column : (o : Option Column) (value : Value) → is_shown o ≡ true → meaning.is_other_kind (option_map (λ column. column.kind) o) value ≡ false → meaning.is_too_large (option_map (λ column. column.kind) o) value ≡ false → is_plain value ≡ true → is_of_kind (asks.kind_or_none o) value ≡ true
 by_column None value e a b c = absurd (false_is_not e)

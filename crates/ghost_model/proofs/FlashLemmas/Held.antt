@@ -1,5 +1,5 @@
 -- What column files give, and how long files are held.
-use Rattle.std.proofs.Common.{◌≡◌, ap, sym, subst, ◌∙◌, ℕ, suc, ◌+◌, ◌-◌, ◌*◌, ◌/◌, ◌<◌, ◌≤◌, true, false, cond, List, [], ◌∷◌, length, map, replicate, slice_index, get_or, arith}
+use Rattle.std.proofs.Common.{◌≡◌, ap, sym, subst, ◌∙◌, ℕ, suc, ◌+◌, ◌-◌, ◌*◌, ◌/◌, ◌<◌, ◌≤◌, true, false, cond, ◌==◌, List, [], ◌∷◌, length, map, replicate, slice_index, get_or, arith}
 use Rattle.std.specs.List.{concat}
 use Rattle.std.proofs.Math.Nat.{div-mul-le_self}
 use Rattle.std.proofs.lemmas.Nat.{le-div}
@@ -14,13 +14,14 @@ use Rattle.ghost_model.specs.core.Split.{Hidden}
 use Rattle.ghost_model.specs.core.Replies.{hidden_value}
 use Rattle.ghost_model.specs.forms.Runs.{Run, Stores, record_at, run_end, run_pages, per_page, number_cell}
 use Rattle.ghost_model.specs.forms.Gaps.{StoresBytes, level_bytes}
+use Rattle.ghost_model.specs.forms.Catalog.{current_version}
 use Rattle.ghost_model.specs.laws.RunLaws.{AgreeOn}
-use Rattle.ghost_model.specs.forms.Layout.{is_hidden, count_of, levels_of, above_of, descendants_of, public_pages, files_end}
+use Rattle.ghost_model.specs.forms.Layout.{is_hidden, count_of, levels_of, above_of, descendants_of, catalog_pages, public_pages, gate_page, header_page, fresh_half, files_end}
 use Rattle.ghost_model.specs.laws.ShortWords.{column_count, column_file, subtree_table, index_header, index_directory, index_level, id_directory, id_level}
 use Rattle.ghost_model.specs.laws.LayoutSums.{column_pages, columns_pages, column_begin, column_pages_before, subtree_begin, subtree_pages, directory_width, directory_pages, level_pages, levels_pages, index_begin, index_pages, index_pages_before, indexes_pages, id_index_begin, id_index_pages, id_directory_pages, table_begin, table_pages}
 use Rattle.ghost_model.specs.laws.LayoutSums as sums
 use Rattle.ghost_model.specs.laws.LayoutLaws.{AreNarrow, LieAsSummed, LieInOrder}
-use Rattle.ghost_model.specs.forms.Flash.{HoldsColumns, HoldsSubtrees, HoldsLists, HoldsIndex, HoldsFiles, hidden_cells, subtree_record, ids, directory_records, value_lists, id_lists}
+use Rattle.ghost_model.specs.forms.Flash.{HoldsColumns, HoldsSubtrees, HoldsLists, HoldsIndex, HoldsFiles, HoldsFresh, hidden_cells, subtree_record, ids, directory_records, value_lists, id_lists}
 use Rattle.ghost_model.specs.laws.FlashLaws.{GoesWith, HoldingsAreKept}
 use Rattle.ghost_model.proofs.RunLemmas.{run_kept}
 use Rattle.ghost_model.proofs.LayoutLemmas.Numbers.{some_per_page}
@@ -81,7 +82,7 @@ module _ (page other : ℕ → List ℕ) (cat : Catalog) (hidden : Hidden) (tree
 
   -- a directory with level files behind it, whose lists are no longer than their tables
   lists_kept : (directory : Run) (level_file : ℕ → Run) (begin : ℕ) (heads : List (List ℕ)) (tables : List ℕ) (lists : ℕ → List (List ℕ))
-      → 0 < directory.width → directory.width ≤ 160 → run_end directory ≤ begin
+      → 0 < directory.width → directory.width ≤ 161 → run_end directory ≤ begin
       → ((level : ℕ) → level < length tables → level_file level ≡ sums.level_file cat begin tables level)
       → ((table : ℕ) → length (concat (lists table)) ≤ count_of cat table)
       → AgreeOn page other directory.first (begin + levels_pages cat tables)
@@ -144,7 +145,7 @@ module _ (page other : ℕ → List ℕ) (cat : Catalog) (hidden : Hidden) (tree
       (λ at low high. agree at (omega (arith, low, first)) (omega (arith, high, size)))
 
   -- each part of a table lies among the static files
-  table_within : (table : ℕ) → table < length cat.schema → (public_pages ≤ table_begin cat table) × (table_begin cat table + table_pages cat table ≤ files_end cat)
+  table_within : (table : ℕ) → table < length cat.schema → (public_pages cat ≤ table_begin cat table) × (table_begin cat table + table_pages cat table ≤ files_end cat)
   table_within table low =
       let order : LieInOrder cat = lie_in_order cat in
       let next = order.next_table table in
@@ -166,20 +167,20 @@ module _ (page other : ℕ → List ℕ) (cat : Catalog) (hidden : Hidden) (tree
       let rise = sums_rise (column_pages cat table) (column + 1) (column_count cat.schema table) (let low = column_there cat.schema table column h in omega (arith, low)) in
       omega (arith, next, rise)
 
-  columns_kept : AgreeOn page other public_pages (files_end cat) → HoldsColumns page cat hidden → HoldsColumns other cat hidden
+  columns_kept : AgreeOn page other (public_pages cat) (files_end cat) → HoldsColumns page cat hidden → HoldsColumns other cat hidden
   columns_kept agree holds table column h =
       let at = table_within table (table_there cat.schema table column h) in
       let within = column_within table column h in
       column_kept table column h
       (λ k low high. agree k (let from = at.0 in omega (arith, from, low)) (let to = at.1 in omega (arith, to, high, within))) (holds table column h)
 
-  subtrees_kept : AgreeOn page other public_pages (files_end cat) → HoldsSubtrees page cat hidden → HoldsSubtrees other cat hidden
+  subtrees_kept : AgreeOn page other (public_pages cat) (files_end cat) → HoldsSubtrees page cat hidden → HoldsSubtrees other cat hidden
   subtrees_kept agree holds table low h =
       let at = table_within table low in
       subtree_kept table low h
       (λ k from to. agree k (let begin = at.0 in omega (arith, begin, from)) (let end = at.1 in omega (arith, end, to))) (holds table low h)
 
-  files_kept : AgreeOn page other public_pages (files_end cat) → HoldsFiles page cat hidden → HoldsFiles other cat hidden
+  files_kept : AgreeOn page other (public_pages cat) (files_end cat) → HoldsFiles page cat hidden → HoldsFiles other cat hidden
   files_kept agree holds = record {
     columns = columns_kept agree holds.columns;
     subtrees = subtrees_kept agree holds.subtrees;
@@ -194,8 +195,22 @@ module _ (page other : ℕ → List ℕ) (cat : Catalog) (hidden : Hidden) (tree
         (λ k from to. agree k (let begin = at.0 in omega (arith, begin, from)) (let end = at.1 in omega (arith, end, to))) (holds.id_indexes table low h);
   }
 
+-- at version 2 the gate and both headers stand on public pages
+fresh_kept : (page other : ℕ → List ℕ) (cat : Catalog) → cat.version ≡ current_version → AgreeOn page other catalog_pages (public_pages cat)
+    → HoldsFresh page cat → HoldsFresh other cat
+fresh_kept page other cat current agree holds =
+    let public : public_pages cat ≡ 256 = ap (λ version. cond (version == 1) catalog_pages 256) current in
+    record {
+      counts = record {
+        gate = agree gate_page (omega arith) (omega (arith, public)) ∙ holds.counts.gate;
+        header = agree (header_page (fresh_half cat)) (omega arith) (omega (arith, public)) ∙ holds.counts.header;
+      };
+      blank = λ place low high neither. agree place low high ∙ holds.blank place low high neither;
+    }
+
 pub kept : HoldingsAreKept
 kept = record {
   files = λ page other cat hidden tree agree holds. files_kept page other cat hidden tree agree holds;
   catalog = λ page other cat agree holds place low. agree place (omega arith) low ∙ holds place low;
+  fresh = fresh_kept;
 }

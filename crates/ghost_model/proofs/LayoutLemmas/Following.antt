@@ -1,13 +1,13 @@
 -- The structures and areas of a catalog follow one another.
-use Rattle.std.proofs.Common.{◌≡◌, refl, ap, sym, ◌∙◌, subst, ℕ, zero, suc, ◌+◌, ◌-◌, ◌*◌, ◌<◌, ◌≤◌, Bool, true, false, not, cond, List, [], ◌∷◌, ◌++◌, length, map, filter, flat_map, sum_by, arith}
+use Rattle.std.proofs.Common.{◌≡◌, refl, ap, sym, ◌∙◌, subst, ℕ, zero, suc, ◌+◌, ◌-◌, ◌*◌, ◌<◌, ◌≤◌, Bool, true, false, not, cond, ◌==◌, List, [], ◌∷◌, ◌++◌, length, map, filter, flat_map, sum_by, arith}
 use Rattle.std.specs.List.{range_with_len}
 use Rattle.std.proofs.Math.Nat.{div-zero}
 use Rattle.std.proofs.lemmas.List.Sums.{sum_by-cons}
 use Rattle.ghost_model.specs.core.Schema.{is_empty}
 use Rattle.ghost_model.specs.core.Channel.{Catalog}
 use Rattle.ghost_model.specs.forms.Runs.{pages_of, per_page}
-use Rattle.ghost_model.specs.forms.Layout.{below, is_hidden, hidden_columns, width_at, levels_of, above_of, descendants_of, count_of, Structure, ColumnFile, SubtreeTable, ClimbingIndex, IdIndex, structures, level_files, files_pages, structure_pages, public_pages, static_end, spool_pages, half_pages, spool_area, visible_columns, spool_end, need}
-use Rattle.ghost_model.specs.laws.ShortWords.{has_spool, spool_areas, scratch_areas, structures_of, column_count}
+use Rattle.ghost_model.specs.forms.Layout.{below, is_hidden, hidden_columns, width_at, levels_of, above_of, descendants_of, count_of, Structure, ColumnFile, SubtreeTable, ClimbingIndex, IdIndex, structures, level_files, files_pages, structure_pages, public_pages, static_end, spool_pages, half_pages, spool_area, visible_columns, spool_end, scratch_pages, scratch_area, scratch_end, need}
+use Rattle.ghost_model.specs.laws.ShortWords.{has_spool, spool_areas, scratch_areas, appended_areas, structures_of, column_count}
 use Rattle.ghost_model.specs.laws.LayoutSums.{column_pages, level_pages, levels_pages, directory_width, directory_pages, index_pages, subtree_width, table_pages, table_begin, column_begin, subtree_begin, indexes_begin, index_begin, id_index_begin}
 use Rattle.ghost_model.specs.laws.LayoutLaws.{LieFrom, Follow, block_room}
 
@@ -110,7 +110,7 @@ begins cat (IdIndex table) = id_index_begin cat table
 abbrev pub file_pages : ℕ × ℕ → ℕ
 file_pages file = pages_of file.0 file.1
 
-no_bytes : (count : ℕ) → pages_of count 0 ≡ 0
+pub no_bytes : (count : ℕ) → pages_of count 0 ≡ 0
 no_bytes count = div-zero (count + (per_page 0 - 1))
 
 pub levels_are : (cat : Catalog) (tables : List ℕ) → files_pages (level_files cat tables) ≡ levels_pages cat tables
@@ -182,9 +182,9 @@ module _ (cat : Catalog) where
       )
 
   pub follow_structures :
-      LieFrom (begins cat) (structure_pages cat) public_pages (structures cat.schema) (table_begin cat (length cat.schema))
+      LieFrom (begins cat) (structure_pages cat) (public_pages cat) (structures cat.schema) (table_begin cat (length cat.schema))
   follow_structures =
-      follow_sums (begins cat) (structure_pages cat) (structures_of cat.schema) (table_pages cat) public_pages (length cat.schema)
+      follow_sums (begins cat) (structure_pages cat) (structures_of cat.schema) (table_pages cat) (public_pages cat) (length cat.schema)
       (λ table low. follow_table table)
 
   -- the spool and scratch
@@ -200,5 +200,15 @@ module _ (cat : Catalog) where
       (λ table h. omega (arith, e))
       (λ table. refl) (λ table. unless (is_empty (visible_columns cat.schema table)) (block_room (spool_area cat half table)))
 
-  pub follow_scratch : Follow block_room (spool_end cat) (scratch_areas cat) (need cat)
-  follow_scratch = (omega arith, (omega arith, (omega arith, (omega arith, (omega arith, (omega arith, omega arith))))))
+  -- six areas, or eight
+  areas_follow : (six : Bool)
+      → Follow block_room (spool_end cat) (map (scratch_area cat) (below (cond six 6 8))) (spool_end cat + cond six 6 8 * scratch_pages cat)
+  areas_follow true = (omega arith, (omega arith, (omega arith, (omega arith, (omega arith, (omega arith, omega arith))))))
+  areas_follow false =
+      (omega arith, (omega arith, (omega arith, (omega arith, (omega arith, (omega arith, (omega arith, (omega arith, omega arith))))))))
+
+  pub follow_scratch : Follow block_room (spool_end cat) (scratch_areas cat) (scratch_end cat)
+  follow_scratch = areas_follow (cat.version == 1)
+
+  pub follow_appended : Follow block_room (scratch_end cat) (appended_areas cat) (need cat)
+  follow_appended = (omega arith, (omega arith, omega arith))

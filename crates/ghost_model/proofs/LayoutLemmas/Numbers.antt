@@ -9,7 +9,7 @@ pub some_per_page : (width : ℕ) → 0 < width → width ≤ 2048 → 0 < per_p
 some_per_page width wide narrow =
     let h : 1 ≤ 2048 / width = le-div 1 2048 width wide (omega (arith, narrow)) in omega (arith, h)
 
-more_times : (n p : ℕ) → (n + 1) * p ≡ n * p + p
+pub more_times : (n p : ℕ) → (n + 1) * p ≡ n * p + p
 more_times n p = let e : n + 1 ≡ suc n = omega arith in ap (λ k. k * p) e ∙ suc-mul n p
 
 few_times : (count p : ℕ) → 0 < p → (count + (p - 1)) / p ≤ count

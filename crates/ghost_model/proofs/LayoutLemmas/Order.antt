@@ -1,17 +1,19 @@
 -- Where the files of tables and columns lie to one another.
-use Rattle.std.proofs.Common.{◌≡◌, refl, ap, ◌∙◌, ℕ, zero, suc, ◌+◌, ◌<◌, ◌≤◌, Bool, true, false, cond, inl, inr, [], ◌∷◌, ◌++◌, length, filter, sum_by, arith}
+use Rattle.std.proofs.Common.{◌≡◌, refl, ap, ◌∙◌, ℕ, zero, suc, ◌+◌, ◌*◌, ◌<◌, ◌≤◌, Bool, true, false, cond, ◌==◌, inl, inr, [], ◌∷◌, ◌++◌, length, filter, sum_by, arith}
 use Rattle.std.specs.List.{range_with_len}
 use Rattle.std.proofs.lemmas.List.{length-append}
 use Rattle.std.proofs.lemmas.List.Elements.{filter-append}
 use Rattle.std.proofs.lemmas.List.Sums.{sum_by-cons, sum_by-append}
 use Rattle.std.proofs.lemmas.Bool.{cases_lt}
+use Rattle.std.proofs.Math.Nat.{mul-le-mul_right}
 use Rattle.ghost_model.specs.core.Schema.{is_visible}
 use Rattle.ghost_model.specs.core.Channel.{Catalog}
 use Rattle.ghost_model.specs.forms.Runs.{run_pages, run_end}
-use Rattle.ghost_model.specs.forms.Layout.{below, is_hidden, is_below, width_at, first_page, files_end, public_pages, spool_pages}
+use Rattle.ghost_model.specs.forms.Layout.{below, is_hidden, is_below, width_at, first_page, files_end, catalog_pages, public_pages, spool_pages, scratch_count, scratch_pages}
 use Rattle.ghost_model.specs.laws.ShortWords.{column_count, column_file}
 use Rattle.ghost_model.specs.laws.LayoutSums.{column_pages, column_begin, index_pages, table_pages, table_begin, subtree_begin}
 use Rattle.ghost_model.specs.laws.LayoutLaws.{LieInOrder}
+use Rattle.ghost_model.proofs.LayoutLemmas.Numbers.{more_times}
 use Rattle.ghost_model.proofs.LayoutLemmas.Following.{sum_below}
 use Rattle.ghost_model.proofs.LayoutLemmas.Places.{table_there, column_there, lie_as_summed, end_is}
 
@@ -91,13 +93,27 @@ module _ (cat : Catalog) where
       let end = end_is cat in
       omega (arith, within, end)
 
-  behind_public : (table column : ℕ) → public_pages ≤ (column_file cat table column).first
+  behind_public : (table column : ℕ) → public_pages cat ≤ (column_file cat table column).first
   unfolding first_page
   behind_public table column = omega arith
 
-  some_pages : public_pages ≤ files_end cat
+  some_pages : public_pages cat ≤ files_end cat
   unfolding files_end
   some_pages = omega arith
+
+  catalog_within : (first : Bool) → catalog_pages ≤ cond first catalog_pages 256
+  catalog_within true = omega arith
+  catalog_within false = omega arith
+
+  six_areas : (first : Bool) → 6 ≤ cond first 6 8
+  six_areas true = omega arith
+  six_areas false = omega arith
+
+  areas_within : (area count size : ℕ) → area < count → area * size + size ≤ count * size
+  areas_within area count size low =
+      let times = more_times area size in
+      let all : (area + 1) * size ≤ count * size = mul-le-mul_right size (omega (arith, low)) in
+      omega (arith, times, all)
 
   pub lie_in_order : LieInOrder cat
   lie_in_order = record {
@@ -117,5 +133,10 @@ module _ (cat : Catalog) where
     static = omega arith;
     spool = omega arith;
     scratch = omega arith;
+    appended = omega arith;
     some = some_pages;
+    catalog = catalog_within (cat.version == 1);
+    six = six_areas (cat.version == 1);
+    areas = λ area low. let within = areas_within area (scratch_count cat) (scratch_pages cat) low in omega (arith, within);
+    rows = omega arith;
   }

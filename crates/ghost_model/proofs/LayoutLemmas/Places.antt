@@ -18,7 +18,7 @@ use Rattle.ghost_model.specs.laws.LayoutSums.{levels_pages, directory_width, id_
 use Rattle.ghost_model.specs.laws.LayoutSums as sums
 use Rattle.ghost_model.specs.laws.LayoutLaws.{LieFrom, Follow, block_room, FollowOneAnother, LieAsSummed}
 use Rattle.ghost_model.proofs.LayoutLemmas.Columns.{hidden_or_none}
-use Rattle.ghost_model.proofs.LayoutLemmas.Following.{follow_on, follow_each, map_single, begins, file_pages, levels_are, follow_structures, follow_spool, follow_scratch}
+use Rattle.ghost_model.proofs.LayoutLemmas.Following.{follow_on, follow_each, map_single, begins, file_pages, levels_are, follow_structures, follow_spool, follow_scratch, follow_appended}
 
 pub table_there : (schema : Schema) (table column : ℕ) → is_hidden schema table column ≡ true → table < length schema
 table_there schema table column h =
@@ -208,14 +208,14 @@ module _ (cat : Catalog) where
       → first_page cat one place ≡ begins cat one + files_pages (take place (files_of cat one))
   unfolding first_page
   place_is one m place =
-      let lies = subst (λ all. LieFrom (begins cat) (structure_pages cat) public_pages all (table_begin cat (length cat.schema))) m.is (follow_structures cat) in
-      let begin = begins_after (begins cat) (structure_pages cat) (is_same one) one (itself one) (same_is one) m.before m.after public_pages (table_begin cat (length cat.schema)) lies in
-      ap (λ all. public_pages + sum_by (structure_pages cat) (before_first (is_same one) all) + files_pages (take place (files_of cat one))) m.is
+      let lies = subst (λ all. LieFrom (begins cat) (structure_pages cat) (public_pages cat) all (table_begin cat (length cat.schema))) m.is (follow_structures cat) in
+      let begin = begins_after (begins cat) (structure_pages cat) (is_same one) one (itself one) (same_is one) m.before m.after (public_pages cat) (table_begin cat (length cat.schema)) lies in
+      ap (λ all. public_pages cat + sum_by (structure_pages cat) (before_first (is_same one) all) + files_pages (take place (files_of cat one))) m.is
       ∙ ap (λ n. n + files_pages (take place (files_of cat one))) begin
 
   pub end_is : files_end cat ≡ table_begin cat (length cat.schema)
   unfolding files_end
-  end_is = whole_room (begins cat) (structure_pages cat) (structures cat.schema) public_pages (table_begin cat (length cat.schema)) (follow_structures cat)
+  end_is = whole_room (begins cat) (structure_pages cat) (structures cat.schema) (public_pages cat) (table_begin cat (length cat.schema)) (follow_structures cat)
 
   first_is : (one : Structure) → Among one (structures cat.schema) → first_page cat one 0 ≡ begins cat one
   first_is one m = let place = place_is one m 0 in omega (arith, place)
@@ -295,9 +295,9 @@ module _ (cat : Catalog) where
   pub follow_one_another : FollowOneAnother cat
   follow_one_another = record {
     files =
-        (subst (λ end. Follow run_pages public_pages (static_files cat) end) (sym end_is)
+        (subst (λ end. Follow run_pages (public_pages cat) (static_files cat) end) (sym end_is)
         (spread (begins cat) (structure_pages cat) (λ one. map (run_of cat one) (below (length (files_of cat one)))) (structures cat.schema)
-        public_pages (table_begin cat (length cat.schema)) (follow_structures cat) follow_files));
+        (public_pages cat) (table_begin cat (length cat.schema)) (follow_structures cat) follow_files));
     rounded = omega arith;
     first_half = follow_spool cat 0 (static_end cat) (omega arith);
     second_half =
@@ -305,4 +305,5 @@ module _ (cat : Catalog) where
         subst (λ after. Follow block_room (static_end cat + half_pages cat) (spool_areas cat 1) after) end
         (follow_spool cat 1 (static_end cat + half_pages cat) (omega arith)));
     scratch = follow_scratch cat;
+    appended = follow_appended cat;
   }

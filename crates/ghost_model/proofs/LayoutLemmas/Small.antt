@@ -1,10 +1,10 @@
 -- Within the limits of schemas and rows the widths of records fit a page, and page numbers 32 bits.
-use Rattle.std.proofs.Common.{◌≡◌, refl, ℕ, zero, suc, ◌*◌, ◌<◌, ◌≤◌, max, Bool, true, false, cond, List, [], ◌∷◌, length, drop, filter, filter_map, fold, sum_by, slice_index, slice_index_or, nat_le, Option, Some, None, arith, leb-true}
+use Rattle.std.proofs.Common.{◌≡◌, refl, ℕ, zero, suc, ◌*◌, ◌<◌, ◌≤◌, max, Bool, true, false, cond, ◌||◌, ◌==◌, is_some, List, [], ◌∷◌, length, drop, filter, filter_map, fold, sum_by, slice_index, slice_index_or, nat_le, Option, Some, None, arith, leb-true}
 use Rattle.std.specs.List.{list_all, cons_option}
 use Rattle.std.proofs.lemmas.Bool.{and_parts}
 use Rattle.std.proofs.lemmas.List.FromFn.{length-range_with_len}
 use Rattle.std.proofs.lemmas.List.Sums.{sum_by-le, length-filter, count_by-le-length}
-use Rattle.ghost_model.specs.core.Schema.{Column, Kind, Integer, Chars, column_at, is_empty, is_visible, ancestor}
+use Rattle.ghost_model.specs.core.Schema.{Column, Kind, Integer, Chars, IntegerOrNull, CharsOrNull, column_at, is_empty, is_visible, ancestor, parent}
 use Rattle.ghost_model.specs.core.Channel.{Catalog}
 use Rattle.ghost_model.specs.laws.SchemaTrees.{IsTree}
 use Rattle.ghost_model.specs.refusals.LoadFaults.{most_rows}
@@ -16,6 +16,7 @@ use Rattle.ghost_model.specs.laws.LayoutSums
 use Rattle.ghost_model.specs.laws.LayoutLaws.{IsLimited, AreNarrow, AreFew}
 use Rattle.ghost_model.proofs.LayoutLemmas.Columns.{hidden_or_none, width_or_none}
 use Rattle.ghost_model.proofs.LayoutLemmas.Numbers.{pages_few}
+use Rattle.ghost_model.proofs.LayoutLemmas.Following.{no_bytes}
 use Rattle.ghost_model.proofs.LayoutLemmas.Places.{end_is}
 
 -- lengths
@@ -39,11 +40,17 @@ length_filtered test n =
     omega (arith, same, few, size)
 
 -- widths
-kind_fits : (kind : Kind) → ((most : ℕ) → kind ≡ Chars most → (1 ≤ most) × (most ≤ 64)) → (0 < cell_width kind) × (cell_width kind ≤ 64)
-kind_fits Integer h = (omega arith, omega arith)
-kind_fits (Chars most) h = let fits = h most refl in let least = fits.0 in (omega (arith, least), fits.1)
+one_more : (most : ℕ) → (1 ≤ most) × (most ≤ 64) → (0 < suc most) × (suc most ≤ 65)
+one_more most fits = let wide = fits.1 in (omega arith, omega (arith, wide))
 
-width_most : (o : Option Column) → ((held : Column) → o ≡ Some held → cell_width held.kind ≤ 64) → width_or_none o ≤ 64
+kind_fits : (kind : Kind) → ((most : ℕ) → kind ≡ Chars most → (1 ≤ most) × (most ≤ 64))
+    → ((most : ℕ) → kind ≡ CharsOrNull most → (1 ≤ most) × (most ≤ 64)) → (0 < cell_width kind) × (cell_width kind ≤ 65)
+kind_fits Integer h g = (omega arith, omega arith)
+kind_fits (Chars most) h g = let fits = h most refl in let least = fits.0 in let wide = fits.1 in (omega (arith, least), omega (arith, wide))
+kind_fits IntegerOrNull h g = (omega arith, omega arith)
+kind_fits (CharsOrNull most) h g = one_more most (g most refl)
+
+width_most : (o : Option Column) → ((held : Column) → o ≡ Some held → cell_width held.kind ≤ 65) → width_or_none o ≤ 65
 width_most None h = omega arith
 width_most (Some held) h = h held refl
 
@@ -52,10 +59,11 @@ width_least None h e = absurd (cc (e))
 width_least (Some held) h e = h held refl
 
 module _ (cat : Catalog) (tree : IsTree cat.schema) where
-  fits : (table column : ℕ) (held : Column) → column_at cat.schema table column ≡ Some held → (0 < cell_width held.kind) × (cell_width held.kind ≤ 64)
-  fits table column held there = kind_fits held.kind (λ most e. tree.text_lengths table column most held there e)
+  fits : (table column : ℕ) (held : Column) → column_at cat.schema table column ≡ Some held → (0 < cell_width held.kind) × (cell_width held.kind ≤ 65)
+  fits table column held there =
+      kind_fits held.kind (λ most e. tree.text_lengths table column most held there e) (λ most e. tree.nullable_text_lengths table column most held there e)
 
-  most : (table column : ℕ) → Layout.width_at cat.schema table column ≤ 64
+  most : (table column : ℕ) → Layout.width_at cat.schema table column ≤ 65
   most table column = width_most (column_at cat.schema table column) (λ held there. (fits table column held there).1)
 
   least : (table column : ℕ) → Layout.is_hidden cat.schema table column ≡ true → 0 < Layout.width_at cat.schema table column
@@ -73,13 +81,22 @@ module _ (cat : Catalog) (tree : IsTree cat.schema) where
   few_descendants : (table : ℕ) → length (Layout.descendants_of cat.schema table) ≤ 12
   few_descendants table = let few = length_filtered (Layout.is_below cat.schema table) (length cat.schema) in omega (arith, few, tree.few_tables)
 
-  narrow_spool : (table : ℕ) → Layout.spool_width cat.schema table ≤ 1540
+  narrow_spool : (table : ℕ) → Layout.spool_width cat.schema table ≤ 1564
   narrow_spool table =
       let few = length_filtered (is_visible cat.schema table) (short.column_count cat.schema table) in
       let columns = tree.few_columns table in
-      let cells = sum_by-le (Layout.width_at cat.schema table) 64 (Layout.visible_columns cat.schema table)
+      let cells = sum_by-le (Layout.width_at cat.schema table) 65 (Layout.visible_columns cat.schema table)
       (λ k d low. most table (slice_index_or (Layout.visible_columns cat.schema table) k d)) in
       omega (arith, few, columns, cells)
+
+  narrow_appended : (table : ℕ) → Layout.appended_width cat.schema table ≤ 1608
+  narrow_appended table =
+      let few = length_filtered (Layout.is_hidden cat.schema table) (short.column_count cat.schema table) in
+      let columns = tree.few_columns table in
+      let cells = sum_by-le (Layout.width_at cat.schema table) 65 (Layout.hidden_columns cat.schema table)
+      (λ k d low. most table (slice_index_or (Layout.hidden_columns cat.schema table) k d)) in
+      let below = few_descendants table in
+      omega (arith, few, columns, cells, below)
 
   pub are_narrow : AreNarrow cat
   are_narrow = record {
@@ -93,6 +110,7 @@ module _ (cat : Catalog) (tree : IsTree cat.schema) where
     directory = λ table column. let few = few_levels table in let wide = most table column in omega (arith, few, wide);
     id_directory = λ table. let few = few_above table in omega (arith, few);
     spool = narrow_spool;
+    appended = narrow_appended;
   }
 
 -- numbers of rows
@@ -129,6 +147,16 @@ module _ (cat : Catalog) (limited : IsLimited cat) where
 
   rows : (table : ℕ) → Layout.count_of cat table ≤ 1000000
   rows table = few_at cat.counts limited.few_rows table
+
+  append_few : (none : Bool) → cond none 0 Layout.appended_room ≤ 4096
+  append_few true = omega arith
+  append_few false = omega arith
+
+  more : (table : ℕ) → Layout.room_to_append cat table ≤ 4096
+  more table = append_few (cat.version == 1 || is_some (parent cat.schema table))
+
+  room : (table : ℕ) → Layout.row_room cat table ≤ 1004096
+  room table = let count = rows table in let append = more table in omega (arith, count, append)
 
   pages : (table width : ℕ) → 0 < width → width ≤ 2048 → pages_of (Layout.count_of cat table) width ≤ 1000000
   pages table width some fit = let few = pages_few (Layout.count_of cat table) width some fit in let count = rows table in omega (arith, few, count)
@@ -190,42 +218,70 @@ module _ (cat : Catalog) (limited : IsLimited cat) where
       let fourth = id_index table in
       omega (arith, first, second, third, fourth)
 
-  table_begin : (table : ℕ) → table ≤ 12 → LayoutSums.table_begin cat table ≤ 607034752
+  public_few : (first : Bool) → cond first Layout.catalog_pages 256 ≤ 256
+  public_few true = omega arith
+  public_few false = omega arith
+
+  table_begin : (table : ℕ) → table ≤ 12 → LayoutSums.table_begin cat table ≤ 607034944
   table_begin table low =
       let all = sum_few (LayoutSums.table_pages cat) 50586224 table_few (Layout.below table) in
       let size = length-range_with_len 0 table in
-      omega (arith, all, size, low)
+      let public = public_few (cat.version == 1) in
+      omega (arith, all, size, low, public)
 
-  files : Layout.files_end cat ≤ 607034752
+  files : Layout.files_end cat ≤ 607034944
   files = let end = end_is cat in let few = table_begin (length cat.schema) limited.tree.few_tables in omega (arith, end, few)
 
-  spool : (table : ℕ) → Layout.spool_pages cat table ≤ 1000064
+  spool : (table : ℕ) → Layout.spool_pages cat table ≤ 1004160
   spool table =
-      unless (is_empty (Layout.visible_columns cat.schema table)) _ 1000064
+      unless (is_empty (Layout.visible_columns cat.schema table)) _ 1004160
       (λ e.
       let wide = narrow.spool table in
-      let few = pages table (Layout.spool_width cat.schema table) (omega arith) (omega (arith, wide)) in
-      omega (arith, few))
+      let few = pages_few (Layout.row_room cat table) (Layout.spool_width cat.schema table) (omega arith) (omega (arith, wide)) in
+      let most = room table in
+      omega (arith, few, most))
 
-  half : Layout.half_pages cat ≤ 12000768
+  half : Layout.half_pages cat ≤ 12049920
   half =
-      let all = sum_few (Layout.spool_pages cat) 1000064 spool (Layout.below (length cat.schema)) in
+      let all = sum_few (Layout.spool_pages cat) 1004160 spool (Layout.below (length cat.schema)) in
       let size = length-range_with_len 0 (length cat.schema) in
       omega (arith, all, size, limited.tree.few_tables)
 
   largest : Layout.largest_count cat ≤ 1000000
   largest = few_at_most cat.counts 0 (omega arith) limited.few_rows
 
-  scratch : Layout.scratch_pages cat ≤ 1984
-  scratch = omega (arith, largest)
+  largest_room : Layout.largest_room cat ≤ 1004096
+  largest_room = let root = room (Layout.root_of cat.schema) in omega (arith, largest, root)
 
-  static : Layout.static_end cat ≤ 607034815
+  scratch : Layout.scratch_pages cat ≤ 1984
+  scratch = omega (arith, largest_room)
+
+  -- records of no byte take no page
+  any_pages : (count width : ℕ) → width ≤ 2048 → pages_of count width ≤ count
+  any_pages count zero fit = let none = no_bytes count in omega (arith, none)
+  any_pages count (suc width) fit = pages_few count (suc width) (omega arith) fit
+
+  appended : Layout.appended_pages cat ≤ 4096
+  appended =
+      let root = Layout.root_of cat.schema in
+      let append = more root in
+      let wide = narrow.appended root in
+      let few = any_pages (Layout.room_to_append cat root) (Layout.appended_width cat.schema root) (omega (arith, wide)) in
+      omega (arith, append, few)
+
+  areas : (six : Bool) → cond six 6 8 * Layout.scratch_pages cat ≤ 15872
+  areas true = omega (arith, scratch)
+  areas false = omega (arith, scratch)
+
+  static : Layout.static_end cat ≤ 607035007
   static = omega (arith, files)
 
   pub are_few : AreFew cat
   are_few = record {
     rows = rows;
+    room = room;
     largest = largest;
+    largest_room = largest_room;
     column = column_few;
     columns_before = columns_before;
     columns = λ table. columns_before table (short.column_count cat.schema table) (narrow.columns table);
@@ -243,5 +299,6 @@ module _ (cat : Catalog) (limited : IsLimited cat) where
     spool = spool;
     half = half;
     scratch = scratch;
-    need = omega (arith, static, half, scratch);
+    appended = appended;
+    need = (let all = areas (cat.version == 1) in omega (arith, static, half, all, appended));
   }

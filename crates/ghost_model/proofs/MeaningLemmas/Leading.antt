@@ -3,7 +3,7 @@
 use Rattle.std.proofs.Common.{◌≡◌, ◌≢◌, refl, sym, ap, ◌∙◌, subst, ℕ, zero, suc, ◌+◌, ◌<◌, ◌≤◌, ◌⊎◌, inl, inr, pos, negsuc, Bool, true, false, not, nat_eq, nat_le, List, [], ◌∷◌, length, filter, Option, Some, None, slice_get, unwrap_or, option_and_then, arith, eqb-true, eq-eqb, leb-true, if◌then◌else◌}
 use Rattle.std.specs.List.{range_with_len}
 use Rattle.ghost_model.specs.core.Schema.{Schema, Column, Table, columns_of, columns_or_none, column_at, parent, is_table, is_empty, references_to, first_of, places_from, ancestor}
-use Rattle.ghost_model.specs.core.Values.{Value, Number, Text, Row, Rows, Database}
+use Rattle.ghost_model.specs.core.Values.{Value, Null, Number, Text, Row, Rows, Database}
 use Rattle.ghost_model.specs.laws.SchemaTrees.{IsTree}
 use Rattle.ghost_model.specs.core.Database.{IsDatabase, rows_of, row_of, row_numbered, value_at_row, is_row_among, identifier_in, reference_column, points_to, leads_within, leads}
 use Rattle.ghost_model.specs.laws.MeaningLaws.{Lands, LeadsFollowKeys}
@@ -175,6 +175,7 @@ table_with_parent schema tree table above up =
 -- a value that is the identifier of a row, and that row
 pub row_among : (rows : Rows) (v : Value) → is_row_among (length rows) v ≡ true
     → (m : ℕ) × (row : Row) × (identifier_in (Some v) ≡ Some m) × (row_numbered rows m ≡ Some row)
+row_among rows Null h = let bad : ⊥ = cc in absurd bad
 row_among rows (Text text) h = let bad : ⊥ = cc in absurd bad
 row_among rows (Number (negsuc n)) h = let bad : ⊥ = cc in absurd bad
 row_among rows (Number (pos zero)) h = let bad : ⊥ = cc in absurd bad

@@ -4,7 +4,7 @@ use Rattle.std.proofs.Common.{◌≡◌, refl, sym, ap, subst, ℕ, zero, suc, �
 use Rattle.std.proofs.lemmas.List.{length-map}
 use Rattle.std.proofs.lemmas.Bool.{lt-leb}
 use Rattle.std.proofs.lemmas.Bool.Decides.{Decides-int_eq}
-use Rattle.ghost_model.specs.core.Schema.{Schema, Column, Kind, Integer, Chars, columns_of, column_at}
+use Rattle.ghost_model.specs.core.Schema.{Schema, Column, Kind, Integer, Chars, IntegerOrNull, CharsOrNull, columns_of, column_at}
 use Rattle.ghost_model.specs.core.Values.{Value, Number, Row, Rows, Database}
 use Rattle.ghost_model.specs.refusals.Tokens.{number_of}
 use Rattle.ghost_model.specs.core.Database.{IsDatabase, row_of, rows_of, row_count, value_at_row, fits_integer, is_text, is_of_kind, is_row_among, is_numeral, signed_within, integer_of, value_of_field, row_spelled, records_of, database_of}
@@ -86,6 +86,10 @@ pub field_is : (at : Place) (kind : Kind) (text : List ℕ) → value_faults at 
     → is_of_kind kind (value_of_field kind text) ≡ true
 field_is at Integer text h = integer_is text (kept (is_some (integer_of text)) (BadInt at) h)
 field_is at (Chars most) text h = kept (is_text most text) (BadChars at) h
+field_is at IntegerOrNull [] h = refl
+field_is at IntegerOrNull (b ∷ bs) h = integer_is (b ∷ bs) (kept (is_some (integer_of (b ∷ bs))) (BadInt at) h)
+field_is at (CharsOrNull most) [] h = refl
+field_is at (CharsOrNull most) (b ∷ bs) h = kept (is_text most (b ∷ bs)) (BadChars at) h
 
 -- the same of each field of a record
 pub fields_are : (table rec at : ℕ) (columns : List Column) (fields : List (List ℕ))

@@ -2,21 +2,21 @@
 use Rattle.std.proofs.Common.{◌≡◌, ℕ, zero, suc, ◌+◌, ◌-◌, ◌*◌, ◌/◌, ◌^◌, ◌<◌, ◌≤◌, Bool, true, false, ◌&&◌, ◌||◌, not, List, [], ◌∷◌, ◌++◌, length, replicate, slice_get, map, sym, ◌∙◌, ap, subst, refl, arith, lit<, length-append, Option, Some, None, option_map, mod-lt}
 use Rattle.std.specs.Prelude.{◌==◌, nat_lt, nat_le, flat_map, sum}
 use Rattle.std.specs.List.{list_all, list_any}
-use Rattle.std.specs.Int.{bytes_high_first, byte_at}
+use Rattle.std.specs.Int.{bytes_high_first, byte_at, to_be_bytes, w64}
 use Rattle.std.proofs.lemmas.Bool.{ltb-true, leb-true, le-leb}
 use Rattle.std.proofs.lemmas.Bool.Decides.{nat_tests}
 use Rattle.std.proofs.lemmas.Option.{slice_get-map}
 use Rattle.std.proofs.lemmas.List.Sums.{sum_by-cons}
-use Rattle.ghost_model.specs.core.Schema.{Schema, Kind, Integer, Chars, Column, columns_or_none, columns_of, column_at, is_shown, is_visible}
+use Rattle.ghost_model.specs.core.Schema.{Schema, Kind, Integer, Chars, IntegerOrNull, CharsOrNull, Column, columns_or_none, columns_of, column_at, is_shown, is_visible}
 use Rattle.ghost_model.specs.refusals.SchemaGrammar.{To, ColumnDeclaration, CharColumn, IntegerColumn, TableText, SchemaText}
 use Rattle.ghost_model.specs.refusals.SchemaMeaning.{columns_written, column_of, table_of, schema_of}
 use Rattle.ghost_model.specs.refusals.SchemaFaults.{is_over, is_table_over, is_column_over, MeansSchema}
 use Rattle.ghost_model.specs.laws.SchemaTrees.{IsTree}
 use Rattle.ghost_model.specs.refusals.Tokens.{is_printable, is_between, number_of}
-use Rattle.ghost_model.specs.core.Values.{Value, Number, Text}
+use Rattle.ghost_model.specs.core.Values.{Value, Null, Number, Text}
 use Rattle.ghost_model.specs.core.Query.{Operator, Equal, Unequal, Less, AtMost, More, AtLeast}
-use Rattle.ghost_model.specs.core.Database.{is_of_kind}
-use Rattle.ghost_model.specs.forms.Cells.{cell_width, encode_cell}
+use Rattle.ghost_model.specs.core.Database.{is_of_kind, is_text}
+use Rattle.ghost_model.specs.forms.Cells.{cell_width, encode_cell, above_lowest, padded}
 use Rattle.ghost_model.specs.core.Channel.{Ask, Test, AskFrame}
 use Rattle.ghost_model.specs.forms.Frames.{AreBytes, IsFrame}
 use Rattle.ghost_model.specs.core.Asks.{kind_or_none, kind_at, operator_code, test_bytes, ask_payload, ascend_from, is_proper_ask, row_width}
@@ -29,7 +29,7 @@ use Rattle.ghost_model.proofs.SchemaTreeLemmas.{schemas_are_trees}
 pub record IsSmall (schema : Schema) : Type 0 where
   pub few_tables : length schema ≤ 12
   pub few_columns : (table : ℕ) → length (columns_of schema table) ≤ 24
-  pub narrow : (table column : ℕ) → cell_width (kind_at schema table column) ≤ 64
+  pub narrow : (table column : ℕ) → cell_width (kind_at schema table column) ≤ 65
 
 neither : (a b : Bool) → (a || b) ≡ false → (a ≡ false) × (b ≡ false)
 neither false b e = (refl, e)
@@ -43,33 +43,33 @@ none_at test (y ∷ ys) (suc k) x e h = none_at test ys k x (neither (test y) (l
 within : (most n : ℕ) → not (is_between 1 most n) ≡ false → n ≤ most
 within most n e = grind (arith, nat_tests)
 
-narrow_column : (tables : SchemaText) (column : ColumnDeclaration) → is_column_over column ≡ false → cell_width (column_of tables column).kind ≤ 64
-narrow_column tables (CharColumn name digits hidden) e = within 64 (number_of digits) (neither _ _ e).1
+narrow_column : (tables : SchemaText) (column : ColumnDeclaration) → is_column_over column ≡ false → cell_width (column_of tables column).kind ≤ 65
+narrow_column tables (CharColumn name digits hidden) e = omega (arith, within 64 (number_of digits) (neither _ _ e).1)
 narrow_column tables (IntegerColumn name primary None hidden) e = omega arith
 narrow_column tables (IntegerColumn name primary (Some (To table says_id)) hidden) e = omega arith
 
 narrow_in :
     (tables : SchemaText) (columns : List ColumnDeclaration) (column : ℕ) (found : Option ColumnDeclaration) → list_any is_column_over columns ≡ false
-    → slice_get columns column ≡ found → cell_width (kind_or_none (option_map (column_of tables) found)) ≤ 64
+    → slice_get columns column ≡ found → cell_width (kind_or_none (option_map (column_of tables) found)) ≤ 65
 narrow_in tables columns column None e h = omega arith
 narrow_in tables columns column (Some text) e h = narrow_column tables text (none_at is_column_over columns column text e h)
 
 narrow_at :
     (tables : SchemaText) (table column : ℕ) (found : Option TableText) → list_any is_table_over tables ≡ false → slice_get tables table ≡ found
-    → cell_width (kind_or_none (slice_get (columns_or_none (option_map (table_of tables) found)) column)) ≤ 64
+    → cell_width (kind_or_none (slice_get (columns_or_none (option_map (table_of tables) found)) column)) ≤ 65
 narrow_at tables table column None e h = omega arith
 narrow_at tables table column (Some text) e h =
     let this : is_table_over text ≡ false = none_at is_table_over tables table text e h in
-    subst (λ (c : Option Column). cell_width (kind_or_none c) ≤ 64) (sym (slice_get-map (column_of tables) (columns_written text) column))
+    subst (λ (c : Option Column). cell_width (kind_or_none c) ≤ 65) (sym (slice_get-map (column_of tables) (columns_written text) column))
     (narrow_in tables (columns_written text) column (slice_get (columns_written text) column) (neither _ _ this).1 refl)
 
 never_true : (b : Bool) → (b ≡ true → ⊥) → b ≡ false
 never_true true h = absurd (h refl)
 never_true false h = refl
 
-narrow_schema : (tables : SchemaText) → is_over tables ≡ false → (table column : ℕ) → cell_width (kind_at (schema_of tables) table column) ≤ 64
+narrow_schema : (tables : SchemaText) → is_over tables ≡ false → (table column : ℕ) → cell_width (kind_at (schema_of tables) table column) ≤ 65
 narrow_schema tables e table column =
-    subst (λ (columns : List Column). cell_width (kind_or_none (slice_get columns column)) ≤ 64)
+    subst (λ (columns : List Column). cell_width (kind_or_none (slice_get columns column)) ≤ 65)
     (sym (ap columns_or_none (slice_get-map (table_of tables) tables table)))
     (narrow_at tables table column (slice_get tables table) (neither _ _ e).1 refl)
 
@@ -79,7 +79,7 @@ schema_is_small text schema means =
     record {
       few_tables = tree.few_tables;
       few_columns = tree.few_columns;
-      narrow = subst (λ (s : List _). (table column : ℕ) → cell_width (kind_at s table column) ≤ 64) means.means
+      narrow = subst (λ (s : List _). (table column : ℕ) → cell_width (kind_at s table column) ≤ 65) means.means
           (narrow_schema means.tables (kept_rules means.tables means.obeys).limits);
     }
 
@@ -116,13 +116,24 @@ printable_bytes (byte ∷ text) e =
     let both : BothHold (is_printable byte) (list_all is_printable text) = both_hold _ _ e in
     cons_bytes byte text (printable_byte byte both.one) (printable_bytes text both.other)
 
+text_cell_bytes : (most : ℕ) (text : List ℕ) → is_text most text ≡ true → AreBytes (padded most text)
+text_cell_bytes most text e =
+    let both : BothHold (nat_le (length text) most) (list_all is_printable text) = both_hold _ _ e in
+    append_bytes text (replicate (most - length text) 0) (printable_bytes text both.other) (zero_bytes (most - length text))
+
 pub cell_bytes : (kind : Kind) (value : Value) → is_of_kind kind value ≡ true → AreBytes (encode_cell kind value)
 cell_bytes Integer (Number z) e = high_bytes 8 _
 cell_bytes Integer (Text _) e = absurd (false_is_not e)
+cell_bytes Integer Null e = absurd (false_is_not e)
 cell_bytes (Chars most) (Number _) e = absurd (false_is_not e)
-cell_bytes (Chars most) (Text text) e =
-    let both : BothHold (nat_le (length text) most) (list_all is_printable text) = both_hold _ _ e in
-    append_bytes text (replicate (most - length text) 0) (printable_bytes text both.other) (zero_bytes (most - length text))
+cell_bytes (Chars most) (Text text) e = text_cell_bytes most text e
+cell_bytes (Chars most) Null e = absurd (false_is_not e)
+cell_bytes IntegerOrNull (Number z) e = cons_bytes 1 (to_be_bytes w64 (above_lowest z)) (lit< tt) (high_bytes 8 (above_lowest z))
+cell_bytes IntegerOrNull (Text _) e = absurd (false_is_not e)
+cell_bytes IntegerOrNull Null e = zero_bytes 9
+cell_bytes (CharsOrNull most) (Number _) e = absurd (false_is_not e)
+cell_bytes (CharsOrNull most) (Text text) e = cons_bytes 1 (padded most text) (lit< tt) (text_cell_bytes most text e)
+cell_bytes (CharsOrNull most) Null e = zero_bytes (suc most)
 
 code_byte : (operator : Operator) → operator_code operator < 256
 code_byte Equal = lit< tt
@@ -207,13 +218,13 @@ module _ (schema : Schema) (small : IsSmall schema) where
       (append_bytes cell more (cell_bytes (kind_at schema table test.column) test.value kinds.one)
       (tests_bytes table tests seen.other kinds.other)))
 
-  tests_length : (table : ℕ) (tests : List Test) → AreOfKind table tests → length (flat_map (test_bytes schema table) tests) ≤ 66 * length tests
+  tests_length : (table : ℕ) (tests : List Test) → AreOfKind table tests → length (flat_map (test_bytes schema table) tests) ≤ 67 * length tests
   tests_length table [] k = omega arith
   tests_length table (test ∷ tests) k =
       let kinds : BothHold (is_of_kind (kind_at schema table test.column) test.value) (list_all (λ test. is_of_kind (kind_at schema table test.column) test.value) tests) = both_hold _ _ k in
       let cell : List ℕ = encode_cell (kind_at schema table test.column) test.value in
       let size : length (encode_cell (kind_at schema table test.column) test.value) ≡ cell_width (kind_at schema table test.column) = cell_length (kind_at schema table test.column) test.value kinds.one in
-      let rest : length (flat_map (test_bytes schema table) tests) ≤ 66 * length tests = tests_length table tests kinds.other in
+      let rest : length (flat_map (test_bytes schema table) tests) ≤ 67 * length tests = tests_length table tests kinds.other in
       omega (arith, size, rest, small.narrow table test.column, length-append (encode_cell (kind_at schema table test.column) test.value) (flat_map (test_bytes schema table) tests))
 
   not_zero : (n : ℕ) → 0 < n → not (n == 0) ≡ true
@@ -234,7 +245,7 @@ module _ (schema : Schema) (small : IsSmall schema) where
       let table : ask.table < length schema = ltb-true ask.table (length schema) parts.first in
       let columns : length ask.columns ≤ 24 = few_columns ask.table ask.columns parts.third parts.second in
       let count : length ask.tests ≤ 16 = leb-true (length ask.tests) 16 parts.fourth in
-      let long : length (flat_map (test_bytes schema ask.table) ask.tests) ≤ 66 * length ask.tests = tests_length ask.table ask.tests parts.sixth in
+      let long : length (flat_map (test_bytes schema ask.table) ask.tests) ≤ 67 * length ask.tests = tests_length ask.table ask.tests parts.sixth in
       let joined = length-append ask.columns (length ask.tests ∷ flat_map (test_bytes schema ask.table) ask.tests) in
       record {
         serial = not_zero serial some;
@@ -248,7 +259,7 @@ module _ (schema : Schema) (small : IsSmall schema) where
         number_fits = lit< tt;
       }
 
-  cells_fit : (table : ℕ) (columns : List ℕ) → sum (map cell_width (map (kind_at schema table) columns)) ≤ 64 * length columns
+  cells_fit : (table : ℕ) (columns : List ℕ) → sum (map cell_width (map (kind_at schema table) columns)) ≤ 65 * length columns
   cells_fit table [] = omega arith
   cells_fit table (column ∷ columns) =
       let rest = cells_fit table columns in

@@ -76,4 +76,4 @@ counts_fit catalog database stored table =
     omega (arith, few)
 
 pub bytes_are : (catalog : Catalog) → IsCatalog catalog → AreBytes (catalog_bytes catalog)
-bytes_are catalog proper = catalog_is_bytes catalog (tree_of catalog proper) proper.one_version
+bytes_are catalog proper = catalog_is_bytes catalog (tree_of catalog proper) proper.some_version

@@ -2,18 +2,18 @@
 -- the identifier, the first value of a row. Each value is of its column's kind, and each foreign key is the
 -- identifier of a row of the table that it names. Files spell a database by their CSV records: those after the first
 -- are the rows, field by field.
-use Rattle.std.specs.Prelude.{◌≡◌, ℕ, zero, suc, ◌-◌, ◌^◌, ℤ, pos, neg_ℤ, int_le, Bool, false, ◌&&◌, ◌==◌, nat_le, List, [], ◌∷◌, length, map, drop, Option, Some, None, slice_get, option_and_then, unwrap_or, IsTrue, if◌then◌else◌}
+use Rattle.std.specs.Prelude.{◌≡◌, ℕ, zero, suc, ◌-◌, ◌^◌, ℤ, pos, neg_ℤ, int_le, Bool, false, true, not, ◌&&◌, ◌||◌, ◌==◌, nat_le, List, [], ◌∷◌, length, map, drop, Option, Some, None, slice_get, option_and_then, unwrap_or, IsTrue, if◌then◌else◌}
 use Rattle.std.specs.List.{list_all, zip}
 use Rattle.std.specs.Cmp.Lexicographic.{slice_cmp}
 use Rattle.std.specs.Ordering.{nat_cmp, int_cmp, is_eq, is_ne, is_lt, is_le, is_gt, is_ge}
 use Rattle.std.specs.declared.cmp.Ordering.{Ordering}
 use Rattle.std.specs.declared.cmp.Ordering.TheVariants as order
 use Rattle.csv.specs.Reading.{records, default_config, strip_bom}
-use Rattle.ghost_model.specs.core.Schema.{Schema, Column, Kind, Integer, Chars, columns_of, column_at, parent, references_to, first_of}
+use Rattle.ghost_model.specs.core.Schema.{Schema, Column, Kind, Integer, Chars, IntegerOrNull, CharsOrNull, columns_of, column_at, parent, references_to, first_of}
 use Rattle.ghost_model.specs.refusals.Tokens.{is_printable}
 pub use Rattle.ghost_model.specs.refusals.Tokens.{number_of, is_numeral}
 pub use Rattle.ghost_model.specs.core.Values.{fits_integer}
-use Rattle.ghost_model.specs.core.Values.{Value, Number, Text, Row, Rows, Database}
+use Rattle.ghost_model.specs.core.Values.{Value, Null, Number, Text, is_null, Row, Rows, Database}
 use Rattle.ghost_model.specs.core.Query.{Operator}
 use Rattle.ghost_model.specs.core.Query as query
 
@@ -24,6 +24,10 @@ is_text most bytes = nat_le (length bytes) most && list_all is_printable bytes
 abbrev pub is_of_kind : Kind → Value → Bool
 is_of_kind Integer (Number number) = fits_integer number
 is_of_kind (Chars most) (Text bytes) = is_text most bytes
+is_of_kind IntegerOrNull Null = true
+is_of_kind IntegerOrNull (Number number) = fits_integer number
+is_of_kind (CharsOrNull most) Null = true
+is_of_kind (CharsOrNull most) (Text bytes) = is_text most bytes
 is_of_kind _ _ = false
 
 -- the rows of a table, none where there is no such table
@@ -51,6 +55,7 @@ value_at_row database table identifier column =
 abbrev pub is_row_among : ℕ → Value → Bool
 is_row_among count (Number number) = int_le (pos 1) number && int_le number (pos count)
 is_row_among count (Text _) = false
+is_row_among count Null = false
 
 pub record IsDatabase (schema : Schema) (database : Database) : Type 0 where
   -- a list of rows for each table
@@ -97,8 +102,13 @@ leads_within (_ ∷ steps) schema database from identifier to =
 abbrev pub leads : Schema → Database → (from identifier to : ℕ) → Option ℕ
 leads schema database from identifier to = leads_within schema schema database from identifier to
 
--- the order of values of one kind: integers by number, texts by bytes, a prefix before the longer text
+-- the order of values of one kind: NULL first, integers by number, texts by bytes, a prefix before the longer text
 abbrev pub order_of : Value → Value → Ordering
+order_of Null Null = order.Equal
+order_of Null (Number _) = order.Less
+order_of Null (Text _) = order.Less
+order_of (Number _) Null = order.Greater
+order_of (Text _) Null = order.Greater
 order_of (Number a) (Number b) = int_cmp a b
 order_of (Text a) (Text b) = slice_cmp nat_cmp a b
 order_of (Number _) (Text _) = order.Less
@@ -113,8 +123,9 @@ meets query.AtMost order = is_le order
 meets query.More order = is_gt order
 meets query.AtLeast order = is_ge order
 
+-- whether a comparison is true; one with NULL is not
 abbrev pub holds : Operator → Value → Value → Bool
-holds operator a b = meets operator (order_of a b)
+holds operator a b = not (is_null a || is_null b) && meets operator (order_of a b)
 
 -- the records of a file: those of comma-separated values, after a byte order mark. A blank line is none
 abbrev pub records_of : List ℕ → List (List (List ℕ))
@@ -133,10 +144,14 @@ integer_of (byte ∷ bytes) =
     else if byte == 43 then signed_within (2 ^ 63 - 1) pos bytes
     else signed_within (2 ^ 63 - 1) pos (byte ∷ bytes)
 
--- the value that a field spells; 0 stands where it spells no integer
+-- the value that a field spells; 0 stands where it spells no integer. In a column that may be NULL an empty field is NULL
 abbrev pub value_of_field : Kind → List ℕ → Value
 value_of_field Integer text = Number (unwrap_or (integer_of text) (pos 0))
 value_of_field (Chars _) text = Text text
+value_of_field IntegerOrNull [] = Null
+value_of_field IntegerOrNull (byte ∷ bytes) = Number (unwrap_or (integer_of (byte ∷ bytes)) (pos 0))
+value_of_field (CharsOrNull _) [] = Null
+value_of_field (CharsOrNull _) (byte ∷ bytes) = Text (byte ∷ bytes)
 
 abbrev pub row_spelled : List Column → List (List ℕ) → Row
 row_spelled columns fields = map (λ held. value_of_field held.0.kind held.1) (zip columns fields)

@@ -1,17 +1,18 @@
 -- The printed lines of texts over a database. A line of a row begins with `> ` and has its fields with one tab between
--- each two, an integer in decimal; after the rows of text k comes `= k n`, n being their number. A refused text has the
--- one line `! k word`. Each line ends with a line feed, and the texts are numbered from 1.
+-- each two, an integer in decimal and NULL as an empty field; after the rows of text k comes `= k n`, n being their number. A
+-- refused text has the one line `! k word`. Each line ends with a line feed, and the texts are numbered from 1.
 use Rattle.std.specs.Prelude.{ℕ, ◌+◌, List, [], ◌∷◌, ◌++◌, length, map, codes, decimal, Result, Ok, Err}
 use Rattle.std.specs.List.{concat, join_with_byte}
 use Rattle.std.specs.Fmt.{signed_decimal}
 use Rattle.ghost_model.specs.core.Schema.{Schema}
-use Rattle.ghost_model.specs.core.Values.{Value, Number, Text, Row, Database}
+use Rattle.ghost_model.specs.core.Values.{Value, Null, Number, Text, Row, Database}
 use Rattle.ghost_model.specs.core.Query.{Query}
 use Rattle.ghost_model.specs.refusals.QueryMeaning.{Refusal, Syntax, Limit, UnknownTable, UnknownColumn, Ambiguous, KindMismatch, BadLiteral, NotLinked}
 use Rattle.ghost_model.specs.readings.QueryReading.{reading}
 use Rattle.ghost_model.specs.core.Meaning.{answer}
 
 abbrev pub field_text : Value → List ℕ
+field_text Null = []
 field_text (Number number) = signed_decimal number
 field_text (Text text) = text
 

@@ -3,10 +3,25 @@
 -- A foreign key names its child table; the parent of a table is the table that holds the foreign key to it.
 use Rattle.std.specs.Prelude.{ℕ, ◌+◌, Bool, true, false, not, ◌&&◌, ◌==◌, List, [], ◌∷◌, Option, Some, None, option_map, slice_get, if◌then◌else◌, nat_lt, zero, suc, option_and_then}
 
--- what a column holds: 64-bit signed integers, or texts of at most so many bytes
+-- what a column holds: 64-bit signed integers, or texts of at most so many bytes; or, beside these, NULL
 pub data Kind : Type 0 where
   Integer : Kind
   Chars : ℕ → Kind
+  IntegerOrNull : Kind
+  CharsOrNull : ℕ → Kind
+
+abbrev pub is_nullable : Kind → Bool
+is_nullable Integer = false
+is_nullable (Chars _) = false
+is_nullable IntegerOrNull = true
+is_nullable (CharsOrNull _) = true
+
+-- the kind of the literals that may stand beside a column
+abbrev pub plain_of : Kind → Kind
+plain_of Integer = Integer
+plain_of (Chars most) = Chars most
+plain_of IntegerOrNull = Integer
+plain_of (CharsOrNull most) = Chars most
 
 pub record Column : Type 0 where
   pub name : List ℕ

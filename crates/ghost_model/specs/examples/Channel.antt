@@ -39,42 +39,42 @@ abbrev pub topic_ask : Frame
 topic_ask = AskFrame 1 (hex (codes "000001010161000000"))
 
 pub record SpellingsOfFrames : Type 0 where
-  pub hello : spelled (HelloFrame 1) ≡ codes "010100040000000000000001"
-  pub ask : spelled cardio_ask ≡ codes "0201000e0000000100010101010163617264696f0000"
-  pub more : spelled (MoreFrame 1) ≡ codes "0301000000000001"
-  pub bye : spelled ByeFrame ≡ codes "0401000000000000"
-  pub rows : spelled cardio_rows ≡ codes "12010018000000010000000163617264696f00000000000363617264696f0000"
-  pub done : spelled (DoneFrame 1 2) ≡ codes "130100040000000100000002"
-  pub sorry : spelled (SorryFrame 1 1) ≡ codes "140100010000000101"
-  pub short_ask : spelled topic_ask ≡ codes "0201000900000001000001010161000000"
-  pub ask_of_a_column : spelled (AskFrame 1 (hex (codes "02010100"))) ≡ codes "020100040000000102010100"
+  pub hello : spelled (HelloFrame 1) ≡ codes "010200040000000000000001"
+  pub ask : spelled cardio_ask ≡ codes "0202000e0000000100010101010163617264696f0000"
+  pub more : spelled (MoreFrame 1) ≡ codes "0302000000000001"
+  pub bye : spelled ByeFrame ≡ codes "0402000000000000"
+  pub rows : spelled cardio_rows ≡ codes "12020018000000010000000163617264696f00000000000363617264696f0000"
+  pub done : spelled (DoneFrame 1 2) ≡ codes "130200040000000100000002"
+  pub sorry : spelled (SorryFrame 1 1) ≡ codes "140200010000000101"
+  pub short_ask : spelled topic_ask ≡ codes "0202000900000001000001010161000000"
+  pub ask_of_a_column : spelled (AskFrame 1 (hex (codes "02010100"))) ≡ codes "020200040000000102010100"
   pub ask_of_a_column_and_a_condition :
-      spelled (AskFrame 1 (hex (codes "0201010101068000000000000002"))) ≡ codes "0201000e000000010201010101068000000000000002"
-  pub done_of_no_row : spelled (DoneFrame 1 0) ≡ codes "130100040000000100000000"
-  pub welcome : encode_lower (take 9 (frame_bytes (WelcomeFrame 1 (catalog_bytes clinic_catalog)))) ≡ codes "1101016e0000000001"
+      spelled (AskFrame 1 (hex (codes "0201010101068000000000000002"))) ≡ codes "0202000e000000010201010101068000000000000002"
+  pub done_of_no_row : spelled (DoneFrame 1 0) ≡ codes "130200040000000100000000"
+  pub welcome : encode_lower (take 9 (frame_bytes (WelcomeFrame 1 (catalog_bytes clinic_catalog)))) ≡ codes "1102016e0000000001"
 
 -- what bytes in hexadecimal amount to that begin with a frame
 abbrev pub got : List ℕ → Got
 got text = got_of (hex text)
 
 pub record ReadingsOfFrames : Type 0 where
-  pub hello : got (codes "010100040000000000000001") ≡ Found (HelloFrame 1)
-  pub ask : got (codes "0201000e0000000100010101010163617264696f0000") ≡ Found cardio_ask
-  pub rows : got (codes "12010018000000010000000163617264696f00000000000363617264696f0000") ≡ Found cardio_rows
-  pub more_with_others_after : got (codes "03010000000000010401000000000000") ≡ Found (MoreFrame 1)
-  pub bye : got (codes "0401000000000000") ≡ Found ByeFrame
-  pub done : got (codes "130100040000000100000002") ≡ Found (DoneFrame 1 2)
-  pub sorry : got (codes "140100010000000101") ≡ Found (SorryFrame 1 1)
+  pub hello : got (codes "010200040000000000000001") ≡ Found (HelloFrame 1)
+  pub ask : got (codes "0202000e0000000100010101010163617264696f0000") ≡ Found cardio_ask
+  pub rows : got (codes "12020018000000010000000163617264696f00000000000363617264696f0000") ≡ Found cardio_rows
+  pub more_with_others_after : got (codes "03020000000000010402000000000000") ≡ Found (MoreFrame 1)
+  pub bye : got (codes "0402000000000000") ≡ Found ByeFrame
+  pub done : got (codes "130200040000000100000002") ≡ Found (DoneFrame 1 2)
+  pub sorry : got (codes "140200010000000101") ≡ Found (SorryFrame 1 1)
   pub nothing : got [] ≡ Short 8
-  pub part_of_a_header : got (codes "1201001800") ≡ Short 3
-  pub part_of_a_payload : got (codes "130100040000000100") ≡ Short 3
-  pub another_kind : got (codes "0501000000000000") ≡ Bad 5
-  pub another_version : got (codes "0402000000000000") ≡ Bad 4
-  pub another_length : got (codes "0401000100000000") ≡ Bad 4
-  pub bye_with_a_serial : got (codes "0401000000000001") ≡ Bad 4
-  pub more_without_a_serial : got (codes "0301000000000000") ≡ Bad 3
-  pub sorry_of_zero : got (codes "140100010000000100") ≡ Bad 20
-  pub welcome_of_two : got (codes "11010002000000000241") ≡ Bad 17
+  pub part_of_a_header : got (codes "1202001800") ≡ Short 3
+  pub part_of_a_payload : got (codes "130200040000000100") ≡ Short 3
+  pub another_kind : got (codes "0502000000000000") ≡ Bad 5
+  pub another_version : got (codes "0401000000000000") ≡ Bad 4
+  pub another_length : got (codes "0402000100000000") ≡ Bad 4
+  pub bye_with_a_serial : got (codes "0402000000000001") ≡ Bad 4
+  pub more_without_a_serial : got (codes "0302000000000000") ≡ Bad 3
+  pub sorry_of_zero : got (codes "140200010000000100") ≡ Bad 20
+  pub welcome_of_two : got (codes "11020002000000000241") ≡ Bad 17
 
 abbrev pub field : (table column : ℕ) → query.Field
 field table column = record { table = table; column = column }
@@ -114,13 +114,13 @@ abbrev pub topic_journal : Journal
 topic_journal =
     dialled []
     ∷ sends (HelloFrame 1)
-    ∷ takes 8 (codes "1101006500000000")
+    ∷ takes 8 (codes "1102006500000000")
     ∷ welcomed note_catalog
     ∷ sends topic_ask
-    ∷ takes 8 (codes "1201000800000001")
+    ∷ takes 8 (codes "1202000800000001")
     ∷ takes 8 (codes "0000000100000003")
     ∷ sends (MoreFrame 1)
-    ∷ takes 8 (codes "1301000400000001")
+    ∷ takes 8 (codes "1302000400000001")
     ∷ takes 4 (codes "00000002")
     ∷ sends ByeFrame
     ∷ closed
@@ -135,9 +135,9 @@ pub record JournalOfTheNotes : Type 0 where
   pub finished : IsFinished topic_journal
   pub file :
       lines topic_journal
-      ≡ codes "dial ok\nsend 010100040000000000000001 ok\ntake 8 1101006500000000\ntake 101 01"
+      ≡ codes "dial ok\nsend 010200040000000000000001 ok\ntake 8 1102006500000000\ntake 101 01"
       ++ (encode_lower (catalog_bytes note_catalog)
-      ++ codes "\nsend 0201000900000001000001010161000000 ok\ntake 8 1201000800000001\ntake 8 0000000100000003\nsend 0301000000000001 ok\ntake 8 1301000400000001\ntake 4 00000002\nsend 0401000000000000 ok\nclose\n")
+      ++ codes "\nsend 0202000900000001000001010161000000 ok\ntake 8 1202000800000001\ntake 8 0000000100000003\nsend 0302000000000001 ok\ntake 8 1302000400000001\ntake 4 00000002\nsend 0402000000000000 ok\nclose\n")
 
 abbrev pub cardio_text : List ℕ
 cardio_text =
@@ -244,13 +244,13 @@ abbrev pub cardio_journal : Journal
 cardio_journal =
     dialled []
     ∷ sends (HelloFrame 1)
-    ∷ takes 8 (codes "1101016e00000000")
+    ∷ takes 8 (codes "1102016e00000000")
     ∷ welcomed clinic_catalog
     ∷ sends cardio_ask
-    ∷ takes 8 (codes "1201001800000001")
+    ∷ takes 8 (codes "1202001800000001")
     ∷ takes 24 (codes "0000000163617264696f00000000000363617264696f0000")
     ∷ sends (MoreFrame 1)
-    ∷ takes 8 (codes "1301000400000001")
+    ∷ takes 8 (codes "1302000400000001")
     ∷ takes 4 (codes "00000002")
     ∷ sends ByeFrame
     ∷ closed
@@ -264,7 +264,7 @@ pub record JournalOfTheClinic : Type 0 where
 -- the session of a script without an ask
 abbrev pub silent_journal : Journal
 silent_journal =
-    dialled [] ∷ sends (HelloFrame 1) ∷ takes 8 (codes "1101016e00000000") ∷ welcomed clinic_catalog ∷ sends ByeFrame ∷ closed ∷ []
+    dialled [] ∷ sends (HelloFrame 1) ∷ takes 8 (codes "1102016e00000000") ∷ welcomed clinic_catalog ∷ sends ByeFrame ∷ closed ∷ []
 
 pub record JournalWithoutAsks : Type 0 where
   pub proper : IsProper clinic_catalog [] [] silent_journal
@@ -273,7 +273,7 @@ pub record JournalWithoutAsks : Type 0 where
 
 -- how a session with the clinic begins: up to its first ask, or BYE
 abbrev pub greeted : Catalog → Journal
-greeted catalog = dialled [] ∷ sends (HelloFrame 1) ∷ takes 8 (codes "1101016e00000000") ∷ welcomed catalog ∷ []
+greeted catalog = dialled [] ∷ sends (HelloFrame 1) ∷ takes 8 (codes "1102016e00000000") ∷ welcomed catalog ∷ []
 
 abbrev pub day_asks : List NumberedAsk
 day_asks = asks_of_text (asks_of clinic_schema day_query)
@@ -286,7 +286,7 @@ abbrev pub rowless_journal : Journal
 rowless_journal =
     greeted visitless_catalog
     ++ sends (AskFrame 1 (hex (codes "02010100")))
-    ∷ takes 8 (codes "1301000400000001")
+    ∷ takes 8 (codes "1302000400000001")
     ∷ takes 4 (codes "00000000")
     ∷ sends ByeFrame
     ∷ closed
@@ -303,10 +303,10 @@ late_ask = AskFrame 2 (hex (codes "0201010101068000000000000002"))
 abbrev pub late_entries : Journal
 late_entries =
     sends late_ask
-    ∷ takes 8 (codes "1201000c00000002")
+    ∷ takes 8 (codes "1202000c00000002")
     ∷ takes 12 (codes "000000038000000000000009")
     ∷ sends (MoreFrame 2)
-    ∷ takes 8 (codes "1301000400000002")
+    ∷ takes 8 (codes "1302000400000002")
     ∷ takes 4 (codes "00000001")
     ∷ sends ByeFrame
     ∷ closed
@@ -316,10 +316,10 @@ abbrev pub journal_of_two : Journal
 journal_of_two =
     greeted clinic_catalog
     ++ sends cardio_ask
-    ∷ takes 8 (codes "1201001800000001")
+    ∷ takes 8 (codes "1202001800000001")
     ∷ takes 24 (codes "0000000163617264696f00000000000363617264696f0000")
     ∷ sends (MoreFrame 1)
-    ∷ takes 8 (codes "1301000400000001")
+    ∷ takes 8 (codes "1302000400000001")
     ∷ takes 4 (codes "00000002")
     ∷ late_entries
 
@@ -333,7 +333,7 @@ abbrev pub refused_journal : Journal
 refused_journal =
     greeted clinic_catalog
     ++ sends cardio_ask
-    ∷ takes 8 (codes "1401000100000001")
+    ∷ takes 8 (codes "1402000100000001")
     ∷ takes 1 (codes "01")
     ∷ late_entries
 
@@ -342,10 +342,10 @@ abbrev pub repeating_journal : Journal
 repeating_journal =
     greeted clinic_catalog
     ++ sends cardio_ask
-    ∷ takes 8 (codes "1201000c00000001")
+    ∷ takes 8 (codes "1202000c00000001")
     ∷ takes 12 (codes "0000000163617264696f0000")
     ∷ sends (MoreFrame 1)
-    ∷ takes 8 (codes "1201000c00000001")
+    ∷ takes 8 (codes "1202000c00000001")
     ∷ takes 12 (codes "0000000163617264696f0000")
     ∷ closed
     ∷ []
@@ -355,7 +355,7 @@ abbrev pub unwelcome_journal : Journal
 unwelcome_journal =
     dialled []
     ∷ sends (HelloFrame 1)
-    ∷ takes 8 (codes "1101016e00000000")
+    ∷ takes 8 (codes "1102016e00000000")
     ∷ entry (Take 366) (Piece (1 ∷ 0 ∷ drop 1 (catalog_bytes clinic_catalog)))
     ∷ closed
     ∷ []
@@ -376,8 +376,8 @@ abbrev pub cut_journal : Journal
 cut_journal =
     greeted clinic_catalog
     ++ sends cardio_ask
-    ∷ (byte_by_byte (hex (codes "1201001800000001")) ++ (byte_by_byte (hex (codes "0000000163617264696f00000000000363617264696f0000"))
-    ++ sends (MoreFrame 1) ∷ (byte_by_byte (hex (codes "1301000400000001")) ++ (byte_by_byte (hex (codes "00000002")) ++ sends ByeFrame ∷ closed ∷ []))))
+    ∷ (byte_by_byte (hex (codes "1202001800000001")) ++ (byte_by_byte (hex (codes "0000000163617264696f00000000000363617264696f0000"))
+    ++ sends (MoreFrame 1) ∷ (byte_by_byte (hex (codes "1302000400000001")) ++ (byte_by_byte (hex (codes "00000002")) ++ sends ByeFrame ∷ closed ∷ []))))
 
 -- however the stream is cut, the same is sent
 pub record JournalInSingleBytes : Type 0 where
@@ -399,30 +399,30 @@ invalid kind at = Some (record { kind = kind; at = at })
 
 -- a ROWS frame of one cardiologist, its identifier in hexadecimal
 abbrev pub one_row : List ℕ → List ℕ
-one_row identifier = codes "1201000c00000001" ++ (identifier ++ codes "63617264696f0000")
+one_row identifier = codes "1202000c00000001" ++ (identifier ++ codes "63617264696f0000")
 
 pub record InvalidFrames : Type 0 where
   pub valid_so_far : invalid_in (after_welcome (one_row (codes "00000003"))) ≡ None
   pub an_identifier_above_the_rows : invalid_in (after_welcome (one_row (codes "00000004"))) ≡ invalid 18 374
   pub identifier_zero : invalid_in (after_welcome (one_row (codes "00000000"))) ≡ invalid 18 374
   pub an_identifier_again : invalid_in (after_welcome (one_row (codes "00000001") ++ one_row (codes "00000001"))) ≡ invalid 18 394
-  pub a_cell_of_no_value : invalid_in (after_welcome (codes "1201000c00000001000000016300617264696f00")) ≡ invalid 18 374
+  pub a_cell_of_no_value : invalid_in (after_welcome (codes "1202000c00000001000000016300617264696f00")) ≡ invalid 18 374
   pub another_total :
-      invalid_in (after_welcome (codes "12010018000000010000000163617264696f00000000000363617264696f0000130100040000000100000001"))
+      invalid_in (after_welcome (codes "12020018000000010000000163617264696f00000000000363617264696f0000130200040000000100000001"))
       ≡ invalid 19 406
-  pub a_header_of_another_serial : invalid_in (after_welcome (codes "1201000c00000002")) ≡ invalid 18 374
-  pub a_header_of_half_a_row : invalid_in (after_welcome (codes "1201000600000001")) ≡ invalid 18 374
-  pub a_header_of_no_row : invalid_in (after_welcome (codes "1201000000000001")) ≡ invalid 18 374
-  pub a_header_of_the_greatest_length : invalid_in (after_welcome (codes "120107f800000001")) ≡ None
-  pub a_header_past_the_greatest_length : invalid_in (after_welcome (codes "1201080400000001")) ≡ invalid 18 374
-  pub sorry_of_zero : invalid_in (after_welcome (codes "140100010000000100")) ≡ invalid 20 374
+  pub a_header_of_another_serial : invalid_in (after_welcome (codes "1202000c00000002")) ≡ invalid 18 374
+  pub a_header_of_half_a_row : invalid_in (after_welcome (codes "1202000600000001")) ≡ invalid 18 374
+  pub a_header_of_no_row : invalid_in (after_welcome (codes "1202000000000001")) ≡ invalid 18 374
+  pub a_header_of_the_greatest_length : invalid_in (after_welcome (codes "120207f800000001")) ≡ None
+  pub a_header_past_the_greatest_length : invalid_in (after_welcome (codes "1202080400000001")) ≡ invalid 18 374
+  pub sorry_of_zero : invalid_in (after_welcome (codes "140200010000000100")) ≡ invalid 20 374
   pub another_byte_of_the_catalog :
       invalid_in (frame_bytes (WelcomeFrame 1 (0 ∷ drop 1 (catalog_bytes clinic_catalog)))) ≡ invalid 17 0
   pub another_generation :
       invalid_in (frame_bytes (WelcomeFrame 1 (catalog_bytes (record clinic_catalog { generation = 2 })))) ≡ invalid 17 0
   pub a_last_frame_that_is_not_marked : invalid_in (frame_bytes (WelcomeFrame 0 (catalog_bytes clinic_catalog))) ≡ invalid 17 0
-  pub a_second_hello : invalid_in (hex (codes "0101000400000000")) ≡ invalid 1 0
-  pub a_longer_catalog : invalid_in (hex (codes "1101016f00000000")) ≡ invalid 17 0
+  pub a_second_hello : invalid_in (hex (codes "0102000400000000")) ≡ invalid 1 0
+  pub a_longer_catalog : invalid_in (hex (codes "1102016f00000000")) ≡ invalid 17 0
 
 -- two texts, each with the ask for cardiologists; and a text with two asks before one with a third
 abbrev pub same_twice : List NumberedAsk
@@ -444,16 +444,16 @@ pub record FramesThatAreDue : Type 0 where
       ++ frame_bytes (WelcomeFrame 1 (drop 300 (catalog_bytes clinic_catalog))))
       ≡ HelloFrame 1 ∷ AskFrame 1 cardio_payload ∷ []
   pub serials_go_on :
-      due clinic_catalog same_twice (after_welcome (one_row (codes "00000001") ++ codes "130100040000000100000001"))
+      due clinic_catalog same_twice (after_welcome (one_row (codes "00000001") ++ codes "130200040000000100000001"))
       ≡ HelloFrame 1 ∷ AskFrame 1 cardio_payload ∷ MoreFrame 1 ∷ AskFrame 2 cardio_payload ∷ []
   pub sorry_ends_a_text :
-      due clinic_catalog two_then_one (after_welcome (codes "140100010000000101"))
+      due clinic_catalog two_then_one (after_welcome (codes "140200010000000101"))
       ≡ HelloFrame 1 ∷ AskFrame 1 (hex (codes "00010100")) ∷ AskFrame 2 (hex (codes "02010100")) ∷ []
   pub nothing_is_left :
-      due clinic_catalog two_then_one (after_welcome (codes "140100010000000101130100040000000200000000"))
+      due clinic_catalog two_then_one (after_welcome (codes "140200010000000101130200040000000200000000"))
       ≡ HelloFrame 1 ∷ AskFrame 1 (hex (codes "00010100")) ∷ AskFrame 2 (hex (codes "02010100")) ∷ ByeFrame ∷ []
   pub nothing_after_an_invalid_frame :
-      due clinic_catalog cardio_asks (after_welcome (codes "130100040000000100000001130100040000000100000000"))
+      due clinic_catalog cardio_asks (after_welcome (codes "130200040000000100000001130200040000000100000000"))
       ≡ HelloFrame 1 ∷ AskFrame 1 cardio_payload ∷ []
 
 abbrev pub clinic_host : Holding
@@ -493,5 +493,5 @@ pub record AnswersOfTheHost : Type 0 where
   pub a_second_hello : bad_request clinic_host (key_bytes (HelloFrame 1 ∷ HelloFrame 1 ∷ [])) ≡ invalid 1 12
   pub bye_within_a_reply : bad_request clinic_host (key_bytes (HelloFrame 1 ∷ cardio_ask ∷ ByeFrame ∷ [])) ≡ invalid 4 34
   pub a_frame_of_a_host : bad_request clinic_host (key_bytes (DoneFrame 1 1 ∷ [])) ≡ invalid 19 0
-  pub no_such_kind : bad_request clinic_host (key_bytes (HelloFrame 1 ∷ []) ++ hex (codes "0501000000000000")) ≡ invalid 5 12
+  pub no_such_kind : bad_request clinic_host (key_bytes (HelloFrame 1 ∷ []) ++ hex (codes "0502000000000000")) ≡ invalid 5 12
   pub nothing_is_read_after_bye : bad_request clinic_host (key_bytes (HelloFrame 1 ∷ ByeFrame ∷ ByeFrame ∷ [])) ≡ None

@@ -64,7 +64,11 @@ clinic =
     ∷ []
 
 abbrev pub clinic_catalog : Catalog
-clinic_catalog = record { schema = clinic_schema; counts = 3 ∷ 2 ∷ 4 ∷ []; generation = 1; version = 1 }
+clinic_catalog = record { schema = clinic_schema; counts = 3 ∷ 2 ∷ 4 ∷ []; generation = 1; version = 2 }
+
+-- the same at version 1
+abbrev pub clinic_catalog_one : Catalog
+clinic_catalog_one = record { schema = clinic_schema; counts = 3 ∷ 2 ∷ 4 ∷ []; generation = 1; version = 1 }
 
 abbrev pub note_table : Table
 note_table = record {
@@ -84,4 +88,7 @@ notes =
     ∷ []
 
 abbrev pub note_catalog : Catalog
-note_catalog = record { schema = note_schema; counts = 3 ∷ []; generation = 1; version = 1 }
+note_catalog = record { schema = note_schema; counts = 3 ∷ []; generation = 1; version = 2 }
+
+abbrev pub note_catalog_one : Catalog
+note_catalog_one = record { schema = note_schema; counts = 3 ∷ []; generation = 1; version = 1 }

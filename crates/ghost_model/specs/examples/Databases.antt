@@ -1,11 +1,15 @@
 -- The clinic's files and the database that they spell, and files that break the rules of loading: each rule alone, and
 -- two rules at once, of which the earlier one is told. The parts of rows, and what is no image.
-use Rattle.std.specs.Prelude.{◌≡◌, ℕ, pos, negsuc, List, [], ◌∷◌, ◌++◌, flat_map, take, codes, Option, Some, None}
-use Rattle.ghost_model.specs.core.Schema.{Schema, Column}
-use Rattle.ghost_model.specs.core.Values.{Text, Row}
+use Rattle.std.specs.Prelude.{◌≡◌, ℕ, pos, negsuc, Bool, true, false, List, [], ◌∷◌, ◌++◌, map, flat_map, take, replicate, codes, Option, Some, None}
+use Rattle.std.specs.declared.cmp.Ordering.TheVariants as order
+use Rattle.ghost_model.specs.core.Schema.{Schema, Column, Kind, Integer, Chars, IntegerOrNull, CharsOrNull}
+use Rattle.ghost_model.specs.core.Query.{Operator}
+use Rattle.ghost_model.specs.core.Query as query
+use Rattle.ghost_model.specs.core.Values.{Value, Null, Number, Text, Row}
+use Rattle.ghost_model.specs.core.Printed.{field_text}
 use Rattle.ghost_model.specs.core.Split.{Public, is_open, is_closed, part_of, column_places, asked_value, rejoined_row, public_of, image, SpellsImage}
-use Rattle.ghost_model.specs.core.Database.{database_of, integer_of, leads, records_of}
-use Rattle.ghost_model.specs.refusals.LoadFaults.{LoadFault, Header, RowLimit, FieldCount, BadId, BadInt, BadChars, BadReference, place, load_fault, load_faults, row_faults}
+use Rattle.ghost_model.specs.core.Database.{database_of, integer_of, value_of_field, is_of_kind, order_of, holds, leads, records_of}
+use Rattle.ghost_model.specs.refusals.LoadFaults.{LoadFault, Header, RowLimit, FieldCount, BadId, BadInt, BadChars, BadReference, place, load_fault, load_faults, value_faults, row_faults}
 use Rattle.ghost_model.specs.examples.Clinic.{id_column, number_column, text_column, hidden_text_column, key_column, patient_table, clinic_schema, clinic_catalog, clinic, number}
 
 -- lines that each end with a line feed
@@ -59,6 +63,50 @@ pub record IntegersOfFields : Type 0 where
   pub two_signs : integer_of (codes "+-1") ≡ None
   pub a_blank : integer_of (codes " 1") ≡ None
   pub a_point : integer_of (codes "1.0") ≡ None
+
+abbrev pub kinds : List Kind
+kinds = Integer ∷ Chars 3 ∷ IntegerOrNull ∷ CharsOrNull 3 ∷ []
+
+-- what a field spells in a column of each kind, and which faults it has
+pub record ValuesOfFields : Type 0 where
+  pub empty : map (λ kind. value_of_field kind []) kinds ≡ number 0 ∷ Text [] ∷ Null ∷ Null ∷ []
+  pub digits : map (λ kind. value_of_field kind (codes "041")) kinds ≡ number 41 ∷ Text (codes "041") ∷ number 41 ∷ Text (codes "041") ∷ []
+  pub the_word_null : map (λ kind. value_of_field kind (codes "NULL")) kinds
+      ≡ number 0 ∷ Text (codes "NULL") ∷ number 0 ∷ Text (codes "NULL") ∷ []
+  pub a_blank_is_not_empty : value_of_field (CharsOrNull 3) (codes " ") ≡ Text (codes " ")
+  pub faults_of_an_empty_field : map (λ kind. value_faults (place 0 2 1) kind []) kinds
+      ≡ (BadInt (place 0 2 1) ∷ []) ∷ [] ∷ [] ∷ [] ∷ []
+  pub faults_of_the_word_null : map (λ kind. value_faults (place 0 2 1) kind (codes "NULL")) kinds
+      ≡ (BadInt (place 0 2 1) ∷ []) ∷ (BadChars (place 0 2 1) ∷ []) ∷ (BadInt (place 0 2 1) ∷ []) ∷ (BadChars (place 0 2 1) ∷ []) ∷ []
+  pub null_is_of : map (λ kind. is_of_kind kind Null) kinds ≡ false ∷ false ∷ true ∷ true ∷ []
+  pub number_is_of : map (λ kind. is_of_kind kind (number 5)) kinds ≡ true ∷ false ∷ true ∷ false ∷ []
+  pub text_is_of : map (λ kind. is_of_kind kind (Text (codes "abc"))) kinds ≡ false ∷ true ∷ false ∷ true ∷ []
+  pub long_text_is_of : map (λ kind. is_of_kind kind (Text (codes "abcd"))) kinds ≡ replicate 4 false
+  pub null_is_printed_as_nothing : field_text Null ≡ []
+
+abbrev pub operators : List Operator
+operators =
+    query.Equal ∷ query.Unequal ∷ query.Less ∷ query.AtMost ∷ query.More ∷ query.AtLeast ∷ []
+
+-- the operators by which two values compare
+abbrev pub held : Value → Value → List Bool
+held one other = map (λ operator. holds operator one other) operators
+
+-- NULL is before all other values, and no comparison with it is true
+pub record ComparisonsWithNull : Type 0 where
+  pub before_the_least : order_of Null (Number (negsuc 9223372036854775807)) ≡ order.Less
+  pub before_the_empty_text : order_of Null (Text []) ≡ order.Less
+  pub behind_null : order_of (number 0) Null ≡ order.Greater
+  pub beside_itself : order_of Null Null ≡ order.Equal
+  pub first : held Null (number 5) ≡ replicate 6 false
+  pub second : held (number 5) Null ≡ replicate 6 false
+  pub both : held Null Null ≡ replicate 6 false
+  pub first_beside_any : (operator : Operator) (value : Value) → holds operator Null value ≡ false
+  pub second_beside_any : (operator : Operator) (value : Value) → holds operator value Null ≡ false
+  pub first_beside_a_text : held Null (Text (codes "a")) ≡ replicate 6 false
+  pub second_beside_a_text : held (Text (codes "a")) Null ≡ replicate 6 false
+  pub less : held (number 2) (number 5) ≡ false ∷ true ∷ true ∷ true ∷ false ∷ false ∷ []
+  pub equal : held (Text (codes "a")) (Text (codes "a")) ≡ true ∷ false ∷ false ∷ true ∷ false ∷ true ∷ []
 
 -- what the records of a file are
 pub record RecordsOfFiles : Type 0 where

@@ -1,14 +1,15 @@
 -- What the clinic's flash holds, file by file, and what loading it takes.
-use Rattle.std.specs.Prelude.{◌≡◌, ℕ, ◌-◌, ◌==◌, nat_lt, List, [], ◌∷◌, ◌++◌, codes, length, drop, map, get_or, replicate, if◌then◌else◌}
+use Rattle.std.specs.Prelude.{◌≡◌, ℕ, ◌+◌, ◌-◌, ◌*◌, ◌==◌, nat_lt, List, [], ◌∷◌, ◌++◌, codes, length, drop, map, get_or, replicate, if◌then◌else◌}
 use Rattle.std.specs.List.{concat}
+use Rattle.ghost_model.specs.core.Channel.{Catalog}
 use Rattle.ghost_model.specs.core.Split.{Hidden, hidden_of}
 use Rattle.ghost_model.specs.forms.Runs.{Stores}
 use Rattle.ghost_model.specs.forms.Gaps.{level_bytes}
 use Rattle.ghost_model.specs.forms.Layout.{levels_of, above_of}
 use Rattle.ghost_model.specs.laws.ShortWords.{column_file, catalog_pages}
-use Rattle.ghost_model.specs.forms.Flash.{Holds, catalog_page, hidden_cells, AreValues, value_lists, directory_records, subtree_record, id_lists, ids}
-use Rattle.ghost_model.specs.forms.Work.{file_pages, pages_built}
-use Rattle.ghost_model.specs.examples.Clinic.{clinic_schema, clinic_catalog, note_schema, note_catalog, clinic, notes}
+use Rattle.ghost_model.specs.forms.Flash.{Holds, HoldsFresh, catalog_page, hidden_cells, AreValues, value_lists, directory_records, subtree_record, id_lists, ids}
+use Rattle.ghost_model.specs.forms.Work.{public_written, file_pages, pages_built}
+use Rattle.ghost_model.specs.examples.Clinic.{clinic_schema, clinic_catalog, clinic_catalog_one, note_schema, note_catalog, clinic, notes}
 
 abbrev pub hidden_clinic : Hidden
 hidden_clinic = hidden_of clinic_schema clinic
@@ -86,7 +87,8 @@ pub record IndexesOfTheClinic : Type 0 where
   pub visits_of_doctors :
       level_bytes (id_lists clinic_catalog hidden_clinic 0 2) ≡ 1 ∷ 4 ∷ 2 ∷ 1 ∷ []
 
--- All pages of the clinic: those of the catalog, and from page 64 on these records, which a page has before bytes 0xFF.
+-- All pages of the clinic: those of the catalog, the gate and its header, and from page 256 on these records, which a page has before
+-- bytes 0xFF.
 abbrev pub place_of : (first count : ℕ) → List ℕ
 place_of first count = small first ++ small count
 
@@ -135,10 +137,20 @@ visit_files =
 abbrev pub filled : List ℕ → List ℕ
 filled bytes = bytes ++ replicate (2048 - length bytes) 0xff
 
+-- the public pages behind those of the catalog begin with these bytes on a fresh device
+abbrev pub of_gate : (generation which place : ℕ) → List ℕ
+of_gate generation which place =
+    if place == 64 then which ∷ [] else if place == 128 + 64 * which then small generation ++ small 0 else []
+
+-- pages that hold a catalog of generation 1 and version 2 and these files
+abbrev pub page_with : Catalog → (files : List (List (List ℕ))) → (place : ℕ) → List ℕ
+page_with cat files place =
+    if nat_lt place 64 then catalog_page cat place
+    else if nat_lt place 256 then filled (of_gate 1 1 place)
+    else filled (concat (get_or files (place - 256) []))
+
 abbrev pub clinic_page : (place : ℕ) → List ℕ
-clinic_page place =
-    if nat_lt place 64 then catalog_page clinic_catalog place
-    else filled (concat (get_or (doctor_files ++ (patient_files ++ visit_files)) (place - 64) []))
+clinic_page place = page_with clinic_catalog (doctor_files ++ (patient_files ++ visit_files)) place
 
 -- pages of which one has another byte at its beginning
 abbrev pub changed : (at byte : ℕ) → (place : ℕ) → List ℕ
@@ -147,11 +159,31 @@ changed at byte place = if place == at then byte ∷ drop 1 (clinic_page place) 
 pub record HoldingsOfTheClinic : Type 0 where
   pub whole : Holds clinic_page clinic_catalog hidden_clinic
   pub another_catalog : Holds (changed 0 0) clinic_catalog hidden_clinic → ⊥
-  pub another_country : Holds (changed 64 0) clinic_catalog hidden_clinic → ⊥
-  pub another_entry_of_an_index : Holds (changed 66 0) clinic_catalog hidden_clinic → ⊥
-  pub another_place_of_visits : Holds (changed 69 1) clinic_catalog hidden_clinic → ⊥
-  pub another_visit_of_a_doctor : Holds (changed 70 3) clinic_catalog hidden_clinic → ⊥
-  pub another_doctor : Holds (changed 81 1) clinic_catalog hidden_clinic → ⊥
+  pub the_other_header : Holds (changed 64 0) clinic_catalog hidden_clinic → ⊥
+  pub another_generation : Holds (changed 192 1) clinic_catalog hidden_clinic → ⊥
+  pub both_headers : Holds (changed 128 0) clinic_catalog hidden_clinic → ⊥
+  pub a_page_behind_the_gate : Holds (changed 65 0) clinic_catalog hidden_clinic → ⊥
+  pub another_country : Holds (changed 256 0) clinic_catalog hidden_clinic → ⊥
+  pub another_entry_of_an_index : Holds (changed 258 0) clinic_catalog hidden_clinic → ⊥
+  pub another_place_of_visits : Holds (changed 261 1) clinic_catalog hidden_clinic → ⊥
+  pub another_visit_of_a_doctor : Holds (changed 262 3) clinic_catalog hidden_clinic → ⊥
+  pub another_doctor : Holds (changed 273 1) clinic_catalog hidden_clinic → ⊥
+
+-- the gate and the headers of fresh devices
+pub record FreshDevices : Type 0 where
+  pub six : HoldsFresh (λ place. filled (of_gate 6 0 place)) (record clinic_catalog { generation = 6 })
+  pub gate_of_one : (page : ℕ → List ℕ) → HoldsFresh page clinic_catalog → page 64 ≡ 0x01 ∷ replicate 2047 0xff
+  pub header_of_one :
+      (page : ℕ → List ℕ) → HoldsFresh page clinic_catalog
+      → page 192 ≡ 0 ∷ 0 ∷ 0 ∷ 1 ∷ 0 ∷ 0 ∷ 0 ∷ 0 ∷ replicate 2040 0xff
+  pub no_header_of_one : (page : ℕ → List ℕ) → HoldsFresh page clinic_catalog → page 128 ≡ replicate 2048 0xff
+  pub gate_of_six :
+      (page : ℕ → List ℕ) → HoldsFresh page (record clinic_catalog { generation = 6 }) → page 64 ≡ 0x00 ∷ replicate 2047 0xff
+  pub header_of_six :
+      (page : ℕ → List ℕ) → HoldsFresh page (record clinic_catalog { generation = 6 })
+      → page 128 ≡ 0 ∷ 0 ∷ 0 ∷ 6 ∷ 0 ∷ 0 ∷ 0 ∷ 0 ∷ replicate 2040 0xff
+  pub no_header_of_six :
+      (page : ℕ → List ℕ) → HoldsFresh page (record clinic_catalog { generation = 6 }) → page 192 ≡ replicate 2048 0xff
 
 -- the page of doctor.country
 abbrev pub country_page : List ℕ
@@ -172,6 +204,8 @@ pub record PagesOfTheClinic : Type 0 where
       (hidden_cells clinic_schema hidden_clinic 0 2)
       → ⊥
   pub for_the_catalog : catalog_pages clinic_catalog ≡ 1
+  pub with_the_gate : public_written clinic_catalog ≡ 3
   pub for_the_files : file_pages clinic_catalog hidden_clinic ≡ 27
-  pub built : pages_built clinic_catalog hidden_clinic ≡ 29
-  pub built_for_the_notes : pages_built note_catalog hidden_notes ≡ 6
+  pub built : pages_built clinic_catalog hidden_clinic ≡ 31
+  pub built_at_version_one : pages_built clinic_catalog_one hidden_clinic ≡ 29
+  pub built_for_the_notes : pages_built note_catalog hidden_notes ≡ 8

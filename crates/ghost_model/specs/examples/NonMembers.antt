@@ -1,7 +1,7 @@
 -- What the relations leave out: journals that are not proper, finished, honest or served, lines that no session gives, lists of
 -- rows that are no database, and slots that are not damaged. Each stands beside a member among the other examples, and
 -- mostly differs from it in one thing.
-use Rattle.std.specs.Prelude.{ℕ, ◌-◌, ◌==◌, List, [], ◌∷◌, ◌++◌, codes, drop, get_or, nat_lt, replicate, if◌then◌else◌}
+use Rattle.std.specs.Prelude.{ℕ, ◌==◌, List, [], ◌∷◌, ◌++◌, codes, drop, get_or, replicate, if◌then◌else◌}
 use Rattle.std.specs.List.{concat}
 use Rattle.ghost_model.specs.core.Values.{Row, Database, Text}
 use Rattle.ghost_model.specs.core.Database.{IsDatabase}
@@ -10,12 +10,11 @@ use Rattle.ghost_model.specs.core.NextMove.{IsProper, IsFinished}
 use Rattle.ghost_model.specs.core.Host.{host_of}
 use Rattle.ghost_model.specs.core.Honest.{IsHonest}
 use Rattle.ghost_model.specs.core.Local.{IsServedBy}
-use Rattle.ghost_model.specs.forms.Flash.{catalog_page}
 use Rattle.ghost_model.specs.forms.Slots.{IsDamagedSlot}
 use Rattle.ghost_model.specs.examples.Clinic.{clinic, clinic_schema, clinic_catalog, note_catalog, number, doctor_row, visit_row}
 use Rattle.ghost_model.specs.examples.Channel.{hex, entry, cardio_ask, cardio_journal, cut_journal, silent_journal, greeted, dialled, sends, takes, closed}
 use Rattle.ghost_model.specs.examples.Sessions.{cardio_texts, clinic_public, lying_journal, ending_journal, Lines, line, visit_line}
-use Rattle.ghost_model.specs.examples.Flash.{small, filled}
+use Rattle.ghost_model.specs.examples.Flash.{small, filled, page_with}
 
 -- the session of the text about cardiologists up to its first ask, and what may follow the ask
 abbrev pub asking : Journal
@@ -30,16 +29,16 @@ abbrev pub hidden_ask : Journal
 hidden_ask = asking ++ sends (AskFrame 1 (hex (codes "00010102010163617264696f000002014652"))) ∷ []
 
 abbrev pub early_take : Journal
-early_take = asking ++ takes 8 (codes "1201001800000001") ∷ []
+early_take = asking ++ takes 8 (codes "1202001800000001") ∷ []
 
 -- a byte more is taken than the header lacks
 abbrev pub long_take : Journal
-long_take = asking ++ sends cardio_ask ∷ takes 9 (codes "120100180000000100") ∷ []
+long_take = asking ++ sends cardio_ask ∷ takes 9 (codes "120200180000000100") ∷ []
 
 -- a failed take is tried again
 abbrev pub second_try : Journal
 second_try =
-    asking ++ sends cardio_ask ∷ entry (Take 8) Failed ∷ takes 8 (codes "1201001800000001") ∷ []
+    asking ++ sends cardio_ask ∷ entry (Take 8) Failed ∷ takes 8 (codes "1202001800000001") ∷ []
 
 -- each begins as a proper journal does, and has one move that is not the next one
 pub record JournalsThatAreNotProper : Type 0 where
@@ -96,29 +95,47 @@ pub record RowsThatAreNoDatabase : Type 0 where
 abbrev pub body : List ℕ → List ℕ
 body letter = letter ++ replicate 7 0
 
+-- an entry of the index: a body, and the place of its rows
+abbrev pub body_at : (letter : List ℕ) → (first count : ℕ) → List ℕ
+body_at letter first count = body letter ++ (small first ++ small count)
+
+-- the files with these entries and these bytes of the index's level file
+abbrev pub files_with : (entries : List (List ℕ)) → (codes_there : List ℕ) → List (List (List ℕ))
+files_with entries codes_there =
+    (body (codes "x") ∷ body (codes "y") ∷ body (codes "z") ∷ []) ∷ (small 3 ∷ []) ∷ entries ∷ (codes_there ∷ []) ∷ []
+
 abbrev pub note_files : List (List (List ℕ))
-note_files =
-    (body (codes "x") ∷ body (codes "y") ∷ body (codes "z") ∷ [])
-    ∷ (small 3 ∷ [])
-    ∷ ((body (codes "x") ++ (small 0 ++ small 1)) ∷ (body (codes "y") ++ (small 1 ++ small 1)) ∷ (body (codes "z") ++ (small 2 ++ small 1)) ∷ [])
-    ∷ ((1 ∷ 2 ∷ 3 ∷ []) ∷ [])
-    ∷ []
+note_files = files_with (body_at (codes "x") 0 1 ∷ body_at (codes "y") 1 1 ∷ body_at (codes "z") 2 1 ∷ []) (1 ∷ 2 ∷ 3 ∷ [])
 
 abbrev pub note_page : (place : ℕ) → List ℕ
-note_page place =
-    if nat_lt place 64 then catalog_page note_catalog place else filled (concat (get_or note_files (place - 64) []))
+note_page place = page_with note_catalog note_files place
 
 -- the last entry of the index's directory says that its rows begin before those of the entry before it end
 abbrev pub bad_directory : List ℕ
-bad_directory =
-    (body (codes "x") ++ (small 0 ++ small 1)) ++ ((body (codes "y") ++ (small 1 ++ small 1)) ++ ((body (codes "z") ++ (small 1 ++ small 1)) ++ replicate 2000 0xff))
+bad_directory = filled (concat (body_at (codes "x") 0 1 ∷ body_at (codes "y") 1 1 ∷ body_at (codes "z") 1 1 ∷ []))
 
 abbrev pub bad_page : (place : ℕ) → List ℕ
-bad_page place = if place == 66 then bad_directory else note_page place
+bad_page place = if place == 258 then bad_directory else note_page place
 
--- whole pages have no damaged slot, and beside a damaged one others are not, nor is it by other bytes
+-- the last entry, with one body or another, leads to a byte behind the codes
+abbrev pub led_page : (letter : List ℕ) → (place : ℕ) → List ℕ
+led_page letter place =
+    page_with note_catalog (files_with (body_at (codes "x") 0 1 ∷ body_at (codes "y") 1 1 ∷ body_at letter 5 1 ∷ []) (1 ∷ 2 ∷ 3 ∷ [])) place
+
+-- the first entry has three rows: the third one, then one past all rows, and then no code stands
+abbrev pub long_page : (place : ℕ) → List ℕ
+long_page place =
+    page_with note_catalog (files_with (body_at (codes "x") 0 3 ∷ body_at (codes "y") 0 1 ∷ body_at (codes "z") 0 1 ∷ []) (3 ∷ 3 ∷ 0 ∷ [])) place
+
+-- whole pages have no damaged slot, and beside a damaged one others are not, nor is it by other bytes. A slot of the level file to
+-- which only a damaged entry leads is not, and none behind the code that passed the rows is
 pub record SlotsThatAreNotDamaged : Type 0 where
   pub none_of_whole_pages : (number slot found : ℕ) → IsDamagedSlot note_catalog note_page number slot found → ⊥
-  pub one_of_a_bad_page : IsDamagedSlot note_catalog bad_page 66 2 0x7a00000000000000
-  pub none_before_it : (found : ℕ) → IsDamagedSlot note_catalog bad_page 66 1 found → ⊥
-  pub no_other_bytes : IsDamagedSlot note_catalog bad_page 66 2 0 → ⊥
+  pub one_of_a_bad_page : IsDamagedSlot note_catalog bad_page 258 2 0x7a00000000000000
+  pub none_before_it : (found : ℕ) → IsDamagedSlot note_catalog bad_page 258 1 found → ⊥
+  pub no_other_bytes : IsDamagedSlot note_catalog bad_page 258 2 0 → ⊥
+  pub led_to_by_an_entry : IsDamagedSlot note_catalog (led_page (codes "z")) 259 5 0xffffffffffffffff
+  pub by_a_damaged_entry : (found : ℕ) → IsDamagedSlot note_catalog (led_page (31 ∷ [])) 259 5 found → ⊥
+  pub the_entry_itself : IsDamagedSlot note_catalog (led_page (31 ∷ [])) 258 2 0x1f00000000000000
+  pub past_the_rows : IsDamagedSlot note_catalog long_page 259 1 0x0300ffffffffffff
+  pub behind_it : (found : ℕ) → IsDamagedSlot note_catalog long_page 259 2 found → ⊥

@@ -2,12 +2,12 @@
 use Rattle.std.specs.Prelude.{◌≡◌, ℕ, List, [], ◌∷◌, ◌++◌, codes, map, Result, Ok, Err}
 use Rattle.std.specs.List.{range_with_len}
 use Rattle.ghost_model.specs.core.Schema.{Schema}
-use Rattle.ghost_model.specs.core.Values.{Rows, Database}
+use Rattle.ghost_model.specs.core.Values.{Null, Text, Rows, Database}
 use Rattle.ghost_model.specs.core.Query.{Query}
-use Rattle.ghost_model.specs.forms.QueryWork.{bits, union_work, work}
+use Rattle.ghost_model.specs.forms.QueryWork.{bits, union_work, count_values, work}
 use Rattle.ghost_model.specs.refusals.QueryMeaning.{Refusal}
 use Rattle.ghost_model.specs.readings.QueryReading.{reading}
-use Rattle.ghost_model.specs.examples.Clinic.{clinic_schema, clinic, note_schema, note_row}
+use Rattle.ghost_model.specs.examples.Clinic.{number, clinic_schema, clinic, note_schema, note_row}
 use Rattle.ghost_model.specs.examples.Meaning.{cardio_on, from_day_two, names_of_ann, visits_of_spain}
 
 -- the work of a text that was read; a refused one has none
@@ -30,6 +30,8 @@ pub record NumbersOfWork : Type 0 where
   pub one_identifier_less : union_work 1 63 ≡ 80
   pub a_hundred_lists : union_work 100 6400 ≡ 9988
   pub lists_of_few : union_work 255 1000 ≡ 24756
+  pub values : count_values (number 5 ∷ number 3 ∷ number 5 ∷ []) ≡ 2
+  pub null_is_a_value : count_values (Null ∷ Text (codes "a") ∷ Null ∷ Text [] ∷ Text (codes "a") ∷ []) ≡ 3
 
 pub record WorkOnTheClinic : Type 0 where
   pub a_condition_and_a_reply : work_on_clinic (cardio_on (codes "flu")) ≡ 322

@@ -45,13 +45,13 @@ abbrev pub lying_journal : Journal
 lying_journal =
     dialled []
     ∷ sends (HelloFrame 1)
-    ∷ takes 8 (codes "1101016e00000000")
+    ∷ takes 8 (codes "1102016e00000000")
     ∷ welcomed clinic_catalog
     ∷ sends cardio_ask
-    ∷ takes 8 (codes "1201001800000001")
+    ∷ takes 8 (codes "1202001800000001")
     ∷ takes 24 (codes "0000000163617264696f00000000000263617264696f0000")
     ∷ sends (MoreFrame 1)
-    ∷ takes 8 (codes "1301000400000001")
+    ∷ takes 8 (codes "1302000400000001")
     ∷ takes 4 (codes "00000002")
     ∷ sends ByeFrame
     ∷ closed
@@ -62,10 +62,10 @@ abbrev pub refusing_journal : Journal
 refusing_journal =
     dialled []
     ∷ sends (HelloFrame 1)
-    ∷ takes 8 (codes "1101016e00000000")
+    ∷ takes 8 (codes "1102016e00000000")
     ∷ welcomed clinic_catalog
     ∷ sends cardio_ask
-    ∷ takes 8 (codes "1401000100000001")
+    ∷ takes 8 (codes "1402000100000001")
     ∷ takes 1 (codes "01")
     ∷ sends ByeFrame
     ∷ closed
@@ -76,10 +76,10 @@ abbrev pub ending_journal : Journal
 ending_journal =
     dialled []
     ∷ sends (HelloFrame 1)
-    ∷ takes 8 (codes "1101016e00000000")
+    ∷ takes 8 (codes "1102016e00000000")
     ∷ welcomed clinic_catalog
     ∷ sends cardio_ask
-    ∷ takes 8 (codes "1201001800")
+    ∷ takes 8 (codes "1202001800")
     ∷ ends 3
     ∷ closed
     ∷ []
@@ -89,10 +89,10 @@ abbrev pub one_row_journal : (identifier : List ℕ) → Journal
 one_row_journal identifier =
     dialled []
     ∷ sends (HelloFrame 1)
-    ∷ takes 8 (codes "1101016e00000000")
+    ∷ takes 8 (codes "1102016e00000000")
     ∷ welcomed clinic_catalog
     ∷ sends cardio_ask
-    ∷ takes 8 (codes "1201000c00000001")
+    ∷ takes 8 (codes "1202000c00000001")
     ∷ takes 12 (identifier ++ codes "63617264696f0000")
     ∷ closed
     ∷ []
@@ -192,7 +192,7 @@ abbrev pub quiet_clinic : Database
 quiet_clinic = take 2 clinic ++ [] ∷ []
 
 abbrev pub quiet_catalog : Catalog
-quiet_catalog = record { schema = clinic_schema; counts = 3 ∷ 2 ∷ 0 ∷ []; generation = 1; version = 1 }
+quiet_catalog = record { schema = clinic_schema; counts = 3 ∷ 2 ∷ 0 ∷ []; generation = 1; version = 2 }
 
 abbrev pub day_texts : List (List ℕ)
 day_texts = codes "SELECT day FROM visit" ∷ []
@@ -201,10 +201,10 @@ abbrev pub quiet_journal : Journal
 quiet_journal =
     dialled []
     ∷ sends (HelloFrame 1)
-    ∷ takes 8 (codes "1101016e00000000")
+    ∷ takes 8 (codes "1102016e00000000")
     ∷ welcomed quiet_catalog
     ∷ sends (AskFrame 1 (hex (codes "02010100")))
-    ∷ takes 8 (codes "1301000400000001")
+    ∷ takes 8 (codes "1302000400000001")
     ∷ takes 4 (codes "00000000")
     ∷ sends ByeFrame
     ∷ closed
@@ -224,19 +224,19 @@ abbrev pub three_texts_journal : Journal
 three_texts_journal =
     dialled []
     ∷ sends (HelloFrame 1)
-    ∷ takes 8 (codes "1101016e00000000")
+    ∷ takes 8 (codes "1102016e00000000")
     ∷ welcomed clinic_catalog
     ∷ sends cardio_ask
-    ∷ takes 8 (codes "1201001800000001")
+    ∷ takes 8 (codes "1202001800000001")
     ∷ takes 24 (codes "0000000163617264696f00000000000363617264696f0000")
     ∷ sends (MoreFrame 1)
-    ∷ takes 8 (codes "1301000400000001")
+    ∷ takes 8 (codes "1302000400000001")
     ∷ takes 4 (codes "00000002")
     ∷ sends (AskFrame 2 (hex (codes "0201010101068000000000000002")))
-    ∷ takes 8 (codes "1201003000000002")
+    ∷ takes 8 (codes "1202003000000002")
     ∷ takes 48 (codes "000000018000000000000005000000028000000000000005000000038000000000000009000000048000000000000002")
     ∷ sends (MoreFrame 2)
-    ∷ takes 8 (codes "1301000400000002")
+    ∷ takes 8 (codes "1302000400000002")
     ∷ takes 4 (codes "00000004")
     ∷ sends ByeFrame
     ∷ closed

@@ -134,8 +134,8 @@ abbrev pub directory_page : List ℕ
 directory_page = entry (codes "FR") 0 2 0 3 ++ (entry (codes "ES") 2 1 3 1 ++ replicate 2012 0xff)
 
 pub record DamagedSlots : Type 0 where
-  pub no_such_doctor : IsDamagedSlot clinic_catalog (λ _. doctor_page) 79 2 0x8000000000000004
-  pub the_later_of_two : IsDamagedSlot clinic_catalog (λ _. directory_page) 66 1 0x4553000000020000
+  pub no_such_doctor : IsDamagedSlot clinic_catalog (λ _. doctor_page) 271 2 0x8000000000000004
+  pub the_later_of_two : IsDamagedSlot clinic_catalog (λ _. directory_page) 258 1 0x4553000000020000
   -- the level file of doctors in the index of doctor.country with another byte at its beginning
-  pub no_code : IsDamagedSlot clinic_catalog (changed 67 0) 67 0 0x000101ffffffffff
-  pub more_than_all_doctors : IsDamagedSlot clinic_catalog (changed 67 3) 67 1 0x0101ffffffffffff
+  pub no_code : IsDamagedSlot clinic_catalog (changed 259 0) 259 0 0x000101ffffffffff
+  pub more_than_all_doctors : IsDamagedSlot clinic_catalog (changed 259 3) 259 1 0x0101ffffffffffff

@@ -2,10 +2,10 @@
 -- in lower case, one space between words, `REFERENCES` with the child's name and `(id)` at a foreign key, and then HIDDEN
 -- at each hidden column. The catalog's bytes are `GHOSTDB`, the
 -- version of the format, the generation, the length of the canonical text, that text, and each table's number of rows.
-use Rattle.std.specs.Prelude.{ℕ, Bool, true, false, List, [], ◌∷◌, ◌++◌, length, drop, flat_map, codes, decimal, Option, Some, None, slice_get, ◌≡◌, ◌<◌, ◌^◌, nat_le}
+use Rattle.std.specs.Prelude.{ℕ, Bool, true, false, ◌||◌, ◌==◌, List, [], ◌∷◌, ◌++◌, length, drop, flat_map, codes, decimal, Option, Some, None, slice_get, ◌≡◌, ◌<◌, ◌^◌, nat_le}
 use Rattle.std.specs.List.{list_all}
 use Rattle.std.specs.Int.{to_be_bytes, w32}
-use Rattle.ghost_model.specs.core.Schema.{Schema, Table, Column, Kind, Integer, Chars}
+use Rattle.ghost_model.specs.core.Schema.{Schema, Table, Column, Kind, Integer, Chars, IntegerOrNull, CharsOrNull}
 use Rattle.ghost_model.specs.core.Channel.{Catalog}
 use Rattle.ghost_model.specs.refusals.SchemaFaults.{MeansSchema}
 use Rattle.ghost_model.specs.refusals.LoadFaults.{most_rows}
@@ -13,6 +13,8 @@ use Rattle.ghost_model.specs.refusals.LoadFaults.{most_rows}
 abbrev pub kind_text : Kind → List ℕ
 kind_text Integer = codes "INTEGER"
 kind_text (Chars most) = codes "CHAR(" ++ (decimal most ++ codes ")")
+kind_text IntegerOrNull = codes "INTEGER NULL"
+kind_text (CharsOrNull most) = codes "CHAR(" ++ (decimal most ++ codes ") NULL")
 
 abbrev pub name_or_none : Option Table → List ℕ
 name_or_none None = []
@@ -43,8 +45,12 @@ table_text schema table =
 abbrev pub canonical_text : Schema → List ℕ
 canonical_text schema = flat_map (table_text schema) schema
 
-abbrev pub catalog_version : ℕ
-catalog_version = 1
+-- the versions of the format, and the one that is made
+abbrev pub is_version : ℕ → Bool
+is_version version = version == 1 || version == 2
+
+abbrev pub current_version : ℕ
+current_version = 2
 
 -- the bytes before the canonical text: the mark, the version, the generation and the text's length
 abbrev pub catalog_head : (version generation length : ℕ) → List ℕ
@@ -66,7 +72,12 @@ pub record IsCatalog (cat : Catalog) : Type 0 where
   pub few_rows : list_all (λ count. nat_le count most_rows) cat.counts ≡ true
   pub some_generation : 0 < cat.generation
   pub generation_fits : cat.generation < 2 ^ 32
-  pub one_version : cat.version ≡ catalog_version
+  pub some_version : is_version cat.version ≡ true
+
+-- a catalog of the version that is made, which a key and a host need
+pub record IsCurrent (cat : Catalog) : Type 0 where
+  pub proper : IsCatalog cat
+  pub version : cat.version ≡ current_version
 
 pub record SpellsCatalog (bytes : List ℕ) (cat : Catalog) : Type 0 where
   pub proper : IsCatalog cat

@@ -1,10 +1,11 @@
--- What the flash holds once it is loaded: on its public pages the catalog, and in each static file what follows from the
+-- What the flash holds once it is loaded: on its public pages the catalog, at version 2 also the gate and the headers of a fresh
+-- device, and in each static file what follows from the
 -- hidden part of a database. A column file has the column's cells, row by row. A subtree key table has, for each row, the
 -- identifiers of the rows that it leads to in the tables below. A climbing index has, for each value of its column, the
 -- rows that have it and the rows of each table above that lead to such a row; an id index has the same for each
 -- identifier. At one level the lists of all entries stand one after another as gaps, and an entry of the directory says at which
 -- byte its own begins and how many identifiers it has. The part that each file kind has is a word of its own; `Holds` is all of them.
-use Rattle.std.specs.Prelude.{◌≡◌, ℕ, ◌-◌, ◌*◌, ◌<◌, ◌≤◌, pos, true, false, List, [], ◌∷◌, ◌++◌, length, take, drop, map, filter, flat_map, replicate, get_or, slice_index, Contains, bytes_eq, Option, slice_get, unwrap_or}
+use Rattle.std.specs.Prelude.{◌≡◌, ℕ, ◌-◌, ◌*◌, ◌<◌, ◌≤◌, ◌||◌, ◌==◌, pos, true, false, List, [], ◌∷◌, ◌++◌, length, take, drop, map, filter, flat_map, replicate, get_or, slice_index, Contains, bytes_eq, Option, slice_get, unwrap_or}
 use Rattle.std.specs.List.Sorted.{IsStrictlySortedBy}
 use Rattle.std.specs.List.{range_with_len}
 use Rattle.std.specs.Option.{option_map_or}
@@ -15,15 +16,15 @@ use Rattle.ghost_model.specs.core.Values.{Number, Row, Rows, Database}
 use Rattle.ghost_model.specs.core.Channel.{Catalog}
 use Rattle.ghost_model.specs.core.Database.{IsDatabase, row_counts, leads}
 use Rattle.ghost_model.specs.forms.Cells.{encode_cell}
-use Rattle.ghost_model.specs.forms.Catalog.{catalog_bytes}
+use Rattle.ghost_model.specs.forms.Catalog.{catalog_bytes, current_version}
 use Rattle.ghost_model.specs.core.Asks.{kind_at}
 use Rattle.ghost_model.specs.core.Split.{Hidden, hidden_of, rejoined, value_at}
 use Rattle.ghost_model.specs.core.Replies.{hidden_places}
 use Rattle.ghost_model.specs.forms.Runs.{Run, page_bytes, number_cell, Stores}
 use Rattle.ghost_model.specs.forms.Gaps.{StoresBytes, level_bytes, list_begin}
-use Rattle.ghost_model.specs.forms.Layout.{below, is_hidden, count_of, levels_of, above_of, descendants_of, public_pages, Cells, Subtrees, IndexHeader, IndexDirectory, IndexLevel, IdDirectory, IdLevel, run_of_file}
+use Rattle.ghost_model.specs.forms.Layout.{below, is_hidden, count_of, levels_of, above_of, descendants_of, catalog_pages, public_pages, gate_page, header_page, fresh_half, Cells, Subtrees, IndexHeader, IndexDirectory, IndexLevel, IdDirectory, IdLevel, run_of_file}
 
--- The public pages: a page of the catalog's bytes, and 0xFF where there are none.
+-- The public pages: pages of the catalog's bytes, and 0xFF where there are none.
 abbrev pub catalog_part : Catalog → (place : ℕ) → List ℕ
 catalog_part cat place = take page_bytes (drop (place * page_bytes) (catalog_bytes cat))
 
@@ -31,7 +32,25 @@ abbrev pub catalog_page : Catalog → (place : ℕ) → List ℕ
 catalog_page cat place = catalog_part cat place ++ replicate (page_bytes - length (catalog_part cat place)) 0xff
 
 abbrev pub HoldsCatalog : (ℕ → List ℕ) → Catalog → Type 0
-HoldsCatalog page cat = (place : ℕ) → place < public_pages → page place ≡ catalog_page cat place
+HoldsCatalog page cat = (place : ℕ) → place < catalog_pages → page place ≡ catalog_page cat place
+
+-- The gate names the header that counts, and that header has the generation and the number of appended rows.
+abbrev pub gate_bytes : (which : ℕ) → List ℕ
+gate_bytes which = which ∷ replicate (page_bytes - 1) 0xff
+
+abbrev pub header_bytes : (generation rows : ℕ) → List ℕ
+header_bytes generation rows = number_cell generation ++ (number_cell rows ++ replicate (page_bytes - 8) 0xff)
+
+pub record HoldsGate (page : ℕ → List ℕ) (which generation rows : ℕ) : Type 0 where
+  pub gate : page gate_page ≡ gate_bytes which
+  pub header : page (header_page which) ≡ header_bytes generation rows
+
+-- those of a device that was just loaded: no row is appended, and all other bytes behind the catalog's pages are 0xFF
+pub record HoldsFresh (page : ℕ → List ℕ) (cat : Catalog) : Type 0 where
+  pub counts : HoldsGate page (fresh_half cat) cat.generation 0
+  pub blank :
+      (place : ℕ) → catalog_pages ≤ place → place < public_pages cat
+      → (place == gate_page || place == header_page (fresh_half cat)) ≡ false → page place ≡ replicate page_bytes 0xff
 
 -- Column files. A row of the hidden part has a value for each hidden column in order.
 abbrev pub hidden_rows : Hidden → (table : ℕ) → Rows
@@ -153,4 +172,5 @@ pub record HoldsFiles (page : ℕ → List ℕ) (cat : Catalog) (hidden : Hidden
 -- the pages hold the catalog and the hidden part
 pub record Holds (page : ℕ → List ℕ) (cat : Catalog) (hidden : Hidden) : Type 0 where
   pub catalog : HoldsCatalog page cat
+  pub fresh : cat.version ≡ current_version → HoldsFresh page cat
   pub files : HoldsFiles page cat hidden

@@ -1,4 +1,4 @@
--- Frames as bytes. A frame has a header of 8 bytes and a payload. The header is the kind, the version 1, the length of
+-- Frames as bytes. A frame has a header of 8 bytes and a payload. The header is the kind, the version 2, the length of
 -- the payload in 2 bytes and the serial in 4, most significant byte first. Each frame has one spelling. Apart from any
 -- place in a session, a header may have one of eight kinds, serial 0 exactly for HELLO, BYE and WELCOME, and a length
 -- that its kind has; a payload of WELCOME begins with 0 or 1, and one of SORRY is not 0.
@@ -34,7 +34,7 @@ payload_of (SorryFrame _ code) = code ∷ []
 payload_of _ = []
 
 abbrev pub frame_version : ℕ
-frame_version = 1
+frame_version = 2
 
 abbrev pub header_bytes : (kind size serial : ℕ) → List ℕ
 header_bytes kind size serial = kind ∷ frame_version ∷ (to_be_bytes w16 size ++ to_be_bytes w32 serial)

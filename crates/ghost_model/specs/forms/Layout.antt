@@ -1,12 +1,14 @@
--- Where everything lies on the flash. Pages 0 to 63 are public: the catalog's bytes. From page 64 on the static files
+-- Where everything lies on the flash, by the version of the catalog. The first pages are public: 64 for the catalog's bytes, and at
+-- version 2 a block for the gate and one for each of two headers. Behind them the static files
 -- follow one another in the order of `structures`, each on pages of its own. The static part ends at a block. Then come
--- the two halves of the spool, in each an area for each table that has a visible column, and then six scratch areas of one
--- size; each of these areas is of whole blocks. A file or an area is a run: a first page, and so many records of one width. A level
+-- the two halves of the spool, in each an area for each table that has a visible column, and then the scratch areas, all of one
+-- size: six at version 1 and eight at version 2. At version 2 two areas for appended rows of the root follow. Each of these areas is of
+-- whole blocks. A file or an area is a run: a first page, and so many records of one width. A level
 -- file has the pages that four bytes for each identifier take, and is a run of their single bytes.
-use Rattle.std.specs.Prelude.{ℕ, ◌+◌, ◌-◌, ◌*◌, ◌/◌, max, Bool, false, ◌&&◌, ◌==◌, List, [], ◌∷◌, ◌++◌, length, take, drop, map, filter, filter_map, flat_map, fold, sum_by, get_or, if◌then◌else◌}
+use Rattle.std.specs.Prelude.{ℕ, ◌+◌, ◌-◌, ◌*◌, ◌/◌, ◌%◌, max, Bool, false, ◌&&◌, ◌||◌, ◌==◌, is_some, is_none, List, [], ◌∷◌, ◌++◌, length, take, drop, map, filter, filter_map, flat_map, fold, sum_by, get_or, if◌then◌else◌}
 use Rattle.std.specs.List.{list_any, range_with_len, before_first}
 use Rattle.std.specs.Option.{option_map_or}
-use Rattle.ghost_model.specs.core.Schema.{Schema, Column, columns_of, column_at, is_empty, is_visible, ancestor}
+use Rattle.ghost_model.specs.core.Schema.{Schema, Column, columns_of, column_at, is_empty, is_visible, ancestor, parent}
 use Rattle.ghost_model.specs.core.Channel.{Catalog}
 pub use Rattle.ghost_model.specs.core.Channel.{count_of}
 use Rattle.ghost_model.specs.forms.Cells.{cell_width}
@@ -87,13 +89,29 @@ is_same (ClimbingIndex table column) (ClimbingIndex other at) = table == other &
 is_same (IdIndex table) (IdIndex other) = table == other
 is_same _ _ = false
 
-abbrev pub public_pages : ℕ
-public_pages = 64
+-- the pages of the catalog's bytes
+abbrev pub catalog_pages : ℕ
+catalog_pages = 64
+
+-- all public pages: at version 2 those of the gate and of the two headers as well
+abbrev pub public_pages : Catalog → ℕ
+public_pages cat = if cat.version == 1 then catalog_pages else 256
+
+-- the gate says which header counts; each stands on the first page of a block
+abbrev pub gate_page : ℕ
+gate_page = 64
+
+abbrev pub header_page : (which : ℕ) → ℕ
+header_page which = 128 + 64 * which
+
+-- the half that counts on a fresh device
+abbrev pub fresh_half : Catalog → ℕ
+fresh_half cat = cat.generation % 2
 
 -- the first page of the file at a place of a structure: so many pages are public or of files before it
 unfoldable pub first_page : Catalog → Structure → (place : ℕ) → ℕ
 first_page cat structure place =
-    public_pages + sum_by (structure_pages cat) (before_first (is_same structure) (structures cat.schema))
+    public_pages cat + sum_by (structure_pages cat) (before_first (is_same structure) (structures cat.schema))
     + files_pages (take place (files_of cat structure))
 
 abbrev pub run_of : Catalog → Structure → (place : ℕ) → Run
@@ -124,7 +142,7 @@ run_of_file cat (IdLevel table level) = room_of (run_of cat (IdIndex table) (1 +
 
 -- the page after the static files
 unfoldable pub files_end : Catalog → ℕ
-files_end cat = public_pages + sum_by (structure_pages cat) (structures cat.schema)
+files_end cat = public_pages cat + sum_by (structure_pages cat) (structures cat.schema)
 
 -- The spool and scratch. So many pages rounded up to whole blocks:
 abbrev pub in_blocks : (pages : ℕ) → ℕ
@@ -141,19 +159,30 @@ visible_columns schema table = filter (is_visible schema table) (below (length (
 abbrev pub spool_width : Schema → (table : ℕ) → ℕ
 spool_width schema table = 4 + sum_by (width_at schema table) (visible_columns schema table)
 
+-- Rows and room are two numbers. A table has so many rows; an area has room for more where rows may be appended, which are those
+-- of the root, at version 2
+abbrev pub appended_room : ℕ
+appended_room = 4096
+
+abbrev pub room_to_append : Catalog → (table : ℕ) → ℕ
+room_to_append cat table = if cat.version == 1 || is_some (parent cat.schema table) then 0 else appended_room
+
+abbrev pub row_room : Catalog → (table : ℕ) → ℕ
+row_room cat table = count_of cat table + room_to_append cat table
+
 abbrev pub spool_pages : Catalog → (table : ℕ) → ℕ
 spool_pages cat table =
     if is_empty (visible_columns cat.schema table) then 0
-    else in_blocks (pages_of (count_of cat table) (spool_width cat.schema table))
+    else in_blocks (pages_of (row_room cat table) (spool_width cat.schema table))
 
 abbrev pub half_pages : Catalog → ℕ
 half_pages cat = sum_by (spool_pages cat) (tables_of cat.schema)
 
--- the area of a table that has a visible column in half 0 or 1
+-- the area of a table that has a visible column in half 0 or 1, with its room
 abbrev pub spool_area : Catalog → (half table : ℕ) → Run
 spool_area cat half table = record {
   first = static_end cat + (half * half_pages cat + sum_by (spool_pages cat) (below table));
-  count = count_of cat table;
+  count = row_room cat table;
   width = spool_width cat.schema table;
 }
 
@@ -164,13 +193,43 @@ spool_end cat = static_end cat + 2 * half_pages cat
 abbrev pub largest_count : Catalog → ℕ
 largest_count cat = fold max 0 cat.counts
 
+-- the root, the one table that no table lies above
+abbrev pub root_of : Schema → ℕ
+root_of schema = get_or (filter (λ table. is_none (parent schema table)) (tables_of schema)) 0 0
+
+-- the most rows for which there is room in the areas of one table
+abbrev pub largest_room : Catalog → ℕ
+largest_room cat = max (largest_count cat) (row_room cat (root_of cat.schema))
+
 abbrev pub scratch_pages : Catalog → ℕ
-scratch_pages cat = in_blocks (pages_of (largest_count cat) 4)
+scratch_pages cat = in_blocks (pages_of (largest_room cat) 4)
+
+abbrev pub scratch_count : Catalog → ℕ
+scratch_count cat = if cat.version == 1 then 6 else 8
 
 abbrev pub scratch_area : Catalog → (area : ℕ) → Run
 scratch_area cat area =
-    record { first = spool_end cat + area * scratch_pages cat; count = largest_count cat; width = 4 }
+    record { first = spool_end cat + area * scratch_pages cat; count = largest_room cat; width = 4 }
+
+-- the page after the pages that a session may write
+abbrev pub scratch_end : Catalog → ℕ
+scratch_end cat = spool_end cat + scratch_count cat * scratch_pages cat
+
+-- Areas for appended rows. A record has the hidden cells of a row of the root and four bytes for each table below it.
+abbrev pub appended_width : Schema → (table : ℕ) → ℕ
+appended_width schema table = sum_by (width_at schema table) (hidden_columns schema table) + 4 * length (descendants_of schema table)
+
+abbrev pub appended_pages : Catalog → ℕ
+appended_pages cat =
+    in_blocks (pages_of (room_to_append cat (root_of cat.schema)) (appended_width cat.schema (root_of cat.schema)))
+
+abbrev pub appended_area : Catalog → (which : ℕ) → Run
+appended_area cat which = record {
+  first = scratch_end cat + which * appended_pages cat;
+  count = room_to_append cat (root_of cat.schema);
+  width = appended_width cat.schema (root_of cat.schema);
+}
 
 -- the pages that a device must have
 abbrev pub need : Catalog → ℕ
-need cat = spool_end cat + 6 * scratch_pages cat
+need cat = scratch_end cat + 2 * appended_pages cat

@@ -4,7 +4,7 @@
 -- the later slot is the damaged one. A slot of a level file is the offset of a code that reading of some entry's list gets to; it is
 -- damaged where no code stands, or one with which the identifiers pass the level's rows. That the lists which one search gives have
 -- together at most as many identifiers as their level has rows is a rule of the search and not of a slot; it is not said here.
-use Rattle.std.specs.Prelude.{◌≡◌, ◌⊎◌, ℕ, zero, suc, ◌+◌, ◌*◌, ◌<◌, Bool, true, false, not, ◌&&◌, ◌||◌, ◌==◌, nat_le, nat_lt, min, List, [], ◌∷◌, take, drop, length, slice_index, Option, Some, None, is_some, option_map, if◌then◌else◌}
+use Rattle.std.specs.Prelude.{◌≡◌, ◌⊎◌, ℕ, zero, suc, ◌+◌, ◌*◌, ◌<◌, ◌≤◌, Bool, true, false, not, ◌&&◌, ◌||◌, ◌==◌, nat_le, nat_lt, min, List, [], ◌∷◌, take, drop, length, slice_index, Option, Some, None, is_some, option_map, if◌then◌else◌}
 use Rattle.std.specs.Cmp.Lexicographic.{slice_cmp}
 use Rattle.std.specs.Ordering.{nat_cmp, is_lt}
 use Rattle.ghost_model.specs.core.Schema.{Schema, Column, Kind, column_at, is_empty}
@@ -143,17 +143,20 @@ abbrev pub before_slot : (ℕ → List ℕ) → Catalog → File → (place : �
 before_slot page cat file zero = None
 before_slot page cat file (suc place) = Some (in_slot page cat file place)
 
--- reading of the list of some entry gets to a place of a level file, whose directory says after so many bytes where the list stands,
--- and no code stands there, or one with which the identifiers pass the rows
+-- reading of the list of some entry, which may stand in its directory, gets to a place of a level file by identifiers that do not
+-- pass the rows; the directory says after so many bytes where the list stands. And no code stands there, or one with which the
+-- identifiers pass the rows
 pub record IsBrokenCode (page : ℕ → List ℕ) (cat : Catalog) (file directory : File) (skipped rows place : ℕ) : Type 0 where
   pub entry : ℕ
   pub there : entry < slots_in page cat directory
+  pub stands : may_stand cat directory (in_slot page cat directory entry) ≡ true
   pub i : ℕ
   pub within : i < number_in (drop skipped (in_slot page cat directory entry)) 4
   pub last : ℕ
   pub gets :
       reading_at page (run_of_file cat file).first (run_of_file cat file).count (number_in (drop skipped (in_slot page cat directory entry)) 0) i
       ≡ Some (record { place = place; last = last })
+  pub kept : last ≤ rows
   pub broken : code_stands rows (option_map (λ code. (last + code.0, code.1)) (code_at page (run_of_file cat file).first (run_of_file cat file).count place)) ≡ false
 
 -- the slot of a record is out of range, or breaks the order of its file; that of a code is one that reading gets to

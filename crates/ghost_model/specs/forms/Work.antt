@@ -1,6 +1,6 @@
 -- How many calls of the flash a loading takes. It makes the device, by one call, and then writes each page that holds a byte of
--- the catalog or of a static file, once.
-use Rattle.std.specs.Prelude.{ℕ, ◌+◌, ◌*◌, List, [], ◌∷◌, length, map, sum_by, bytes_eq, if◌then◌else◌}
+-- the catalog, of the gate and its header, or of a static file, once.
+use Rattle.std.specs.Prelude.{ℕ, ◌+◌, ◌*◌, ◌==◌, List, [], ◌∷◌, length, map, sum_by, bytes_eq, if◌then◌else◌}
 use Rattle.std.specs.Set.{distinct_count}
 use Rattle.std.specs.Cmp.Lexicographic.{slice_cmp}
 use Rattle.std.specs.Ordering.{nat_cmp, is_lt}
@@ -48,6 +48,14 @@ written_of cat hidden structure = files_of cat structure
 abbrev pub file_pages : Catalog → Hidden → ℕ
 file_pages cat hidden = sum_by (λ structure. files_pages (written_of cat hidden structure)) (structures cat.schema)
 
--- the calls of a whole loading: one that makes the device, and one for each page of the catalog, a run of width 1, and of the files
+-- the page of the gate and that of its header
+abbrev pub gate_pages : Catalog → ℕ
+gate_pages cat = if cat.version == 1 then 0 else 2
+
+-- the public pages that are written; the catalog's bytes are a run of width 1
+abbrev pub public_written : Catalog → ℕ
+public_written cat = gate_pages cat + pages_of (length (catalog_bytes cat)) 1
+
+-- the calls of a whole loading: one that makes the device, and one for each public page that is written and each page of the files
 abbrev pub pages_built : Catalog → Hidden → ℕ
-pages_built cat hidden = 1 + (pages_of (length (catalog_bytes cat)) 1 + file_pages cat hidden)
+pages_built cat hidden = 1 + (public_written cat + file_pages cat hidden)

@@ -9,14 +9,15 @@ use Rattle.ghost_model.specs.laws.SchemaTrees.{IsTree}
 use Rattle.ghost_model.specs.core.Database.{IsDatabase, rows_of, row_counts, value_at_row, leads}
 use Rattle.ghost_model.specs.readings.CellReading.{decode_cell}
 use Rattle.ghost_model.specs.forms.Cells.{encode_cell}
+use Rattle.ghost_model.specs.forms.Catalog.{current_version}
 use Rattle.ghost_model.specs.core.Asks.{kind_at}
 use Rattle.ghost_model.specs.core.Split.{Hidden, hidden_of, value_at, kind_of_column, are_of_kinds}
 use Rattle.ghost_model.specs.core.Replies.{hidden_places, hidden_value}
 use Rattle.ghost_model.specs.forms.Runs.{number_cell, record_at}
 use Rattle.ghost_model.specs.laws.RunLaws.{AgreeOn}
-use Rattle.ghost_model.specs.forms.Layout.{below, is_hidden, width_at, count_of, levels_of, above_of, public_pages, files_end}
+use Rattle.ghost_model.specs.forms.Layout.{below, is_hidden, width_at, count_of, levels_of, above_of, catalog_pages, public_pages, files_end}
 use Rattle.ghost_model.specs.laws.ShortWords.{column_file, subtree_table, index_directory, id_directory}
-use Rattle.ghost_model.specs.forms.Flash.{HoldsCatalog, HoldsColumns, HoldsFiles, hidden_cells, leads_to, subtree_record, directory_record, value_lists, id_lists, hidden_rows}
+use Rattle.ghost_model.specs.forms.Flash.{HoldsCatalog, HoldsFresh, HoldsColumns, HoldsFiles, hidden_cells, leads_to, subtree_record, directory_record, value_lists, id_lists, hidden_rows}
 
 -- how many hidden columns a table has before a column
 abbrev pub hidden_before : Schema → (table column : ℕ) → ℕ
@@ -90,14 +91,18 @@ ColumnFilesGiveValues =
     → decode_cell (kind_at cat.schema table column) (record_at page (column_file cat table column) place)
     ≡ hidden_value cat.schema hidden table (suc place) column
 
--- files are held as long as the static pages stay, the catalog as long as the public ones do
+-- files are held as long as the static pages stay, the catalog as long as its pages do, and the gate and the headers, which there are
+-- at version 2, as long as the other public ones do
 pub record HoldingsAreKept : Type 0 where
   pub files :
       (page other : ℕ → List ℕ) (cat : Catalog) (hidden : Hidden) → IsTree cat.schema
-      → AgreeOn page other public_pages (files_end cat) → HoldsFiles page cat hidden → HoldsFiles other cat hidden
+      → AgreeOn page other (public_pages cat) (files_end cat) → HoldsFiles page cat hidden → HoldsFiles other cat hidden
   pub catalog :
-      (page other : ℕ → List ℕ) (cat : Catalog) → AgreeOn page other 0 public_pages
+      (page other : ℕ → List ℕ) (cat : Catalog) → AgreeOn page other 0 catalog_pages
       → HoldsCatalog page cat → HoldsCatalog other cat
+  pub fresh :
+      (page other : ℕ → List ℕ) (cat : Catalog) → cat.version ≡ current_version
+      → AgreeOn page other catalog_pages (public_pages cat) → HoldsFresh page cat → HoldsFresh other cat
 
 -- records are as wide as the layout says
 pub record RecordsAreAsWide : Type 0 where

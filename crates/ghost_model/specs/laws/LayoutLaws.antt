@@ -27,13 +27,14 @@ abbrev pub block_room : Run → ℕ
 block_room run = Layout.in_blocks (run_pages run)
 
 pub record FollowOneAnother (cat : Catalog) : Type 0 where
-  pub files : Follow run_pages Layout.public_pages (short.static_files cat) (Layout.files_end cat)
+  pub files : Follow run_pages (Layout.public_pages cat) (short.static_files cat) (Layout.files_end cat)
   pub rounded : Layout.files_end cat ≤ Layout.static_end cat
   pub first_half :
       Follow block_room (Layout.static_end cat) (short.spool_areas cat 0) (Layout.static_end cat + Layout.half_pages cat)
   pub second_half :
       Follow block_room (Layout.static_end cat + Layout.half_pages cat) (short.spool_areas cat 1) (Layout.spool_end cat)
-  pub scratch : Follow block_room (Layout.spool_end cat) (short.scratch_areas cat) (Layout.need cat)
+  pub scratch : Follow block_room (Layout.spool_end cat) (short.scratch_areas cat) (Layout.scratch_end cat)
+  pub appended : Follow block_room (Layout.scratch_end cat) (short.appended_areas cat) (Layout.need cat)
 
 abbrev pub FilesFollow : Type 0
 FilesFollow = (cat : Catalog) → FollowOneAnother cat
@@ -120,14 +121,23 @@ pub record LieInOrder (cat : Catalog) : Type 0 where
   pub before_tables :
       (table later column : ℕ) → Layout.is_hidden cat.schema table column ≡ true → table < later
       → run_end (short.column_file cat table column) ≤ LayoutSums.table_begin cat later
-  pub after_public : (table column : ℕ) → Layout.public_pages ≤ (short.column_file cat table column).first
+  pub after_public : (table column : ℕ) → Layout.public_pages cat ≤ (short.column_file cat table column).first
   pub within :
       (table column : ℕ) → Layout.is_hidden cat.schema table column ≡ true
       → run_end (short.column_file cat table column) ≤ Layout.files_end cat
   pub static : Layout.files_end cat ≤ Layout.static_end cat
   pub spool : Layout.static_end cat ≤ Layout.spool_end cat
-  pub scratch : Layout.spool_end cat ≤ Layout.need cat
-  pub some : Layout.public_pages ≤ Layout.files_end cat
+  pub scratch : Layout.spool_end cat ≤ Layout.scratch_end cat
+  pub appended : Layout.scratch_end cat ≤ Layout.need cat
+  pub some : Layout.public_pages cat ≤ Layout.files_end cat
+  pub catalog : Layout.catalog_pages ≤ Layout.public_pages cat
+  -- there are six scratch areas at least, and each ends before the page after all of them
+  pub six : 6 ≤ Layout.scratch_count cat
+  pub areas :
+      (area : ℕ) → area < Layout.scratch_count cat
+      → Layout.spool_end cat + area * Layout.scratch_pages cat + Layout.scratch_pages cat ≤ Layout.scratch_end cat
+  -- the areas of lists have room for the rows that there are
+  pub rows : Layout.largest_count cat ≤ Layout.largest_room cat
 
 abbrev pub FilesLieInOrder : Type 0
 FilesLieInOrder = (cat : Catalog) → LieInOrder cat
@@ -138,6 +148,8 @@ pub record AreWholeBlocks (cat : Catalog) : Type 0 where
   pub spool_area : (half table : ℕ) → (Layout.spool_area cat half table).first % 64 ≡ 0
   pub spool : Layout.spool_end cat % 64 ≡ 0
   pub scratch_area : (area : ℕ) → (Layout.scratch_area cat area).first % 64 ≡ 0
+  pub scratch : Layout.scratch_end cat % 64 ≡ 0
+  pub appended_area : (which : ℕ) → (Layout.appended_area cat which).first % 64 ≡ 0
   pub need : Layout.need cat % 64 ≡ 0
 
 abbrev pub AreasAreWholeBlocks : Type 0
@@ -168,17 +180,20 @@ pub record AreNarrow (cat : Catalog) : Type 0 where
   pub levels : (table : ℕ) → length (Layout.levels_of cat.schema table) ≤ 12
   pub above : (table : ℕ) → length (Layout.above_of cat.schema table) ≤ 12
   pub descendants : (table : ℕ) → length (Layout.descendants_of cat.schema table) ≤ 12
-  pub most : (table column : ℕ) → Layout.width_at cat.schema table column ≤ 64
+  pub most : (table column : ℕ) → Layout.width_at cat.schema table column ≤ 65
   pub least : (table column : ℕ) → Layout.is_hidden cat.schema table column ≡ true → 0 < Layout.width_at cat.schema table column
   pub subtree : (table : ℕ) → LayoutSums.subtree_width cat.schema table ≤ 48
-  pub directory : (table column : ℕ) → LayoutSums.directory_width cat.schema table column ≤ 160
+  pub directory : (table column : ℕ) → LayoutSums.directory_width cat.schema table column ≤ 161
   pub id_directory : (table : ℕ) → LayoutSums.id_directory_width cat.schema table ≤ 96
-  pub spool : (table : ℕ) → Layout.spool_width cat.schema table ≤ 1540
+  pub spool : (table : ℕ) → Layout.spool_width cat.schema table ≤ 1564
+  pub appended : (table : ℕ) → Layout.appended_width cat.schema table ≤ 1608
 
 -- the numbers of pages
 pub record AreFew (cat : Catalog) : Type 0 where
   pub rows : (table : ℕ) → Layout.count_of cat table ≤ 1000000
+  pub room : (table : ℕ) → Layout.row_room cat table ≤ 1004096
   pub largest : Layout.largest_count cat ≤ 1000000
+  pub largest_room : Layout.largest_room cat ≤ 1004096
   pub column : (table column : ℕ) → LayoutSums.column_pages cat table column ≤ 1000000
   pub columns_before : (table column : ℕ) → column ≤ 24 → LayoutSums.column_pages_before cat table column ≤ 24000000
   pub columns : (table : ℕ) → LayoutSums.columns_pages cat table ≤ 24000000
@@ -190,12 +205,13 @@ pub record AreFew (cat : Catalog) : Type 0 where
   pub indexes : (table : ℕ) → LayoutSums.indexes_pages cat table ≤ 24562776
   pub id_index : (table : ℕ) → LayoutSums.id_index_pages cat table ≤ 1023448
   pub table : (table : ℕ) → LayoutSums.table_pages cat table ≤ 50586224
-  pub table_begin : (table : ℕ) → table ≤ 12 → LayoutSums.table_begin cat table ≤ 607034752
-  pub files : Layout.files_end cat ≤ 607034752
-  pub static : Layout.static_end cat ≤ 607034815
-  pub spool : (table : ℕ) → Layout.spool_pages cat table ≤ 1000064
-  pub half : Layout.half_pages cat ≤ 12000768
+  pub table_begin : (table : ℕ) → table ≤ 12 → LayoutSums.table_begin cat table ≤ 607034944
+  pub files : Layout.files_end cat ≤ 607034944
+  pub static : Layout.static_end cat ≤ 607035007
+  pub spool : (table : ℕ) → Layout.spool_pages cat table ≤ 1004160
+  pub half : Layout.half_pages cat ≤ 12049920
   pub scratch : Layout.scratch_pages cat ≤ 1984
+  pub appended : Layout.appended_pages cat ≤ 4096
   pub need : Layout.need cat < 2 ^ 30
 
 pub record LayoutIsSmall : Type 0 where

@@ -74,7 +74,7 @@ table_pages cat table =
 
 -- the first page of a table's files; also of those of the table after the last one, where the static files end
 abbrev pub table_begin : Catalog → (table : ℕ) → ℕ
-table_begin cat table = public_pages + sum_by (table_pages cat) (below table)
+table_begin cat table = public_pages cat + sum_by (table_pages cat) (below table)
 
 abbrev pub column_begin : Catalog → (table column : ℕ) → ℕ
 column_begin cat table column = table_begin cat table + column_pages_before cat table column

@@ -4,7 +4,7 @@
 -- foreign keys are hidden integers, at most one of them names a table, following parents never returns, and exactly one
 -- table, the root, has no parent.
 use Rattle.std.specs.Prelude.{◌≡◌, ℕ, ◌<◌, ◌≤◌, true, false, List, length, codes, Some, None, slice_get}
-use Rattle.ghost_model.specs.core.Schema.{Integer, Chars, Column, Table, Schema, columns_of, column_at, ancestor}
+use Rattle.ghost_model.specs.core.Schema.{Integer, Chars, CharsOrNull, is_nullable, Column, Table, Schema, columns_of, column_at, ancestor}
 use Rattle.ghost_model.specs.laws.Spelled.{is_name}
 use Rattle.ghost_model.specs.refusals.SchemaFaults.{references_naming, roots_of, MeansSchema}
 
@@ -34,6 +34,13 @@ pub record IsTree (schema : Schema) : Type 0 where
   pub text_lengths :
       (table column most : ℕ) (held : Column)
       → column_at schema table column ≡ Some held → held.kind ≡ Chars most → (1 ≤ most) × (most ≤ 64)
+  -- the same of texts beside which NULL may stand
+  pub nullable_text_lengths :
+      (table column most : ℕ) (held : Column)
+      → column_at schema table column ≡ Some held → held.kind ≡ CharsOrNull most → (1 ≤ most) × (most ≤ 64)
+  -- for now no column may be NULL
+  pub not_null :
+      (table column : ℕ) (held : Column) → column_at schema table column ≡ Some held → is_nullable held.kind ≡ false
   pub references_are_integers :
       (table column child : ℕ) (held : Column)
       → column_at schema table column ≡ Some held → held.child ≡ Some child → held.kind ≡ Integer

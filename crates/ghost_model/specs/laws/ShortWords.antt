@@ -20,7 +20,7 @@ use Rattle.ghost_model.specs.core.Host.{Holding, Stand, said_with_refusals, bad_
 use Rattle.ghost_model.specs.core.Replies.{replies, answer_from}
 use Rattle.ghost_model.specs.forms.Runs.{Run, pages_of, number_in}
 use Rattle.ghost_model.specs.forms.Catalog.{catalog_bytes}
-use Rattle.ghost_model.specs.forms.Layout.{Cells, Subtrees, IndexHeader, IndexDirectory, IndexLevel, IdDirectory, IdLevel, run_of_file, Structure, ColumnFile, SubtreeTable, ClimbingIndex, IdIndex, hidden_columns, below, tables_of, visible_columns, files_of, run_of, structures, spool_area, scratch_area}
+use Rattle.ghost_model.specs.forms.Layout.{Cells, Subtrees, IndexHeader, IndexDirectory, IndexLevel, IdDirectory, IdLevel, run_of_file, Structure, ColumnFile, SubtreeTable, ClimbingIndex, IdIndex, hidden_columns, below, tables_of, visible_columns, files_of, run_of, structures, spool_area, scratch_area, scratch_count, appended_area}
 use Rattle.ghost_model.specs.forms.QueryWork.{bits, values_of, count_values, rows_leading}
 use Rattle.ghost_model.specs.refusals.Rules.{broken_if}
 use Rattle.ghost_model.specs.refusals.SchemaGrammar.{TableText, SchemaText}
@@ -129,7 +129,7 @@ id_faults table row text = unless (is_number row (integer_of text)) (BadId (plac
 abbrev pub reference_faults : Schema → Database → List LoadFault
 reference_faults schema database = references_from database 0 schema database
 
--- where a list begins and how long it is, and where the one after it begins, by eight bytes of a directory
+-- at which byte a list begins and how long it is, and the first byte that the list after it may begin at, by eight bytes of a directory
 abbrev pub first_listed : List ℕ → ℕ
 first_listed bytes = number_in bytes 0
 
@@ -206,4 +206,7 @@ abbrev pub spool_areas : Catalog → (half : ℕ) → List Run
 spool_areas cat half = map (spool_area cat half) (filter (has_spool cat.schema) (tables_of cat.schema))
 
 abbrev pub scratch_areas : Catalog → List Run
-scratch_areas cat = map (scratch_area cat) (below 6)
+scratch_areas cat = map (scratch_area cat) (below (scratch_count cat))
+
+abbrev pub appended_areas : Catalog → List Run
+appended_areas cat = map (appended_area cat) (below 2)

@@ -3,12 +3,12 @@
 -- many rows, then the number of its fields, then field by field with the identifier first; the foreign keys come after
 -- all files, by table, record and column. `load_fault` is the first of them. No other is ever answered, so what the list
 -- says after it is of no account: rows that break a rule are still looked at by the rules that come later.
-use Rattle.std.specs.Prelude.{ℕ, ◌+◌, ℤ, pos, Bool, true, false, ◌==◌, nat_le, List, [], ◌∷◌, ◌++◌, length, map, flat_map, Option, Some, None, bytes_eq, is_some}
+use Rattle.std.specs.Prelude.{ℕ, ◌+◌, ℤ, pos, Bool, true, false, ◌||◌, ◌==◌, nat_le, List, [], ◌∷◌, ◌++◌, length, map, flat_map, Option, Some, None, bytes_eq, is_some}
 use Rattle.std.specs.List.{zip, enumerate_from}
 use Rattle.std.specs.Option.{option_map_or}
 use Rattle.std.specs.Cmp.Lexicographic.{pointwise}
 use Rattle.std.specs.Ordering.{int_eq}
-use Rattle.ghost_model.specs.core.Schema.{Schema, Column, Kind, Integer, Chars, first_of}
+use Rattle.ghost_model.specs.core.Schema.{Schema, Column, Kind, Integer, Chars, IntegerOrNull, CharsOrNull, first_of, is_empty}
 use Rattle.ghost_model.specs.refusals.Tokens.{in_lower_case}
 use Rattle.ghost_model.specs.core.Values.{Value, Row, Rows, Database}
 use Rattle.ghost_model.specs.core.Database.{is_text, is_row_among, row_count, records_of, integer_of, database_of}
@@ -38,10 +38,13 @@ abbrev pub unless : Bool → LoadFault → List LoadFault
 unless true fault = []
 unless false fault = fault ∷ []
 
--- an INTEGER field spells an integer in range; a CHAR field is not too long and has characters alone
+-- an INTEGER field spells an integer in range, or is empty where the column may be NULL; a CHAR field is not too long and has
+-- characters alone
 abbrev pub value_faults : Place → Kind → List ℕ → List LoadFault
 value_faults at Integer text = unless (is_some (integer_of text)) (BadInt at)
 value_faults at (Chars most) text = unless (is_text most text) (BadChars at)
+value_faults at IntegerOrNull text = unless (is_empty text || is_some (integer_of text)) (BadInt at)
+value_faults at (CharsOrNull most) text = unless (is_text most text) (BadChars at)
 
 -- the faults of fields, of which the first is that of column `column`
 unfoldable pub field_faults : (table rec column : ℕ) → List Column → List (List ℕ) → List LoadFault

@@ -4,7 +4,7 @@
 -- foreign keys among them. BETWEEN is two conditions.
 use Rattle.std.specs.Prelude.{◌≡◌, ℕ, ℤ, pos, neg_ℤ, Bool, true, false, not, ◌&&◌, ◌||◌, ◌==◌, nat_lt, List, [], ◌∷◌, ◌++◌, length, map, filter, filter_map, flat_map, sum_by, Option, Some, is_none, option_map, option_and_then, option_to_list, bytes_eq}
 use Rattle.std.specs.List.{list_any, list_all}
-use Rattle.ghost_model.specs.core.Schema.{Schema, Kind, Integer, Chars, columns_of, column_at, column_kind, places_where, places_of, first_of, is_empty, is_table, parent}
+use Rattle.ghost_model.specs.core.Schema.{Schema, Kind, Integer, Chars, IntegerOrNull, CharsOrNull, columns_of, column_at, column_kind, places_where, places_of, first_of, is_empty, is_table, parent}
 use Rattle.ghost_model.specs.refusals.Tokens.{number_of}
 use Rattle.ghost_model.specs.core.Values.{Value, Number, Text, fits_integer}
 use Rattle.ghost_model.specs.core.Query.{Field, AtMost, AtLeast, Condition, Compare, Join, Query, is_among, is_some_among, top_of}
@@ -146,13 +146,16 @@ is_ambiguous schema tree =
 abbrev pub is_other_kind : Option Kind → Value → Bool
 is_other_kind (Some Integer) (Text text) = true
 is_other_kind (Some (Chars most)) (Number number) = true
+is_other_kind (Some IntegerOrNull) (Text text) = true
+is_other_kind (Some (CharsOrNull most)) (Number number) = true
 is_other_kind kind value = false
 
 -- whether an integer is outside 64 bits, or a text longer than its column's texts
 abbrev pub is_too_large : Option Kind → Value → Bool
 is_too_large kind (Number number) = not (fits_integer number)
 is_too_large (Some (Chars most)) (Text text) = nat_lt most (length text)
-is_too_large kind (Text text) = false
+is_too_large (Some (CharsOrNull most)) (Text text) = nat_lt most (length text)
+is_too_large kind value = false
 
 -- a test of the kind of a condition's column and its literal
 abbrev pub literal_fails : Schema → (Option Kind → Value → Bool) → Condition → Bool

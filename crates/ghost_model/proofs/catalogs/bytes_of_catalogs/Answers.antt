@@ -1,14 +1,14 @@
-use Rattle.std.proofs.Common.{◌≡◌, ℕ, zero, suc, List, [], ◌∷◌, ◌++◌, take, drop, replicate, get_or, Ok, refl, sym, ap, ◌∙◌, append-nil, arith}
+use Rattle.std.proofs.Common.{◌≡◌, ℕ, zero, suc, true, false, List, [], ◌∷◌, ◌++◌, take, drop, replicate, get_or, Ok, refl, sym, ap, ◌∙◌, append-nil, arith}
 use Rattle.std.specs.Fmt.{digits}
 use Rattle.ghost_model.specs.core.Schema.{places_from, ancestor}
 use Rattle.ghost_model.specs.core.Channel.{Catalog}
 use Rattle.ghost_model.specs.refusals.Tokens.{tokens_from, quoted_from}
 use Rattle.ghost_model.specs.readings.SchemaPlaces.{syntax_from}
-use Rattle.ghost_model.specs.refusals.SchemaFaults.{fields_from}
+use Rattle.ghost_model.specs.refusals.SchemaFaults.{fields_from, MeansSchema}
 use Rattle.ghost_model.specs.readings.SchemaReading.{schema_reading}
-use Rattle.ghost_model.specs.forms.Catalog.{canonical_text, catalog_bytes, IsCatalog, SpellsCatalog, BeginsWithCatalog}
-use Rattle.ghost_model.specs.examples.Clinic.{clinic_schema, clinic_catalog}
-use Rattle.ghost_model.specs.examples.Catalogs.{SpellsNone}
+use Rattle.ghost_model.specs.forms.Catalog.{canonical_text, is_version, catalog_bytes, IsCatalog, SpellsCatalog, BeginsWithCatalog}
+use Rattle.ghost_model.specs.examples.Clinic.{clinic_schema, clinic_catalog, clinic_catalog_one}
+use Rattle.ghost_model.specs.examples.Catalogs.{SpellsNone, with_version}
 use Rattle.ghost_model.proofs.SchemaRuleLemmas.{one_schema}
 use Rattle.ghost_model.proofs.CatalogSpellingLemmas.{catalogs_have_one_spelling}
 use Rattle.ghost_model.proofs.catalogs.bytes_of_catalogs.Goals as goal
@@ -17,25 +17,35 @@ clinic_reads : schema_reading (canonical_text clinic_schema) ≡ Ok clinic_schem
 unfolding tokens_from quoted_from syntax_from places_from ancestor fields_from digits
 clinic_reads = refl
 
+clinic_means : MeansSchema (canonical_text clinic_schema) clinic_schema
+clinic_means = (one_schema.read (canonical_text clinic_schema) clinic_schema).0 clinic_reads
+
 the_clinic : IsCatalog clinic_catalog
 the_clinic = record {
-  meant = (one_schema.read (canonical_text clinic_schema) clinic_schema).0 clinic_reads;
+  meant = clinic_means;
   counted = refl;
   few_rows = refl;
   some_generation = omega arith;
   generation_fits = omega arith;
-  one_version = refl;
+  some_version = refl;
+}
+
+the_clinic_at_one : IsCatalog clinic_catalog_one
+the_clinic_at_one = record {
+  meant = clinic_means;
+  counted = refl;
+  few_rows = refl;
+  some_generation = omega arith;
+  generation_fits = omega arith;
+  some_version = refl;
 }
 
 -- the first eight bytes of each catalog
 abbrev marked : ℕ → List ℕ
 marked version = 71 ∷ 72 ∷ 79 ∷ 83 ∷ 84 ∷ 68 ∷ 66 ∷ version ∷ []
 
-head_of : (cat : Catalog) → IsCatalog cat → take 8 (catalog_bytes cat) ≡ marked 1
-head_of cat proper = ap marked proper.one_version
-
-other_head : (bytes : List ℕ) (cat : Catalog) → SpellsCatalog bytes cat → take 8 bytes ≡ marked 1
-other_head bytes cat spells = ap (take 8) spells.spelled ∙ head_of cat spells.proper
+other_head : (bytes : List ℕ) (cat : Catalog) → SpellsCatalog bytes cat → take 8 bytes ≡ marked cat.version
+other_head bytes cat spells = ap (take 8) spells.spelled
 
 whole : catalog_bytes clinic_catalog ≡ take 364 (catalog_bytes clinic_catalog) ++ 4 ∷ []
 unfolding digits
@@ -57,17 +67,16 @@ no_more rest cat spells =
 no_such_letter : ◌≡◌ {A = ℕ} 72 71 → ⊥
 no_such_letter e = omega (arith, e)
 
-no_such_version : ◌≡◌ {A = ℕ} 2 1 → ⊥
-no_such_version e = omega (arith, e)
-
 first_letter : SpellsNone (72 ∷ drop 1 (catalog_bytes clinic_catalog))
 first_letter cat spells =
     no_such_letter (ap (λ (xs : List ℕ). get_or xs 0 0) (other_head (72 ∷ drop 1 (catalog_bytes clinic_catalog)) cat spells))
 
-second_version : SpellsNone (take 7 (catalog_bytes clinic_catalog) ++ 2 ∷ drop 8 (catalog_bytes clinic_catalog))
-second_version cat spells =
-    no_such_version
-    (ap (λ (xs : List ℕ). get_or xs 7 0) (other_head (take 7 (catalog_bytes clinic_catalog) ++ 2 ∷ drop 8 (catalog_bytes clinic_catalog)) cat spells))
+-- bytes with a version that there is not spell none
+no_version : (version : ℕ) → is_version version ≡ false → SpellsNone (with_version version)
+no_version version none cat spells =
+    let same : version ≡ cat.version = ap (λ (xs : List ℕ). get_or xs 7 0) (other_head (with_version version) cat spells) in
+    let clash : false ≡ true = sym none ∙ (ap is_version same ∙ spells.proper.some_version) in
+    absurd (cc)
 
 empty_or : (b : ℕ) (rest : List ℕ) → [] ≡ b ∷ rest → ⊥
 empty_or b rest e = absurd (cc)
@@ -82,8 +91,13 @@ no_blank (suc count) cat front = no_such_byte (ap (λ (xs : List ℕ). get_or xs
 
 pub returns : goal.returns
 returns c = record {
+  version = refl;
+  version_at_one = refl;
+  version_one = record { proper = the_clinic_at_one; spelled = refl };
+  version_two = record { proper = the_clinic; spelled = refl };
+  version_three = no_version 3 refl;
+  version_zero = no_version 0 refl;
   another_first_letter = first_letter;
-  version_two = second_version;
   the_last_byte_missing = λ cat spells. empty_or 4 [] (no_front (take 364 (catalog_bytes clinic_catalog)) (4 ∷ []) cat whole spells);
   a_byte_more = λ cat spells. empty_or 0 [] (sym (no_more (0 ∷ []) cat spells));
   a_byte_more_after_it = record { proper = the_clinic; rest = 0 ∷ []; begins = refl };

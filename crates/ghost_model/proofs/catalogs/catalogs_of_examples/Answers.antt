@@ -36,15 +36,23 @@ no_table_means means =
 
 pub returns : goal.returns
 returns c = record {
-  clinic = record { meant = clinic_means; counted = refl; few_rows = refl; some_generation = omega arith; generation_fits = omega arith; one_version = refl };
-  note = record { meant = note_means; counted = refl; few_rows = refl; some_generation = omega arith; generation_fits = omega arith; one_version = refl };
-  no_row_at_all = record { meant = clinic_means; counted = refl; few_rows = refl; some_generation = omega arith; generation_fits = omega arith; one_version = refl };
-  a_million_rows = record { meant = note_means; counted = refl; few_rows = refl; some_generation = omega arith; generation_fits = omega arith; one_version = refl };
+  clinic = record { meant = clinic_means; counted = refl; few_rows = refl; some_generation = omega arith; generation_fits = omega arith; some_version = refl };
+  clinic_at_version_one = record { meant = clinic_means; counted = refl; few_rows = refl; some_generation = omega arith; generation_fits = omega arith; some_version = refl };
+  note = record { meant = note_means; counted = refl; few_rows = refl; some_generation = omega arith; generation_fits = omega arith; some_version = refl };
+  note_at_version_one = record { meant = note_means; counted = refl; few_rows = refl; some_generation = omega arith; generation_fits = omega arith; some_version = refl };
+  current = record {
+    proper = record { meant = clinic_means; counted = refl; few_rows = refl; some_generation = omega arith; generation_fits = omega arith; some_version = refl };
+    version = refl;
+  };
+  version_one_is_not_current = λ h. absurd (omega (arith, h.version));
+  no_row_at_all = record { meant = clinic_means; counted = refl; few_rows = refl; some_generation = omega arith; generation_fits = omega arith; some_version = refl };
+  a_million_rows = record { meant = note_means; counted = refl; few_rows = refl; some_generation = omega arith; generation_fits = omega arith; some_version = refl };
   a_row_more = λ h. absurd (cc (h.few_rows));
   a_count_too_few = λ h. absurd (omega (arith, h.counted));
-  the_last_generation = record { meant = note_means; counted = refl; few_rows = refl; some_generation = omega arith; generation_fits = omega arith; one_version = refl };
+  the_last_generation = record { meant = note_means; counted = refl; few_rows = refl; some_generation = omega arith; generation_fits = omega arith; some_version = refl };
   a_generation_more = λ h. absurd (omega (arith, h.generation_fits));
   generation_zero = λ h. absurd (omega (arith, h.some_generation));
-  another_version = λ h. absurd (omega (arith, h.one_version));
+  version_three = λ h. absurd (cc (h.some_version));
+  version_zero = λ h. absurd (cc (h.some_version));
   no_table = λ h. no_table_means h.meant;
 }

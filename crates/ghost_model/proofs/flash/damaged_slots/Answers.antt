@@ -40,7 +40,7 @@ returns c = record {
       within = omega arith;
       page_is = refl;
       slot_is = refl;
-      damaged = record { entry = 0; there = omega arith; i = 0; within = omega arith; last = 0; gets = refl; broken = refl };
+      damaged = record { entry = 0; there = omega arith; stands = refl; i = 0; within = omega arith; last = 0; gets = refl; kept = omega arith; broken = refl };
       found_is = refl;
     };
   };
@@ -52,7 +52,7 @@ returns c = record {
       within = omega arith;
       page_is = refl;
       slot_is = refl;
-      damaged = record { entry = 0; there = omega arith; i = 1; within = omega arith; last = 3; gets = refl; broken = refl };
+      damaged = record { entry = 0; there = omega arith; stands = refl; i = 1; within = omega arith; last = 3; gets = refl; kept = omega arith; broken = refl };
       found_is = refl;
     };
   };

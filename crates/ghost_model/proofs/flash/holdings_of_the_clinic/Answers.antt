@@ -1,4 +1,4 @@
-use Rattle.std.proofs.Common.{◌≡◌, refl, ap, subst, ℕ, zero, suc, ◌+◌, ◌-◌, ◌*◌, ◌<◌, true, List, [], ◌∷◌, ◌++◌, length, slice_index_or, drop, map, replicate, slice_index, get_or, Contains, arith}
+use Rattle.std.proofs.Common.{◌≡◌, refl, ap, subst, ℕ, zero, suc, ◌+◌, ◌-◌, ◌*◌, ◌<◌, Bool, true, false, ◌||◌, ◌==◌, List, [], ◌∷◌, ◌++◌, length, slice_index_or, drop, map, replicate, slice_index, get_or, Contains, arith}
 use Rattle.std.specs.Prelude.{nat_lt, if◌then◌else◌}
 use Rattle.std.specs.List.{concat, AllByRecursion}
 use Rattle.std.specs.List.Sorted.{IsStrictlySortedBy}
@@ -12,9 +12,9 @@ use Rattle.ghost_model.specs.forms.Runs.{Run, number_cell, record_at, records_in
 use Rattle.ghost_model.specs.forms.Gaps.{StoresBytes, with_codes, with_lists, level_bytes}
 use Rattle.ghost_model.specs.forms.Layout.{levels_of, above_of, is_hidden, first_page}
 use Rattle.ghost_model.specs.laws.ShortWords.{column_file, subtree_table, index_header, index_directory, index_level, id_directory, id_level}
-use Rattle.ghost_model.specs.forms.Flash.{HoldsCatalog, HoldsColumns, HoldsSubtrees, HoldsIndex, HoldsIdIndexes, AreValues, catalog_page, hidden_cells, subtree_record, ids, directory_records, value_lists, id_lists}
+use Rattle.ghost_model.specs.forms.Flash.{HoldsCatalog, HoldsFresh, HoldsColumns, HoldsSubtrees, HoldsIndex, HoldsIdIndexes, AreValues, catalog_page, hidden_cells, subtree_record, ids, directory_records, value_lists, id_lists}
 use Rattle.ghost_model.specs.examples.Clinic.{clinic_schema, clinic_catalog}
-use Rattle.ghost_model.specs.examples.Flash.{hidden_clinic, countries, names, purposes, doctors, key, doctor_files, patient_files, visit_files, filled, clinic_page, changed}
+use Rattle.ghost_model.specs.examples.Flash.{hidden_clinic, countries, names, purposes, doctors, key, doctor_files, patient_files, visit_files, small, of_gate, filled, clinic_page, changed}
 use Rattle.ghost_model.proofs.flash.holdings_of_the_clinic.Goals as goal
 
 once : (P : ℕ → Type 0) → P 0 → (i : ℕ) → i < 1 → P i
@@ -85,7 +85,30 @@ values_of cells values sorted here there = record {
 catalog : HoldsCatalog clinic_page clinic_catalog
 catalog place low =
     let below : nat_lt place 64 ≡ true = grind (arith, nat_tests) in
-    ap (λ b. if b then catalog_page clinic_catalog place else filled (concat (get_or (doctor_files ++ (patient_files ++ visit_files)) (place - 64) []))) below
+    ap (λ b.
+    if b then catalog_page clinic_catalog place
+    else if nat_lt place 256 then filled (of_gate 1 1 place)
+    else filled (concat (get_or (doctor_files ++ (patient_files ++ visit_files)) (place - 256) []))) below
+
+-- behind the catalog's pages, public, and neither the gate nor its header
+blank_there : (before after : List ℕ) (of_catalog public gate header : Bool) → of_catalog ≡ false → public ≡ true → (gate || header) ≡ false
+    → (if of_catalog then before else if public then filled (if gate then 1 ∷ [] else if header then small 1 ++ small 0 else []) else after)
+    ≡ replicate 2048 0xff
+blank_there before after true public gate header h g k = absurd (cc (h))
+blank_there before after false false gate header h g k = absurd (cc (g))
+blank_there before after false true true header h g k = absurd (cc (k))
+blank_there before after false true false true h g k = absurd (cc (k))
+blank_there before after false true false false h g k = refl
+
+fresh : HoldsFresh clinic_page clinic_catalog
+fresh = record {
+  counts = record { gate = refl; header = refl };
+  blank = λ place low high neither.
+      let behind : nat_lt place 64 ≡ false = grind (arith, nat_tests) in
+      let public : nat_lt place 256 ≡ true = grind (arith, nat_tests) in
+      blank_there (catalog_page clinic_catalog place) (filled (concat (get_or (doctor_files ++ (patient_files ++ visit_files)) (place - 256) [])))
+      (nat_lt place 64) (nat_lt place 256) (place == 64) (place == 192) behind public neither;
+}
 
 columns : HoldsColumns clinic_page clinic_catalog hidden_clinic
 unfolding places_from ancestor leads_within record_at IsStrictlySortedBy first_page
@@ -208,7 +231,7 @@ begins_otherwise value rest (suc (suc (suc k))) low is clash = omega (arith, low
 
 another_entry : (values : List (List ℕ)) → AreValues (hidden_cells clinic_schema hidden_clinic 0 2) values
     → ((i : ℕ) → i < length values
-    → record_at (changed 66 0) (record (index_directory clinic_catalog 0 2) { count = length values }) i
+    → record_at (changed 258 0) (record (index_directory clinic_catalog 0 2) { count = length values }) i
     ≡ get_or (directory_records values (levels_of clinic_schema 0) (value_lists clinic_catalog hidden_clinic 0 2 values)) i [])
     → ⊥
 unfolding places_from ancestor leads_within record_at first_page
@@ -220,8 +243,12 @@ another_entry (value ∷ values) are each =
 pub returns : goal.returns
 unfolding places_from ancestor leads_within record_at digits first_page with_codes with_lists
 returns c = record {
-  whole = record { catalog = catalog; files = record { columns = columns; subtrees = subtrees; indexes = indexes; id_indexes = id_indexes } };
+  whole = record { catalog = catalog; fresh = λ is. fresh; files = record { columns = columns; subtrees = subtrees; indexes = indexes; id_indexes = id_indexes } };
   another_catalog = λ h. let clash : 0 ≡ 71 = ap (λ bytes. slice_index bytes 0) (h.catalog 0 (omega arith)) in absurd (omega (arith, clash));
+  the_other_header = λ h. let clash : 0 ≡ 1 = ap (λ bytes. slice_index bytes 0) (h.fresh refl).counts.gate in absurd (omega (arith, clash));
+  another_generation = λ h. let clash : 1 ≡ 0 = ap (λ bytes. slice_index bytes 0) (h.fresh refl).counts.header in absurd (omega (arith, clash));
+  both_headers = λ h. let clash : 0 ≡ 255 = ap (λ bytes. slice_index bytes 0) ((h.fresh refl).blank 128 (omega arith) (omega arith) refl) in absurd (omega (arith, clash));
+  a_page_behind_the_gate = λ h. let clash : 0 ≡ 255 = ap (λ bytes. slice_index bytes 0) ((h.fresh refl).blank 65 (omega arith) (omega arith) refl) in absurd (omega (arith, clash));
   another_country = λ h. let clash : 0 ≡ 70 = ap (λ bytes. slice_index bytes 0) ((h.files.columns 0 2 refl).has.each 0 (omega arith)) in absurd (omega (arith, clash));
   another_entry_of_an_index = λ h. let index = h.files.indexes 0 2 refl in another_entry index.values index.are_values index.entries.places.has.each;
   another_place_of_visits = λ h. let clash : 1 ≡ 0 = ap (λ bytes. slice_index bytes 0) ((h.files.id_indexes 0 (omega arith) refl).places.has.each 0 (omega arith)) in absurd (omega (arith, clash));

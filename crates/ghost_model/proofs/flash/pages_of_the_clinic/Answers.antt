@@ -39,7 +39,9 @@ returns c = record {
   another_country = λ h. let clash : 69 ≡ 70 = ap (λ bytes. slice_index bytes 0) (h.has.each 0 (omega arith)) in absurd (omega (arith, clash));
   a_byte_after_the_records = λ h. let clash : 0 ≡ 255 = ap (λ bytes. slice_index bytes 0) (h.rest 0 (omega arith)) in absurd (omega (arith, clash));
   for_the_catalog = refl;
+  with_the_gate = refl;
   for_the_files = refl;
   built = refl;
+  built_at_version_one = refl;
   built_for_the_notes = refl;
 }

@@ -4,7 +4,7 @@ use Rattle.std.proofs.lemmas.List.Sums.{sum_by-cons}
 use Rattle.ghost_model.specs.core.Schema.{is_empty}
 use Rattle.ghost_model.specs.core.Channel.{Catalog}
 use Rattle.ghost_model.specs.forms.Runs.{pages_of}
-use Rattle.ghost_model.specs.forms.Layout.{below, count_of, in_blocks, spool_pages, spool_width, visible_columns, half_pages, scratch_pages}
+use Rattle.ghost_model.specs.forms.Layout.{below, row_room, in_blocks, spool_pages, spool_width, visible_columns, half_pages, scratch_pages, scratch_count, appended_pages}
 use Rattle.ghost_model.specs.laws.LayoutSums.{spool_pages_before}
 use Rattle.ghost_model.specs.laws.LayoutLaws.{AreWholeBlocks}
 use Rattle.ghost_model.proofs.layout.areas_are_whole_blocks.Goals as goal
@@ -22,7 +22,7 @@ unless false pages = omega arith
 
 module _ (cat : Catalog) where
   spool : (table : ℕ) → spool_pages cat table % 64 ≡ 0
-  spool table = unless (is_empty (visible_columns cat.schema table)) (pages_of (count_of cat table) (spool_width cat.schema table))
+  spool table = unless (is_empty (visible_columns cat.schema table)) (pages_of (row_room cat table) (spool_width cat.schema table))
 
   before : (table : ℕ) → spool_pages_before cat table % 64 ≡ 0
   before table = sums (spool_pages cat) spool (below table)
@@ -30,13 +30,18 @@ module _ (cat : Catalog) where
   half_whole : half_pages cat % 64 ≡ 0
   half_whole = sums (spool_pages cat) spool (below (length cat.schema))
 
+  areas_whole : (scratch_count cat * scratch_pages cat) % 64 ≡ 0
+  areas_whole = times (scratch_count cat) (scratch_pages cat) (omega arith)
+
   are_whole : AreWholeBlocks cat
   are_whole = record {
     static = omega arith;
     spool_area = λ half table. let halves = times half (half_pages cat) half_whole in let earlier = before table in omega (arith, halves, earlier);
     spool = omega (arith, half_whole);
     scratch_area = λ area. let areas = times area (scratch_pages cat) (omega arith) in omega (arith, half_whole, areas);
-    need = omega (arith, half_whole);
+    scratch = omega (arith, half_whole, areas_whole);
+    appended_area = λ which. let areas = times which (appended_pages cat) (omega arith) in omega (arith, half_whole, areas_whole, areas);
+    need = omega (arith, half_whole, areas_whole);
   }
 
 pub returns : goal.returns

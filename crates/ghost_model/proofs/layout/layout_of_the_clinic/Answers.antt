@@ -33,6 +33,9 @@ returns c = record {
   static_end = refl;
   spool = refl;
   spool_of_doctors = refl;
+  spool_end = refl;
   scratch = refl;
+  scratch_end = refl;
+  appended = refl;
   need = refl;
 }

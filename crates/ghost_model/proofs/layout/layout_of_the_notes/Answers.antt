@@ -11,5 +11,6 @@ returns c = record {
   static_end = refl;
   spool = refl;
   scratch = refl;
+  appended = refl;
   need = refl;
 }

@@ -12,10 +12,14 @@ returns c = record {
   remainders_static = refl;
   remainders_spool = refl;
   remainders_scratch = refl;
+  remainders_appended = refl;
   remainders_need = refl;
+  remainders_at_version_one = refl;
   saturated_files = refl;
   saturated_static = refl;
   saturated_spool = refl;
   saturated_scratch = refl;
+  saturated_appended = refl;
   saturated_need = refl;
+  saturated_at_version_one = refl;
 }

@@ -44,7 +44,7 @@ clinic_means = (one_schema.read (canonical_text clinic_schema) clinic_schema).0 
 
 clinic_is_catalog : IsCatalog clinic_catalog
 clinic_is_catalog =
-    record { meant = clinic_means; counted = refl; few_rows = refl; some_generation = omega arith; generation_fits = omega arith; one_version = refl }
+    record { meant = clinic_means; counted = refl; few_rows = refl; some_generation = omega arith; generation_fits = omega arith; some_version = refl }
 
 clinic_is_database : IsDatabase clinic_schema clinic
 unfolding records_from strip_bom next_record places_from files_faults rows_faults field_faults references_from table_references row_reference_faults

@@ -1,4 +1,4 @@
-use Rattle.std.proofs.Common.{◌≡◌, refl, ap, sym, subst, arith, inl, inr, ℕ, zero, suc, ◌+◌, ◌/◌, ◌<◌, List, drop, Bool, true, false, Option, Some, None}
+use Rattle.std.proofs.Common.{◌≡◌, refl, ap, sym, subst, arith, inl, inr, ℕ, zero, suc, ◌+◌, ◌/◌, ◌%◌, ◌<◌, ◌≤◌, List, [], ◌∷◌, drop, Bool, true, false, Option, Some, None}
 use Rattle.std.specs.Prelude.{nat_lt, option_map}
 use Rattle.std.specs.Fmt.{digits}
 use Rattle.std.proofs.lemmas.Bool.Decides.{nat_tests}
@@ -8,7 +8,7 @@ use Rattle.ghost_model.specs.forms.Runs.{page_of, slot_of, number_in, record_at,
 use Rattle.ghost_model.specs.forms.Gaps.{Reading, code_at, last_of, reading_at}
 use Rattle.ghost_model.specs.forms.Slots.{has_file, may_stand, may_follow, before_slot, in_slot, slots_in, code_stands, IsWrong, IsWrongRecord, IsBrokenCode}
 use Rattle.ghost_model.specs.examples.Clinic.{note_schema, note_catalog}
-use Rattle.ghost_model.specs.examples.NonMembers.{note_page, bad_page}
+use Rattle.ghost_model.specs.examples.NonMembers.{note_page, bad_page, led_page, long_page}
 use Rattle.ghost_model.proofs.non_members.slots_that_are_not_damaged.Goals as goal
 
 thrice : (P : ℕ → Type 0) → P 0 → P 1 → P 2 → (i : ℕ) → i < 3 → P i
@@ -70,34 +70,49 @@ undamaged page file place stands follows (inl bad) = absurd (cc)
 undamaged page file place stands follows (inr broken) = absurd (cc)
 
 -- the code at a place after the last identifier, which has to be of one of three rows
-abbrev Stands : (place last : ℕ) → Bool
-Stands place last = code_stands 3 (option_map (λ code. (last + code.0, code.1)) (code_at note_page 67 2048 place))
+abbrev Stands : (page : ℕ → List ℕ) (place last : ℕ) → Bool
+Stands page place last = code_stands 3 (option_map (λ code. (last + code.0, code.1)) (code_at page 259 2048 place))
 
 abbrev place_or_none : Option Reading → ℕ
 place_or_none None = 0
 place_or_none (Some reading) = reading.place
 
--- reading of a list with one identifier, which begins at a place, stands before it at that place
-at_begin : (begin place last i : ℕ) → i < 1 → reading_at note_page 67 2048 begin i ≡ Some (record { place = place; last = last })
-    → Stands begin 0 ≡ true → Stands place last ≡ false → ⊥
-unfolding reading_at
-at_begin begin place last zero low gets stands broken =
-    let same : begin ≡ place = ap place_or_none gets in
-    let none : 0 ≡ last = ap last_of gets in
-    let is : Stands begin 0 ≡ false = subst (λ n. Stands begin n ≡ false) (sym none) (subst (λ p. Stands p last ≡ false) (sym same) broken) in
-    absurd (cc)
-at_begin begin place last (suc i) low gets stands broken = absurd (omega (arith, low))
+abbrev Gets : (page : ℕ → List ℕ) (begin i place last : ℕ) → Type 0
+Gets page begin i place last = reading_at page 259 2048 begin i ≡ Some (record { place = place; last = last })
 
-unbroken : (place : ℕ) → IsBrokenCode note_page note_catalog (IndexLevel 0 2 0) (IndexDirectory 0 2) 8 3 place → ⊥
+-- reading of a list with one identifier, which begins at a place, stands before it at that place
+at_begin : (page : ℕ → List ℕ) (begin place last i : ℕ) → i < 1 → Gets page begin i place last → (begin ≡ place) × (0 ≡ last)
+unfolding reading_at
+at_begin page begin place last zero low gets = (ap place_or_none gets, ap last_of gets)
+at_begin page begin place last (suc i) low gets = absurd (omega (arith, low))
+
+stands_there : (page : ℕ → List ℕ) (begin place last i : ℕ) → i < 1 → Gets page begin i place last
+    → Stands page begin 0 ≡ true → Stands page place last ≡ false → ⊥
+stands_there page begin place last i low gets stands broken =
+    let same = at_begin page begin place last i low gets in
+    let is : Stands page begin 0 ≡ false =
+    subst (λ n. Stands page begin n ≡ false) (sym same.1) (subst (λ p. Stands page p last ≡ false) (sym same.0) broken) in
+    absurd (cc)
+
+-- the level file of the index of bodies is broken at a place
+abbrev IsBroken : (page : ℕ → List ℕ) (place : ℕ) → Type 0
+IsBroken page place = IsBrokenCode page note_catalog (IndexLevel 0 2 0) (IndexDirectory 0 2) 8 3 place
+
+-- what the directory says of a list: its place and how many identifiers it has
+abbrev list_first : (page : ℕ → List ℕ) (entry : ℕ) → ℕ
+list_first page entry = number_in (drop 8 (in_slot page note_catalog (IndexDirectory 0 2) entry)) 0
+
+abbrev list_count : (page : ℕ → List ℕ) (entry : ℕ) → ℕ
+list_count page entry = number_in (drop 8 (in_slot page note_catalog (IndexDirectory 0 2) entry)) 4
+
+unbroken : (place : ℕ) → IsBroken note_page place → ⊥
 unfolding digits places_from ancestor number_in record_at first_page
 unbroken place is =
-    thrice (λ entry. (i : ℕ) → i < number_in (drop 8 (in_slot note_page note_catalog (IndexDirectory 0 2) entry)) 4 → (last : ℕ)
-    → reading_at note_page 67 2048 (number_in (drop 8 (in_slot note_page note_catalog (IndexDirectory 0 2) entry)) 0) i
-    ≡ Some (record { place = place; last = last })
-    → Stands place last ≡ false → ⊥)
-    (λ i low last gets broken. at_begin 0 place last i low gets refl broken)
-    (λ i low last gets broken. at_begin 1 place last i low gets refl broken)
-    (λ i low last gets broken. at_begin 2 place last i low gets refl broken)
+    thrice (λ entry. (i : ℕ) → i < list_count note_page entry → (last : ℕ) → Gets note_page (list_first note_page entry) i place last
+    → Stands note_page place last ≡ false → ⊥)
+    (λ i low last gets broken. stands_there note_page 0 place last i low gets refl broken)
+    (λ i low last gets broken. stands_there note_page 1 place last i low gets refl broken)
+    (λ i low last gets broken. stands_there note_page 2 place last i low gets refl broken)
     is.entry is.there is.i is.within is.last is.gets is.broken
 
 whole : (file : File) → has_file note_schema file ≡ true → (place : ℕ) → place < slots_in note_page note_catalog file
@@ -116,39 +131,78 @@ abbrev IsAt : File → (number slot place : ℕ) → Type 0
 IsAt file number slot place = (number ≡ page_of (run_of_file note_catalog file) place) × (slot ≡ slot_of (run_of_file note_catalog file) place)
 
 before : (file : File) → has_file note_schema file ≡ true → (place : ℕ) → place < slots_in bad_page note_catalog file
-    → IsAt file 66 1 place → Damaged bad_page file place → ⊥
+    → IsAt file 258 1 place → Damaged bad_page file place → ⊥
 unfolding digits places_from ancestor number_in record_at first_page
-before = of_notes (λ file. (place : ℕ) → place < slots_in bad_page note_catalog file → IsAt file 66 1 place → Damaged bad_page file place → ⊥)
-    (thrice (λ place. IsAt (Cells 0 2) 66 1 place → Damaged bad_page (Cells 0 2) place → ⊥)
-    (λ at. let clash : 66 ≡ 64 = at.0 in absurd (omega (arith, clash))) (λ at. let clash : 66 ≡ 64 = at.0 in absurd (omega (arith, clash)))
-    (λ at. let clash : 66 ≡ 64 = at.0 in absurd (omega (arith, clash))))
-    (once (λ place. IsAt (IndexHeader 0 2) 66 1 place → Damaged bad_page (IndexHeader 0 2) place → ⊥)
-    (λ at. let clash : 66 ≡ 65 = at.0 in absurd (omega (arith, clash))))
-    (thrice (λ place. IsAt (IndexDirectory 0 2) 66 1 place → Damaged bad_page (IndexDirectory 0 2) place → ⊥)
+before = of_notes (λ file. (place : ℕ) → place < slots_in bad_page note_catalog file → IsAt file 258 1 place → Damaged bad_page file place → ⊥)
+    (thrice (λ place. IsAt (Cells 0 2) 258 1 place → Damaged bad_page (Cells 0 2) place → ⊥)
+    (λ at. let clash : 258 ≡ 256 = at.0 in absurd (omega (arith, clash))) (λ at. let clash : 258 ≡ 256 = at.0 in absurd (omega (arith, clash)))
+    (λ at. let clash : 258 ≡ 256 = at.0 in absurd (omega (arith, clash))))
+    (once (λ place. IsAt (IndexHeader 0 2) 258 1 place → Damaged bad_page (IndexHeader 0 2) place → ⊥)
+    (λ at. let clash : 258 ≡ 257 = at.0 in absurd (omega (arith, clash))))
+    (thrice (λ place. IsAt (IndexDirectory 0 2) 258 1 place → Damaged bad_page (IndexDirectory 0 2) place → ⊥)
     (λ at. let clash : 1 ≡ 0 = at.1 in absurd (omega (arith, clash))) (λ at. undamaged bad_page (IndexDirectory 0 2) 1 refl refl)
     (λ at. let clash : 1 ≡ 2 = at.1 in absurd (omega (arith, clash))))
-    (λ place low at. let clash : 66 ≡ 67 + place / 2048 = at.0 in absurd (omega (arith, clash)))
+    (λ place low at. let clash : 258 ≡ 259 + place / 2048 = at.0 in absurd (omega (arith, clash)))
 
 -- where a slot is that one, its first bytes are these
 abbrev Found : File → (found place : ℕ) → Type 0
 Found file found place = found ≡ found_in (in_slot bad_page note_catalog file place)
 
 bytes_there : (file : File) → has_file note_schema file ≡ true → (place : ℕ) → place < slots_in bad_page note_catalog file
-    → IsAt file 66 2 place → Found file 0 place → ⊥
+    → IsAt file 258 2 place → Found file 0 place → ⊥
 unfolding digits places_from ancestor number_in record_at found_in first_page
-bytes_there = of_notes (λ file. (place : ℕ) → place < slots_in bad_page note_catalog file → IsAt file 66 2 place → Found file 0 place → ⊥)
-    (thrice (λ place. IsAt (Cells 0 2) 66 2 place → Found (Cells 0 2) 0 place → ⊥)
-    (λ at. let clash : 66 ≡ 64 = at.0 in absurd (omega (arith, clash))) (λ at. let clash : 66 ≡ 64 = at.0 in absurd (omega (arith, clash)))
-    (λ at. let clash : 66 ≡ 64 = at.0 in absurd (omega (arith, clash))))
-    (once (λ place. IsAt (IndexHeader 0 2) 66 2 place → Found (IndexHeader 0 2) 0 place → ⊥)
-    (λ at. let clash : 66 ≡ 65 = at.0 in absurd (omega (arith, clash))))
-    (thrice (λ place. IsAt (IndexDirectory 0 2) 66 2 place → Found (IndexDirectory 0 2) 0 place → ⊥)
+bytes_there = of_notes (λ file. (place : ℕ) → place < slots_in bad_page note_catalog file → IsAt file 258 2 place → Found file 0 place → ⊥)
+    (thrice (λ place. IsAt (Cells 0 2) 258 2 place → Found (Cells 0 2) 0 place → ⊥)
+    (λ at. let clash : 258 ≡ 256 = at.0 in absurd (omega (arith, clash))) (λ at. let clash : 258 ≡ 256 = at.0 in absurd (omega (arith, clash)))
+    (λ at. let clash : 258 ≡ 256 = at.0 in absurd (omega (arith, clash))))
+    (once (λ place. IsAt (IndexHeader 0 2) 258 2 place → Found (IndexHeader 0 2) 0 place → ⊥)
+    (λ at. let clash : 258 ≡ 257 = at.0 in absurd (omega (arith, clash))))
+    (thrice (λ place. IsAt (IndexDirectory 0 2) 258 2 place → Found (IndexDirectory 0 2) 0 place → ⊥)
     (λ at. let clash : 2 ≡ 0 = at.1 in absurd (omega (arith, clash))) (λ at. let clash : 2 ≡ 1 = at.1 in absurd (omega (arith, clash)))
     (λ at found. let clash : 0 ≡ 0x7a00000000000000 = found in absurd (omega (arith, clash))))
-    (λ place low at. let clash : 66 ≡ 67 + place / 2048 = at.0 in absurd (omega (arith, clash)))
+    (λ place low at. let clash : 258 ≡ 259 + place / 2048 = at.0 in absurd (omega (arith, clash)))
+
+-- a damaged slot on the page of the level file is a broken code
+level_slot : (page : ℕ → List ℕ) (slot : ℕ) (file : File) → has_file note_schema file ≡ true → (place : ℕ) → place < slots_in page note_catalog file
+    → IsAt file 259 slot place → Damaged page file place → IsBroken page slot
+unfolding digits places_from ancestor number_in record_at first_page
+level_slot page slot = of_notes (λ file. (place : ℕ) → place < slots_in page note_catalog file → IsAt file 259 slot place → Damaged page file place → IsBroken page slot)
+    (λ place low at. let few : place < 3 = low in let clash : 259 ≡ 256 + place / 256 = at.0 in absurd (omega (arith, few, clash)))
+    (λ place low at. let few : place < 1 = low in let clash : 259 ≡ 257 + place / 512 = at.0 in absurd (omega (arith, few, clash)))
+    (λ place low at. let few : place < 3 = omega (arith, low) in let clash : 259 ≡ 258 + place / 128 = at.0 in absurd (omega (arith, few, clash)))
+    (λ place low at broken.
+    let within : place < 2048 = low in
+    let there : slot ≡ place % 2048 = at.1 in
+    let same : place ≡ slot = omega (arith, within, there) in
+    subst (IsBroken page) same broken)
+
+-- reading of the first two lists does not get to the byte, and the third entry may not stand
+led_by_none : IsBroken (led_page (31 ∷ [])) 5 → ⊥
+unfolding digits places_from ancestor number_in record_at first_page
+led_by_none is =
+    let page = led_page (31 ∷ []) in
+    thrice (λ entry. may_stand note_catalog (IndexDirectory 0 2) (in_slot page note_catalog (IndexDirectory 0 2) entry) ≡ true
+    → (i : ℕ) → i < list_count page entry → (last : ℕ) → Gets page (list_first page entry) i 5 last → ⊥)
+    (λ stands i low last gets. let same = at_begin page 0 5 last i low gets in let clash = same.0 in absurd (omega (arith, clash)))
+    (λ stands i low last gets. let same = at_begin page 1 5 last i low gets in let clash = same.0 in absurd (omega (arith, clash)))
+    (λ stands i low last gets. absurd (cc (stands)))
+    is.entry is.there is.stands is.i is.within is.last is.gets
+
+-- reading of the first list gets there by a number past the rows
+behind_long : IsBroken long_page 2 → ⊥
+unfolding digits places_from ancestor number_in record_at first_page reading_at
+behind_long is =
+    thrice (λ entry. (i : ℕ) → i < list_count long_page entry → (last : ℕ) → Gets long_page (list_first long_page entry) i 2 last → last ≤ 3 → ⊥)
+    (thrice (λ i. (last : ℕ) → Gets long_page 0 i 2 last → last ≤ 3 → ⊥)
+    (λ last gets kept. let clash : 0 ≡ 2 = ap place_or_none gets in absurd (omega (arith, clash)))
+    (λ last gets kept. let clash : 1 ≡ 2 = ap place_or_none gets in absurd (omega (arith, clash)))
+    (λ last gets kept. let sum : 6 ≡ last = ap last_of gets in absurd (omega (arith, sum, kept))))
+    (λ i low last gets kept. let same = at_begin long_page 0 2 last i low gets in let clash = same.0 in absurd (omega (arith, clash)))
+    (λ i low last gets kept. let same = at_begin long_page 0 2 last i low gets in let clash = same.0 in absurd (omega (arith, clash)))
+    is.entry is.there is.i is.within is.last is.gets is.kept
 
 pub returns : goal.returns
-unfolding digits places_from ancestor number_in record_at found_in first_page
+unfolding digits places_from ancestor number_in record_at found_in first_page reading_at
 returns c = record {
   none_of_whole_pages = λ number slot found d. whole d.file d.at.has d.place d.at.within d.at.damaged;
   one_of_a_bad_page = record {
@@ -165,4 +219,43 @@ returns c = record {
   };
   none_before_it = λ found d. before d.file d.at.has d.place d.at.within (d.at.page_is, d.at.slot_is) d.at.damaged;
   no_other_bytes = λ d. bytes_there d.file d.at.has d.place d.at.within (d.at.page_is, d.at.slot_is) d.at.found_is;
+  led_to_by_an_entry = record {
+    file = IndexLevel 0 2 0;
+    place = 5;
+    at = record {
+      has = refl;
+      within = omega arith;
+      page_is = refl;
+      slot_is = refl;
+      damaged = record { entry = 2; there = omega arith; stands = refl; i = 0; within = omega arith; last = 0; gets = refl; kept = omega arith; broken = refl };
+      found_is = refl;
+    };
+  };
+  by_a_damaged_entry = λ found d.
+      led_by_none (level_slot (led_page (31 ∷ [])) 5 d.file d.at.has d.place d.at.within (d.at.page_is, d.at.slot_is) d.at.damaged);
+  the_entry_itself = record {
+    file = IndexDirectory 0 2;
+    place = 2;
+    at = record {
+      has = refl;
+      within = omega arith;
+      page_is = refl;
+      slot_is = refl;
+      damaged = inl refl;
+      found_is = refl;
+    };
+  };
+  past_the_rows = record {
+    file = IndexLevel 0 2 0;
+    place = 1;
+    at = record {
+      has = refl;
+      within = omega arith;
+      page_is = refl;
+      slot_is = refl;
+      damaged = record { entry = 0; there = omega arith; stands = refl; i = 1; within = omega arith; last = 3; gets = refl; kept = omega arith; broken = refl };
+      found_is = refl;
+    };
+  };
+  behind_it = λ found d. behind_long (level_slot long_page 2 d.file d.at.has d.place d.at.within (d.at.page_is, d.at.slot_is) d.at.damaged);
 }

@@ -14,4 +14,6 @@ returns c = record {
   one_identifier_less = refl;
   a_hundred_lists = refl;
   lists_of_few = refl;
+  values = refl;
+  null_is_a_value = refl;
 }

@@ -43,13 +43,13 @@ unsent =
       journal = take 7 cardio_journal;
       rest = lines_behind 8;
       before = front;
-      made = takes 8 (codes "1301000400000001");
+      made = takes 8 (codes "1302000400000001");
       there = record {
-        text = codes "take 8 1301000400000001";
+        text = codes "take 8 1302000400000001";
         later = lines_behind 9;
-        tells = told_tells (takes 8 (codes "1301000400000001")) refl;
+        tells = told_tells (takes 8 (codes "1302000400000001")) refl;
         begins = refl;
-        within = front_within clinic_catalog cardio_asks (first_lines 7 ++ lines_behind 8) (take 7 cardio_journal) (lines_behind 8) front 5000 (length (codes "take 8 1301000400000001\n")) (2 ^ 32) refl refl;
+        within = front_within clinic_catalog cardio_asks (first_lines 7 ++ lines_behind 8) (take 7 cardio_journal) (lines_behind 8) front 5000 (length (codes "take 8 1302000400000001\n")) (2 ^ 32) refl refl;
       };
       wrong = λ e. send_is_no_take (frame_bytes (MoreFrame 1)) 8 e;
       place = refl;
