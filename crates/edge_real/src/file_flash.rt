@@ -9,7 +9,7 @@ use crate::file_fault::{Deed, FileFault, Reason, fault_of};
 use crate::file_name::FileName;
 use crate::lock::Lock;
 use crate::places::{file_behind, folder_of, keep_folder, stands_at};
-use edge_traits::flash::{AttachFault, Flash};
+use edge_traits::flash::{AttachFault, FIRST_DEEP_PAGE, Flash};
 use edge_traits::{Failed, counting, marks};
 use std::alloc::Global;
 use std::fs::{OpenFile, OpenOptions, Permissions};
@@ -28,13 +28,16 @@ const BLANK_PAGE: [u8; 2048] = [0xFF; 2048];
 /// How a device begins that was loaded.
 const MAGIC: [u8; 7] = *b"GHOSTDB";
 
+/// Before the write of each page below this one, all that was written before is brought to the disk.
+const FIRST_WRITTEN_FREELY: u32 = 256;
+
 /// The most blocks of a device.
 const MOST_BLOCKS: u64 = 60_000_000;
 
 /// A file of whole blocks, named by its path as given.
 ///
 /// A page is read or written by one call of the system at its place in the file, and none is kept in memory; a block is
-/// blanked by one write. Before a page of the first block is written, all that was written before is brought to the disk,
+/// blanked by one write. Before a page of the first four blocks is written, all that was written before is brought to the disk,
 /// and before the write of page 0 answers, that page, and the folder in which the file was made.
 ///
 /// The device has its file alone while it is open: until it makes or attaches another, or ends. A file that another has is
@@ -211,7 +214,7 @@ fn write<F: FileExt + OpenFile>(
     page: u32,
     bytes: &[u8; 2048],
 ) -> Result<(), Reason> {
-    if page < 64 {
+    if page < FIRST_WRITTEN_FREELY {
         file.sync_data()?;
     }
     file.write_all_at(bytes, u64::from(page) * 2048)?;
@@ -305,6 +308,7 @@ where
       name = option_map (λ name. name.items) flash.name;
       page_count = 64 * vec_len flash.marks;
       page = λ page. [];
+      others = λ name page. [];
       blank = is_marked flash.marks.items;
       calls = flash.calls;
       deep_reads = flash.deep_reads;
@@ -365,7 +369,7 @@ where
     }
 
     fn read_page(&mut self, page: u32, buf: &mut [u8; 2048]) -> Result<(), Failed> {
-        self.deep_reads = counting::one_more_if(page >= 64, self.deep_reads);
+        self.deep_reads = counting::one_more_if(page >= FIRST_DEEP_PAGE, self.deep_reads);
         let went = match &self.file {
             Some(file) => read(file, page, buf),
             None => Err(Reason::NotThere),

@@ -4,13 +4,14 @@ use Rattle.edge_traits.specs.Devices.{Device, next, Counts, KeepsPages, SamePage
 
 -- a device keeps what it is
 pub kept_same : (a : Device) → KeepsPages a a
-kept_same a = record { name = refl; page_count = refl; page = refl; blank = refl; never_falls = omega arith; gave = λ at page bytes gave. gave }
+kept_same a = record { name = refl; page_count = refl; page = refl; others = refl; blank = refl; never_falls = omega arith; gave = λ at page bytes gave. gave }
 
 pub kept_trans : {a b c : Device} → KeepsPages a b → KeepsPages b c → KeepsPages a c
 kept_trans first second = record {
   name = second.name ∙ first.name;
   page_count = second.page_count ∙ first.page_count;
   page = second.page ∙ first.page;
+  others = second.others ∙ first.others;
   blank = second.blank ∙ first.blank;
   never_falls = omega (arith, first.never_falls, second.never_falls);
   gave = λ at page bytes gave. second.gave at page bytes (first.gave at page bytes gave);
@@ -28,6 +29,7 @@ changes_trans first second = record {
   page_count = second.page_count ∙ first.page_count;
   below = λ page before. same_trans (first.below page before) (second.below page before);
   above = λ page behind. same_trans (first.above page behind) (second.above page behind);
+  others = second.others ∙ first.others;
   never_falls = omega (arith, first.never_falls, second.never_falls);
   gave = λ at page bytes gave. second.gave at page bytes (first.gave at page bytes gave);
 }
@@ -41,6 +43,7 @@ changes_wider changes lower higher down up = record {
   page_count = changes.page_count;
   below = λ page before. changes.below page (omega arith);
   above = λ page behind. changes.above page (omega arith);
+  others = changes.others;
   never_falls = changes.never_falls;
   gave = changes.gave;
 }
@@ -51,6 +54,7 @@ changes_kept kept low high = record {
   page_count = kept.page_count;
   below = λ page before. same_kept kept page;
   above = λ page behind. same_kept kept page;
+  others = kept.others;
   never_falls = kept.never_falls;
   gave = kept.gave;
 }

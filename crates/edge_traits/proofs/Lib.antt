@@ -9,3 +9,4 @@ pub mod PageLemmas
 pub mod ToldEntries
 pub mod Takes
 pub mod CountLemmas
+pub mod PutAside

@@ -1,7 +1,7 @@
 -- A flash device: its pages by their numbers, which of them are blank, and what was counted of the calls on it. A block is
 -- 64 pages, a page 2,048 bytes. The bytes of pages are a function of the page's number: a clause claims something of them
 -- only where they are told.
-use Rattle.std.specs.Prelude.{◌≡◌, ℕ, ◌+◌, ◌<◌, ◌≤◌, min, Bool, true, false, nat_le, if◌then◌else◌, List, replicate, Option, Result, Ok, Err}
+use Rattle.std.specs.Prelude.{◌≡◌, ℕ, ◌+◌, ◌<◌, ◌≤◌, min, Bool, true, false, nat_le, if◌then◌else◌, List, replicate, bytes_eq, Option, Some, None, Result, Ok, Err}
 use Rattle.std.proofs.lemmas.Bool.{leb-true}
 use Rattle.ghost_model.specs.core.Causes.{Rose, last_count}
 use Rattle.edge_traits.specs.declared.flash.AttachFault.{AttachFault}
@@ -13,10 +13,12 @@ pub record Device : Type 0 where
   -- how many pages there are: none before the device was made or attached
   pub page_count : ℕ
   pub page : ℕ → List ℕ
+  -- the pages of the devices of all other names, by name
+  pub others : List ℕ → ℕ → List ℕ
   pub blank : ℕ → Bool
   -- the calls so far, that for the number of pages aside
   pub calls : ℕ
-  -- the reads so far of page 64 or a later one
+  -- the reads so far of a deep page
   pub deep_reads : ℕ
   -- the failed calls so far
   pub faults : ℕ
@@ -24,6 +26,18 @@ pub record Device : Type 0 where
   pub since_fault : ℕ
   -- after so many calls, and before now, a read of that page gave these bytes
   pub gave : ℕ → ℕ → List ℕ → Bool
+
+-- Pages from this one on are deep: with version 2 of the format all public pages lie before it
+abbrev pub first_deep_page : ℕ
+first_deep_page = 256
+
+abbrev pub is_name : Option (List ℕ) → List ℕ → Bool
+is_name None name = false
+is_name (Some opened) name = bytes_eq opened name
+
+-- the pages of the device of a name, whether it is the one that is open or not
+abbrev pub pages_under : Device → List ℕ → ℕ → List ℕ
+pages_under device name = if is_name device.name name then device.page else device.others name
 
 -- a count one higher, which stays at its last value
 abbrev pub next : ℕ → ℕ
@@ -71,6 +85,7 @@ pub record KeepsPages (before now : Device) : Type 0 where
   pub name : now.name ≡ before.name
   pub page_count : now.page_count ≡ before.page_count
   pub page : now.page ≡ before.page
+  pub others : now.others ≡ before.others
   pub blank : now.blank ≡ before.blank
   pub never_falls : before.calls ≤ now.calls
   pub gave : (at page : ℕ) (bytes : List ℕ) → before.gave at page bytes ≡ true → now.gave at page bytes ≡ true
@@ -87,6 +102,7 @@ pub record ChangesOnly (low high : ℕ) (before now : Device) : Type 0 where
   pub page_count : now.page_count ≡ before.page_count
   pub below : (page : ℕ) → page < low → SamePage before now page
   pub above : (page : ℕ) → high ≤ page → SamePage before now page
+  pub others : now.others ≡ before.others
   pub never_falls : before.calls ≤ now.calls
   pub gave : (at page : ℕ) (bytes : List ℕ) → before.gave at page bytes ≡ true → now.gave at page bytes ≡ true
 

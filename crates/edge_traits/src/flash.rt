@@ -1,8 +1,8 @@
 //! A flash device of pages and blocks.
 
-ghost use Rattle.std.specs.Prelude.{◌≡◌, ℕ, List, ◌<◌, ◌≤◌, ◌+◌, ◌*◌, ◌%◌, Bool, true, false, Some, None, IfOk, OnOk, OnErr, nat_le};
+ghost use Rattle.std.specs.Prelude.{◌≡◌, ℕ, List, bytes_eq, ◌<◌, ◌≤◌, ◌+◌, ◌*◌, ◌%◌, Bool, true, false, Some, None, IfOk, OnOk, OnErr, nat_le};
 ghost use Rattle.ghost_model.specs.core.Causes.{HasCause};
-ghost use Rattle.edge_traits.specs.Devices.{Device, next, next_if, since_call, since_attach, AttachCause, KeepsPages, ChangesOnly, IsErased, NotBlank};
+ghost use Rattle.edge_traits.specs.Devices.{Device, first_deep_page, pages_under, next, next_if, since_call, since_attach, AttachCause, KeepsPages, ChangesOnly, IsErased, NotBlank};
 ghost use Rattle.edge_traits.specs.declared.flash.AttachFault.TheVariants.{Failed as call_failed, NoMemory as no_memory};
 
 use crate::Failed;
@@ -10,6 +10,9 @@ use std::alloc::{AllocError, Global};
 
 /// The pages of a block.
 pub const BLOCK_PAGES: u32 = 64;
+
+/// The first deep page: with version 2 of the format all public pages lie before it.
+pub const FIRST_DEEP_PAGE: u32 = 256;
 
 /// The bytes of a page.
 pub const PAGE_BYTES: usize = 2048;
@@ -50,7 +53,8 @@ pub trait Flash {
     /// The device as it stands.
     ghost state: { Self → Device };
 
-    /// Makes a device of `blocks` blocks, all of whose pages are blank, in place of an older one of that name.
+    /// Makes a device of `blocks` blocks, all of whose pages are blank, in place of an older one of that name. The devices of other
+    /// names stay as they are.
     ///
     /// After an error the device is not open, and has no page.
     fn make(&mut self, alloc: Global, name: &str, blocks: u32) -> Result<(), AttachFault>
@@ -60,6 +64,7 @@ pub trait Flash {
         ensures pages { OnOk result ((state self.new).page_count ≡ 64 * blocks) }
         ensures erased { OnOk result (IsErased told 0 (64 * blocks) (state self.new)) }
         ensures none { OnErr result ((state self.new).page_count ≡ 0) }
+        ensures others { told ≡ true → (other : List ℕ) → bytes_eq name.now other ≡ false → pages_under (state self.new) other ≡ pages_under (state self.old) other }
         ensures calls { (state self.new).calls ≡ next (state self.old).calls }
         ensures deep_reads { (state self.new).deep_reads ≡ (state self.old).deep_reads }
         ensures cause { AttachCause (state self.old).faults (state self.new).faults result }
@@ -76,7 +81,7 @@ pub trait Flash {
         ensures whole_blocks { IfOk result (λ pages. pages % 64 ≡ 0) }
         ensures not_blank { IfOk result (λ pages. NotBlank 0 pages (state self.new)) }
         ensures none { OnErr result ((state self.new).page_count ≡ 0) }
-        ensures kept { told ≡ true → (state self.new).page ≡ (state self.old).page }
+        ensures kept { told ≡ true → (other : List ℕ) → pages_under (state self.new) other ≡ pages_under (state self.old) other }
         ensures calls { (state self.new).calls ≡ next (state self.old).calls }
         ensures deep_reads { (state self.new).deep_reads ≡ (state self.old).deep_reads }
         ensures cause { AttachCause (state self.old).faults (state self.new).faults result }
@@ -90,7 +95,7 @@ pub trait Flash {
         ensures gave { OnOk result ((state self.new).gave (state self.old).calls page buf.new ≡ true) }
         ensures kept { KeepsPages (state self.old) (state self.new) }
         ensures calls { (state self.new).calls ≡ next (state self.old).calls }
-        ensures deep_reads { (state self.new).deep_reads ≡ next_if (nat_le 64 page) (state self.old).deep_reads }
+        ensures deep_reads { (state self.new).deep_reads ≡ next_if (nat_le first_deep_page page) (state self.old).deep_reads }
         ensures cause { HasCause (state self.old).faults (state self.new).faults result }
         ensures one_fault { (state self.new).faults ≤ (state self.old).faults + 1 }
         ensures since_fault { (state self.new).since_fault ≡ since_call (state self.old).since_fault result };

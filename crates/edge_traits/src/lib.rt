@@ -6,6 +6,7 @@
 //! anything.
 #![tactic(auto)]
 
+mod aside;
 pub mod counting;
 pub mod depot;
 pub mod flash;
@@ -15,6 +16,7 @@ pub mod mem_depot;
 pub mod mem_flash;
 pub mod mem_link;
 pub mod mem_sink;
+mod named_pages;
 pub mod peer;
 pub mod reading;
 pub mod room;

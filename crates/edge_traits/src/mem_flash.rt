@@ -1,45 +1,48 @@
 //! A flash device in memory.
 
-ghost use Rattle.std.specs.Prelude.{◌≡◌, ◌≤◌, ◌<◌, ◌*◌, ◌+◌, ◌++◌, ℕ, true, false, None, take, drop, IfOk, IsTrue, ◌↔◌, MatchOption, [], slice_set, length, replicate, vec_len};
+ghost use Rattle.std.specs.Prelude.{◌≡◌, ◌≤◌, ◌<◌, ◌*◌, ◌+◌, ◌++◌, ℕ, List, true, false, None, take, drop, IfOk, OnOk, IsTrue, ◌↔◌, MatchOption, [], slice_set, length, replicate, vec_len};
 ghost use Rattle.ghost_model.specs.core.Causes.{HasCause, Rose};
-ghost use Rattle.edge_traits.specs.Devices.{next, since_call, ChangesOnly};
+ghost use Rattle.edge_traits.specs.Devices.{next, since_call, pages_under, ChangesOnly};
 ghost use Rattle.edge_traits.specs.Scripts.{IsFresh};
 ghost use Rattle.edge_traits.specs.Pages.{page_at};
+ghost use Rattle.edge_traits.specs.MemDevices.{named_pages};
 
-use crate::flash::{AttachFault, Flash};
+use crate::flash::{AttachFault, FIRST_DEEP_PAGE, Flash};
+use crate::named_pages::NamedPages;
 use crate::script::Script;
-use crate::{Failed, counting, marks};
+use crate::{Failed, aside, counting, marks};
 use std::alloc::{AllocError, Global};
+use std::mem;
 
-/// One device, whatever it is called, whose pages lie in memory.
+/// A device of each name, whose pages lie in memory. The one last made or attached is at hand, and the others keep their pages.
 ///
-/// It is empty until it is made. To make it with more blocks than it has room for is a fault, and so is each call that its
-/// script names. A failed read leaves the buffer as it was. After a failed write the page has the first half of what was to
+/// A device is empty until it is made. To make one with more blocks than there is room for is a fault, and so is each call that
+/// the script names. A failed read leaves the buffer as it was. After a failed write the page has the first half of what was to
 /// be written; its other half, and all pages of a block after a failed erase, are as they were.
 #[derive(Drop)]
 pub struct MemFlash {
     /// Which calls fail.
     pub script: Script,
-    /// The most blocks that the device may be made with.
+    /// The most blocks that a device may be made with.
     pub room: u32,
     deep_reads: u64,
     since_fault: u64,
     is_open: bool,
-    name: Vec<u8>,
-    pages: Vec<[u8; 2048]>,
-    marks: Vec<u64>,
-    ghost sized: { vec_len pages ≡ 64 * vec_len marks },
-    ghost small: { vec_len marks ≤ 60000000 },
+    last: NamedPages,
+    others: Vec<NamedPages>,
 }
 
 impl MemFlash {
-    /// A device with room for `room` blocks that fails at the calls numbered in `fails`, from 1. It is empty, and not open.
+    /// Devices with room for `room` blocks each that fail at the calls numbered in `fails`, from 1. They are empty, and none is
+    /// open.
+    #[tactic(auto, using(crate::proofs::PutAside::nothing_under))]
     pub fn new(alloc: Global, room: u32, fails: &[u64]) -> Result<MemFlash, AllocError>
         ensures script { IfOk result (λ flash. IsFresh fails.now flash.script) }
         ensures room { IfOk result (λ flash. flash.room ≡ room) }
         ensures closed { IfOk result (λ flash. (⟦<MemFlash as Flash>⟧.state flash).name ≡ None) }
         ensures no_page { IfOk result (λ flash. (⟦<MemFlash as Flash>⟧.state flash).page_count ≡ 0) }
         ensures empty { IfOk result (λ flash. (page : ℕ) → (⟦<MemFlash as Flash>⟧.state flash).page page ≡ []) }
+        ensures no_other { IfOk result (λ flash. (name : List ℕ) (page : ℕ) → pages_under (⟦<MemFlash as Flash>⟧.state flash) name page ≡ []) }
         ensures no_deep_read { IfOk result (λ flash. (⟦<MemFlash as Flash>⟧.state flash).deep_reads ≡ 0) }
         ensures no_call { IfOk result (λ flash. (⟦<MemFlash as Flash>⟧.state flash).since_fault ≡ 0) }
     {
@@ -49,20 +52,20 @@ impl MemFlash {
             deep_reads: 0,
             since_fault: 0,
             is_open: false,
-            name: Vec::new(alloc),
-            pages: Vec::new(alloc),
-            marks: Vec::new(alloc),
+            last: NamedPages::none(alloc, Vec::new(alloc)),
+            others: Vec::new(alloc),
         })
     }
 
-    /// The bytes of a page, whether the device is open or not, with no call that is counted.
+    /// The bytes of a page of the device last made or attached, whether it is open or not, with no call that is counted.
     pub fn page(&self, page: u32) -> Option<&[u8; 2048]>
         ensures { MatchOption result ((⟦<MemFlash as Flash>⟧.state self.now).page page ≡ []) (λ bytes. (⟦<MemFlash as Flash>⟧.state self.now).page page ≡ bytes.now) }
     {
-        self.pages.get(page as usize)
+        self.last.pages.get(page as usize)
     }
 
-    /// Puts other bytes into a page, blank or not, with no call that is counted, and answers whether there is such a page.
+    /// Puts other bytes into a page of the device that is open, blank or not, with no call that is counted, and answers whether
+    /// there is such a page.
     pub fn put_page(&mut self, page: u32, bytes: &[u8; 2048]) -> bool
         ensures there { page < (⟦<MemFlash as Flash>⟧.state self.old).page_count → IsTrue result }
         ensures put { IsTrue result → (⟦<MemFlash as Flash>⟧.state self.new).page page ≡ bytes.now }
@@ -73,14 +76,14 @@ impl MemFlash {
         ensures deep_reads { (⟦<MemFlash as Flash>⟧.state self.new).deep_reads ≡ (⟦<MemFlash as Flash>⟧.state self.old).deep_reads }
         ensures since_fault { (⟦<MemFlash as Flash>⟧.state self.new).since_fault ≡ (⟦<MemFlash as Flash>⟧.state self.old).since_fault }
     {
-        if (page as usize) < self.pages.len() {
-            self.pages[page as usize] = *bytes;
+        if self.is_open && (page as usize) < self.last.pages.len() {
+            self.last.pages[page as usize] = *bytes;
             return true;
         }
         false
     }
 
-    /// How many reads there were of page 64 or a later one.
+    /// How many reads of deep pages there were.
     pub fn deep_reads(&self) -> u64
         ensures { result ≡ (⟦<MemFlash as Flash>⟧.state self.now).deep_reads }
     {
@@ -94,10 +97,9 @@ impl MemFlash {
         ensures calls { self.new.script.calls ≡ next self.old.script.calls }
         ensures calls_rise { self.old.script.calls ≤ self.new.script.calls }
         ensures since_fault { self.new.since_fault ≡ since_call self.old.since_fault result }
-        ensures pages { self.new.pages ≡ self.old.pages }
-        ensures marks { self.new.marks ≡ self.old.marks }
+        ensures last { self.new.last ≡ self.old.last }
+        ensures others { self.new.others ≡ self.old.others }
         ensures open { self.new.is_open ≡ self.old.is_open }
-        ensures name { self.new.name ≡ self.old.name }
         ensures room { self.new.room ≡ self.old.room }
         ensures deep_reads { self.new.deep_reads ≡ self.old.deep_reads }
     {
@@ -120,11 +122,35 @@ impl MemFlash {
         ensures one_fault { self.new.script.faults ≤ self.old.script.faults + 1 }
         ensures calls { self.new.script.calls ≡ self.old.script.calls }
         ensures since_fault { self.new.since_fault ≡ 0 }
+        ensures last { self.new.last ≡ self.old.last }
+        ensures others { self.new.others ≡ self.old.others }
         ensures open { self.new.is_open ≡ self.old.is_open }
         ensures deep_reads { self.new.deep_reads ≡ self.old.deep_reads }
     {
         self.since_fault = 0;
         self.script.fault()
+    }
+
+    /// Puts the device last made or attached aside, and has that of this name at hand in its place, which has no page where it
+    /// was not made. For want of memory nothing changes.
+    fn turn_to(&mut self, alloc: Global, name: &str) -> Result<(), AllocError>
+        ensures name { OnOk result (self.new.last.name.items ≡ name.now) }
+        ensures pages { (other : List ℕ) → named_pages self.new.last self.new.others.items other ≡ named_pages self.old.last self.old.others.items other }
+        ensures script { self.new.script ≡ self.old.script }
+        ensures room { self.new.room ≡ self.old.room }
+        ensures deep_reads { self.new.deep_reads ≡ self.old.deep_reads }
+        ensures since_fault { self.new.since_fault ≡ self.old.since_fault }
+        ensures open { self.new.is_open ≡ self.old.is_open }
+    {
+        if self.last.name.as_slice() == name.as_bytes() {
+            return Ok(());
+        }
+        let none = NamedPages::none(alloc, name.as_bytes().to_vec(alloc)?);
+        self.others.reserve(1)?;
+        let next = aside::take(&mut self.others, none);
+        let last = mem::replace(&mut self.last, next);
+        aside::put(&mut self.others, last);
+        Ok(())
     }
 }
 
@@ -176,12 +202,10 @@ impl Flash for MemFlash {
         if blocks > self.room {
             return Err(AttachFault::from(self.fault()));
         }
-        let name = name.as_bytes().to_vec(alloc)?;
         let pages = blank_pages(alloc, blocks)?;
         let marks = marks::all_set(alloc, blocks)?;
-        self.name = name;
-        self.pages = pages;
-        self.marks = marks;
+        self.turn_to(alloc, name)?;
+        self.last.renew(pages, marks);
         self.is_open = true;
         Ok(())
     }
@@ -189,28 +213,28 @@ impl Flash for MemFlash {
     fn attach(&mut self, alloc: Global, name: &str) -> Result<u32, AttachFault> {
         self.is_open = false;
         self.begin()?;
-        self.name = name.as_bytes().to_vec(alloc)?;
-        marks::clear_all(&mut self.marks);
+        self.turn_to(alloc, name)?;
+        marks::clear_all(&mut self.last.marks);
         self.is_open = true;
-        Ok(self.pages.len() as u32)
+        Ok(self.last.pages.len() as u32)
     }
 
     fn read_page(&mut self, page: u32, buf: &mut [u8; 2048]) -> Result<(), Failed> {
-        self.deep_reads = counting::one_more_if(page >= 64, self.deep_reads);
+        self.deep_reads = counting::one_more_if(page >= FIRST_DEEP_PAGE, self.deep_reads);
         self.begin()?;
-        *buf = self.pages[page as usize];
+        *buf = self.last.pages[page as usize];
         Ok(())
     }
 
     fn write_page(&mut self, page: u32, bytes: &[u8; 2048]) -> Result<(), Failed> {
-        marks::clear(&mut self.marks, page);
+        marks::clear(&mut self.last.marks, page);
         match self.begin() {
             Ok(()) => {
-                self.pages[page as usize] = *bytes;
+                self.last.pages[page as usize] = *bytes;
                 Ok(())
             }
             Err(failed) => {
-                write_half(&mut self.pages[page as usize], bytes);
+                write_half(&mut self.last.pages[page as usize], bytes);
                 Err(failed)
             }
         }
@@ -218,17 +242,17 @@ impl Flash for MemFlash {
 
     fn erase_block(&mut self, block: u32) -> Result<(), Failed> {
         if let Err(failed) = self.begin() {
-            marks::clear_block(&mut self.marks, block);
+            marks::clear_block(&mut self.last.marks, block);
             return Err(failed);
         }
-        erase_pages(&mut self.pages, block as usize * 64);
-        marks::set_block(&mut self.marks, block);
+        erase_pages(&mut self.last.pages, block as usize * 64);
+        marks::set_block(&mut self.last.marks, block);
         Ok(())
     }
 
     fn pages(&self) -> u32 {
         if self.is_open {
-            self.pages.len() as u32
+            self.last.pages.len() as u32
         } else {
             0
         }
