@@ -19,13 +19,13 @@ pub record AreWritten (schema : Schema) (table : ℕ) (at : ℕ) (before : List 
   pub bytes : take end out ++ flat_map (test_bytes schema table) rest ≡ take at before ++ flat_map (test_bytes schema table) tests
   pub behind : drop end out ≡ drop end before
   pub count : end + length (flat_map (test_bytes schema table) rest) ≡ at + length (flat_map (test_bytes schema table) tests)
-  pub within : end + 66 * left ≤ at + 66 * room
+  pub within : end + 67 * left ≤ at + 67 * room
 
 pub one_written : (schema : Schema) (table at : ℕ) (before : List ℕ) (tests : List channel.Test) (room end : ℕ) (out : List ℕ) (rest : List channel.Test) (left : ℕ)
     (test : channel.Test) (later : List channel.Test) (fewer next : ℕ) (new : List ℕ)
     → AreWritten schema table at before tests room end out rest left → rest ≡ test ∷ later → left ≡ 1 + fewer
     → take next new ≡ take end out ++ test_bytes schema table test → drop next new ≡ drop next out
-    → next ≡ end + length (test_bytes schema table test) → next ≤ end + 66
+    → next ≡ end + length (test_bytes schema table test) → next ≤ end + 67
     → AreWritten schema table at before tests room next new later fewer
 one_written schema table at before tests room end out rest left test later fewer next new h e l bytes behind count short =
     let all : (has_kind schema table test && list_all (has_kind schema table) later) ≡ true = ap (list_all (has_kind schema table)) (sym e) ∙ h.kinds in

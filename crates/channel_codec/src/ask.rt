@@ -10,7 +10,7 @@ ghost use Rattle.channel_codec.specs.AskViews.{test_view, ask_view, has_kind};
 
 use crate::frame::{PAYLOAD_BYTES, put_at};
 use arrayvec::ArrayVec;
-use ghost_base::limits::{MAX_CHARS, MAX_COLUMNS, MAX_CONDITIONS};
+use ghost_base::limits::{MAX_CELL, MAX_CHARS, MAX_COLUMNS, MAX_CONDITIONS};
 use ghost_base::value::Value;
 use ghost_base::{Kind, Operator, cell_width, encode_cell, is_of_kind};
 use tree_schema::Schema;
@@ -46,7 +46,8 @@ pub struct Ask {
 /// The kind of a column; where there is no such column its cells have no bytes.
 pub fn kind_at(schema: &Schema, table: usize, column: usize) -> Kind
     ensures kind { kind_of result ≡ asks.kind_at schema.now table column }
-    ensures narrow { cells.cell_width (kind_of result) ≤ MAX_CHARS }
+    ensures narrow { cells.cell_width (schemas.plain_of (kind_of result)) ≤ MAX_CHARS }
+    ensures wide { cells.cell_width (kind_of result) ≤ MAX_CELL }
 {
     let _ = schema.tables();
     schemas_are_trees();
@@ -74,7 +75,7 @@ fn operator_code(operator: Operator) -> u8
 pub fn row_width(schema: &Schema, ask: &Ask) -> usize
     ensures width { result ≡ asks.row_width schema.now (ask_view ask.now) }
     ensures some { 4 ≤ result }
-    ensures most { result ≤ 1540 }
+    ensures most { result ≤ 1564 }
 {
     let mut width = 4;
     let mut rest = ask.columns.as_slice();
@@ -171,15 +172,15 @@ pub fn is_proper(schema: &Schema, ask: &Ask) -> bool
 /// Writes a condition at a place, and answers where it ends.
 fn put_test(schema: &Schema, table: usize, test: &Test, at: usize, out: &mut [u8]) -> usize
     requires kind { has_kind schema.now table (test_view test.now) ≡ true }
-    requires room { at + 66 ≤ length out.old }
+    requires room { at + 67 ≤ length out.old }
     ensures bytes { take result out.new ≡ take at out.old ++ asks.test_bytes schema.now table (test_view test.now) }
     ensures rest { drop result out.new ≡ drop result out.old }
     ensures end { result ≡ at + length (asks.test_bytes schema.now table (test_view test.now)) }
-    ensures short { result ≤ at + 66 }
+    ensures short { result ≤ at + 67 }
 {
     let kind = kind_at(schema, table, test.column as usize);
     let width = cell_width(kind);
-    let mut places = [0; MAX_CHARS];
+    let mut places = [0; MAX_CELL];
     let cell = &mut places[..width];
     encode_cell(kind, &test.value, cell);
     put_at(out, at, &[test.column, operator_code(test.operator)]);
@@ -190,11 +191,11 @@ fn put_test(schema: &Schema, table: usize, test: &Test, at: usize, out: &mut [u8
 /// Writes conditions at a place, and answers where they end.
 fn put_tests(schema: &Schema, table: usize, tests: &[Test], at: usize, out: &mut [u8]) -> usize
     requires kinds { list_all (has_kind schema.now table) (map test_view tests.now) ≡ true }
-    requires room { at + 66 * length tests.now ≤ length out.old }
+    requires room { at + 67 * length tests.now ≤ length out.old }
     ensures bytes { take result out.new ≡ take at out.old ++ flat_map (asks.test_bytes schema.now table) (map test_view tests.now) }
     ensures rest { drop result out.new ≡ drop result out.old }
     ensures end { result ≡ at + length (flat_map (asks.test_bytes schema.now table) (map test_view tests.now)) }
-    ensures within { result ≤ at + 66 * length tests.now }
+    ensures within { result ≤ at + 67 * length tests.now }
 {
     let mut end = at;
     let mut rest = tests;
@@ -211,7 +212,7 @@ pub fn put_ask(schema: &Schema, ask: &Ask, out: &mut [u8; PAYLOAD_BYTES]) -> usi
     requires proper { asks.is_proper_ask schema.now (ask_view ask.now) ≡ true }
     ensures bytes { take result out.new ≡ asks.ask_payload schema.now (ask_view ask.now) }
     ensures count { result ≡ length (asks.ask_payload schema.now (ask_view ask.now)) }
-    ensures most { result ≤ 1083 }
+    ensures most { result ≤ 1099 }
     ensures rest { drop result out.new ≡ drop result out.old }
 {
     let columns = ask.columns.len();

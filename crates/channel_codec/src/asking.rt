@@ -3,6 +3,7 @@
 ghost use Rattle.std.specs.Prelude.{◌≡◌, ◌≤◌, ◌+◌, true, None, bytes_eq, length, map, take, drop, slice_index, option_map, IfSome, IfNone};
 ghost use Rattle.ghost_model.specs.core.Asks as asks;
 ghost use Rattle.ghost_model.specs.readings.AskReading as reading;
+ghost use Rattle.ghost_model.specs.core.Schema.{plain_of};
 ghost use Rattle.ghost_model.specs.forms.Cells as cells;
 ghost use Rattle.ghost_model.specs.readings.CellReading as cell_reading;
 ghost use Rattle.ghost_base.specs.Views.{kind_of, operator_of, value_of};
@@ -35,7 +36,7 @@ fn operator_in(code: u8) -> Operator
 
 /// The value of a cell, and the empty text where it spells none.
 fn value_in(kind: Kind, cell: &[u8]) -> Value
-    requires { cells.cell_width (kind_of kind) ≤ MAX_CHARS }
+    requires { cells.cell_width (plain_of (kind_of kind)) ≤ MAX_CHARS }
     ensures { value_of result ≡ reading.value_or_none (cell_reading.decode_cell (kind_of kind) cell.now) }
 {
     match decode_cell(kind, cell) {

@@ -14,7 +14,7 @@ pub const PAYLOAD_BYTES: usize = 2040;
 pub const FRAME_BYTES: usize = 2048;
 
 /// The version of the frames.
-pub const VERSION: u8 = 1;
+pub const VERSION: u8 = 2;
 
 /// A frame of the channel. `Hello` to `Bye` are the key's, `Welcome` to `Sorry` the host's; payloads stand as they are
 /// sent.

@@ -86,7 +86,7 @@ no_truth : false ≡ true → ⊥
 no_truth e = cc
 
 not_greeting : (version kind serial size missing : ℕ) → kind ≡ 20
-    → (version == 1 && kind == 17 && serial == 0 && nat_le 2 size && nat_le size 2040 && nat_le size (missing + 1)) ≡ true → ⊥
+    → (version == frames.frame_version && kind == 17 && serial == 0 && nat_le 2 size && nat_le size 2040 && nat_le size (missing + 1)) ≡ true → ⊥
 not_greeting version kind serial size missing e t = grind (arith, nat_tests)
 
 refused_marks : (catalog : Catalog) (p : Pump) (phase : Phase) (awaits : Awaits) (ended : List EndedAsk) (bytes : List ℕ) (bytes_in : List ℕ) (serial code : ℕ)

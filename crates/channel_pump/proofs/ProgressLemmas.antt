@@ -63,7 +63,7 @@ first_some zero width size same some = absurd (omega (arith, same, some))
 first_some (suc n) width size same some = omega arith
 
 not_greeting : (version kind serial size missing : ℕ) → kind ≡ 18
-    → (version == 1 && kind == 17 && serial == 0 && nat_le 2 size && nat_le size 2040 && nat_le size (missing + 1)) ≡ true → ⊥
+    → (version == frames.frame_version && kind == 17 && serial == 0 && nat_le 2 size && nat_le size 2040 && nat_le size (missing + 1)) ≡ true → ⊥
 not_greeting version kind serial size missing e t = grind (arith, nat_tests)
 
 no_truth : false ≡ true → ⊥

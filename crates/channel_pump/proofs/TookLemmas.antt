@@ -309,7 +309,7 @@ reply_kind version serial width kind size false true r d t = done (is_done kind 
 reply_kind version serial width kind size false false r d t = sorry (sorry_kind version serial width kind size r d t) (sorry_size version serial width kind size r d t)
 
 greeting_kind : (version kind serial size missing : ℕ)
-    → (version == 1 && kind == 17 && serial == 0 && nat_le 2 size && nat_le size 2040 && nat_le size (missing + 1)) ≡ true → (kind ≡ 17) × (2 ≤ size)
+    → (version == frames.frame_version && kind == 17 && serial == 0 && nat_le 2 size && nat_le size 2040 && nat_le size (missing + 1)) ≡ true → (kind ≡ 17) × (2 ≤ size)
 greeting_kind version kind serial size missing e = (grind (arith, nat_tests), grind (arith, nat_tests))
 
 no_truth : false ≡ true → ⊥

@@ -53,7 +53,7 @@ record Greets (version kind serial size : ℕ) : Type 0 where
   some : 2 ≤ size
 
 greets : (version kind serial size missing : ℕ)
-    → (version == 1 && kind == 17 && serial == 0 && nat_le 2 size && nat_le size 2040 && nat_le size (missing + 1)) ≡ true → Greets version kind serial size
+    → (version == frames.frame_version && kind == 17 && serial == 0 && nat_le 2 size && nat_le size 2040 && nat_le size (missing + 1)) ≡ true → Greets version kind serial size
 greets version kind serial size missing e = record { kind_is = grind (arith, nat_tests); some = grind (arith, nat_tests) }
 
 -- a payload that is whole

@@ -16,7 +16,7 @@ pub(crate) struct AskForm<'a> {
     pub(crate) ask: &'a Ask,
     /// The payload of its ASK frame, at most 2,040 bytes.
     pub(crate) payload: &'a [u8],
-    /// The kinds of the asked columns in their order, at most 24 and each at most 64 bytes wide.
+    /// The kinds of the asked columns in their order, at most 24 and each at most 65 bytes wide.
     pub(crate) kinds: &'a [Kind],
     /// The number of rows of its table.
     pub(crate) rows: u32,

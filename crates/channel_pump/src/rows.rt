@@ -28,7 +28,7 @@ pub(crate) fn row_width(kinds: &[Kind]) -> usize
     requires narrow { IsTrue (list_all is_narrow (map kind_of kinds.now)) }
     ensures width { result ≡ width_of (map kind_of kinds.now) }
     ensures some { 4 ≤ result }
-    ensures most { result ≤ 1540 }
+    ensures most { result ≤ 1564 }
 {
     let mut width = 4;
     let mut rest = kinds;

@@ -17,7 +17,7 @@ use Rattle.ghost_model.specs.refusals.LoadFaults.{most_rows}
 use Rattle.ghost_model.proofs.MeaningLemmas.ImageLengths.{images_are_long}
 use Rattle.ghost_model.proofs.SessionLemmas.Settings.{tree_of}
 use Rattle.csv_split.specs.ImageLengths.{ImagesHaveTheirBytes, column_bytes, image_bytes, row_bytes, tables_bytes}
-use Rattle.csv_split.proofs.DeclaredColumns.{narrow}
+use Rattle.csv_split.proofs.DeclaredColumns.{not_wide}
 use Rattle.csv_split.proofs.ImageCells.{open_kinds}
 use Rattle.csv_split.proofs.ImageLengths.{IsLengthSoFar, all_lengths}
 
@@ -64,14 +64,14 @@ images_have_their_bytes cat public bytes spells = ap length spells.spelled ∙ i
 
 -- no image has more than the greatest count
 
-row_small : (columns : List Column) → ((column : ℕ) (held : Column) → slice_get columns column ≡ Some held → cell_width held.kind ≤ 64) → row_bytes columns ≤ 64 * length columns
+row_small : (columns : List Column) → ((column : ℕ) (held : Column) → slice_get columns column ≡ Some held → cell_width held.kind ≤ 65) → row_bytes columns ≤ 65 * length columns
 row_small [] each = omega arith
 row_small (column ∷ later) each =
-    let one : column_bytes column ≤ 64 = by column.hidden in
+    let one : column_bytes column ≤ 65 = by column.hidden in
     let others = row_small later (λ at. each (suc at)) in
     omega (arith, one, others)
   where
-    by : (hidden : Bool) → (if hidden then 0 else cell_width column.kind) ≤ 64
+    by : (hidden : Bool) → (if hidden then 0 else cell_width column.kind) ≤ 65
     by true = omega arith
     by false = each 0 column refl
 
@@ -79,29 +79,31 @@ later_there : (columns : List Column) (column : ℕ) (held : Column) → slice_g
 later_there [] column held is = cc is
 later_there (_ ∷ later) column held is = is
 
-table_small : (schema : Schema) → IsTree schema → (table : ℕ) (declared : Table) → slice_get schema table ≡ Some declared → row_bytes (drop 1 declared.columns) ≤ 1536
+table_small : (schema : Schema) → IsTree schema → (table : ℕ) (declared : Table) → slice_get schema table ≡ Some declared → row_bytes (drop 1 declared.columns) ≤ 1560
 table_small schema tree table declared is =
     let same : columns_of schema table ≡ declared.columns = ap columns_or_none is in
     let all = tree.few_columns table in
     let few : length declared.columns ≤ 24 = rw same at all in
     let size = length-drop 1 declared.columns in
     let most = row_small (drop 1 declared.columns)
-    (λ column held there. narrow held.kind (λ most e. tree.text_lengths table (suc column) most held (ap (λ columns. slice_get columns (suc column)) same ∙ later_there declared.columns column held there) e)) in
+    (λ column held there.
+    let found = ap (λ columns. slice_get columns (suc column)) same ∙ later_there declared.columns column held there in
+    not_wide held.kind (λ most e. tree.text_lengths table (suc column) most held found e) (λ most e. tree.nullable_text_lengths table (suc column) most held found e)) in
     omega (arith, few, size, most)
 
-tables_small : (schema : Schema) (visible : List Rows) → ((table : ℕ) (declared : Table) → slice_get schema table ≡ Some declared → row_bytes (drop 1 declared.columns) ≤ 1536)
-    → list_all (λ count. nat_le count most_rows) (map length visible) ≡ true → tables_bytes schema visible ≤ 1536000000 * length schema
+tables_small : (schema : Schema) (visible : List Rows) → ((table : ℕ) (declared : Table) → slice_get schema table ≡ Some declared → row_bytes (drop 1 declared.columns) ≤ 1560)
+    → list_all (λ count. nat_le count most_rows) (map length visible) ≡ true → tables_bytes schema visible ≤ 1560000000 * length schema
 tables_small [] visible each few = omega arith
 tables_small (table ∷ schema) [] each few = omega arith
 tables_small (table ∷ schema) (rows ∷ visible) each few =
-    let wide : row_bytes (drop 1 table.columns) ≤ 1536 = each 0 table refl in
+    let wide : row_bytes (drop 1 table.columns) ≤ 1560 = each 0 table refl in
     let long : length rows ≤ most_rows = leb-true (length rows) most_rows (first_so (nat_le (length rows) most_rows) _ few) in
     let one = times (row_bytes (drop 1 table.columns)) (length rows) wide long in
     let later : list_all (λ count. nat_le count most_rows) (map length visible) ≡ true = second_so (nat_le (length rows) most_rows) _ few in
-    let others : tables_bytes schema visible ≤ 1536000000 * length schema = tables_small schema visible (λ at. each (suc at)) later in
+    let others : tables_bytes schema visible ≤ 1560000000 * length schema = tables_small schema visible (λ at. each (suc at)) later in
     omega (arith, one, others)
   where
-    times : (a b : ℕ) → a ≤ 1536 → b ≤ 1000000 → a * b ≤ 1536000000
+    times : (a b : ℕ) → a ≤ 1560 → b ≤ 1000000 → a * b ≤ 1560000000
     times a b few long = let most = mul-le-mul_right b few in omega (arith, most, long)
 
 image_small : (cat : Catalog) (public : Public) → IsCatalog cat → length (catalog_bytes cat) ≤ 16640 → IsPublic cat public → image_bytes cat public ≤ 2 ^ 64 - 1

@@ -1,6 +1,6 @@
 //! The cells of one column of a table.
 
-ghost use Rattle.std.specs.Prelude.{◌≡◌, ◌<◌, ◌≤◌, ◌^◌, ◌++◌, ◌∷◌, [], length, map, slice_get, option_map, OnOk, Err};
+ghost use Rattle.std.specs.Prelude.{◌≡◌, ◌<◌, ◌≤◌, ◌^◌, ◌++◌, ◌∷◌, [], false, length, map, slice_get, option_map, OnOk, Err};
 ghost use Rattle.ghost_model.specs.laws.LoadLaws as load_laws;
 ghost use Rattle.ghost_model.specs.core.Schema as schema;
 ghost use Rattle.ghost_model.specs.core.Values.{Number, Text};
@@ -28,15 +28,17 @@ pub enum Cells {
 }
 
 impl Cells {
-    /// No values of a kind.
+    /// No values of a kind, which has no NULL.
     pub fn new(alloc: Global, kind: Kind) -> Cells
-        requires { cells.cell_width (kind_of kind) ≤ 64 }
+        requires narrow { cells.cell_width (kind_of kind) ≤ 64 }
+        requires plain { schema.is_nullable (kind_of kind) ≡ false }
         ensures kind { kind_in result ≡ kind_of kind }
         ensures values { values_in result ≡ [] }
     {
         match kind {
             Kind::Integer => Cells::Numbers(Vec::new(alloc)),
             Kind::Chars(most) => Cells::Texts(Texts::new(alloc, most as usize)),
+            Kind::IntegerOrNull | Kind::CharsOrNull(_) => unreachable!(),
         }
     }
 

@@ -201,7 +201,12 @@ fn put_number(kind: Kind, number: i64, out: &mut Vec<u8>) -> Result<(), AllocErr
             encode_cell(kind, &Value::Int(number), &mut cell);
             out.extend_from_slice(&cell)
         }
-        Kind::Chars(_) => Ok(()),
+        Kind::IntegerOrNull => {
+            let mut cell = [0; 9];
+            encode_cell(kind, &Value::Int(number), &mut cell);
+            out.extend_from_slice(&cell)
+        }
+        Kind::Chars(_) | Kind::CharsOrNull(_) => Ok(()),
     }
 }
 
@@ -210,8 +215,12 @@ fn put_text(kind: Kind, text: &[u8], out: &mut Vec<u8>) -> Result<(), AllocError
     ensures { OnOk result (out.new.items ≡ out.old.items ++ cells.encode_cell (kind_of kind) (Text text.now)) }
 {
     match kind {
-        Kind::Integer => Ok(()),
+        Kind::Integer | Kind::IntegerOrNull => Ok(()),
         Kind::Chars(most) => put_padded(most, text, out),
+        Kind::CharsOrNull(most) => {
+            out.extend_from_slice(&[1])?;
+            put_padded(most, text, out)
+        }
     }
 }
 

@@ -89,6 +89,6 @@ fn is_row_among(count: u32, value: &Value) -> bool
 {
     match value {
         Value::Int(number) => 1 <= *number && *number <= i64::from(count),
-        Value::Chars(_) => false,
+        Value::Null | Value::Chars(_) => false,
     }
 }

@@ -18,9 +18,9 @@ use ghost_model::recorded::files_have_one_finding;
 use key_words::AuditWords;
 use std::alloc::Global;
 
-/// Does the command `audit`: reads the head of the visible file, the script and then the journal, and prints `= proper m closed`
-/// or `= proper m open`, or `! wrong i` where move i is not the one that was due. Of what is no line of a journal it prints
-/// nothing; a line that reaches past byte 4,294,967,296 of the file is none.
+/// Does the command `audit`: reads the head of the visible file, whose catalog may be of either version, the script and then
+/// the journal, and prints `= proper m closed` or `= proper m open`, or `! wrong i` where move i is not the one that was due.
+/// Of what is no line of a journal it prints nothing; a line that reaches past byte 4,294,967,296 of the file is none.
 ///
 /// What is met first decides. The files are left as they are, and no memory is taken but for the script.
 pub fn audit<D: Depot, O: Sink>(

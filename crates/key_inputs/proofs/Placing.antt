@@ -1,7 +1,7 @@
 -- Where the faults of files and of foreign keys stand: those of a file in its table, and at no key; the others at keys.
 use Rattle.std.proofs.Common.{◌≡◌, ℕ, ◌+◌, Bool, true, false, List, [], ◌∷◌, ◌++◌, length, ◌==◌, nat_le, is_some, Option, Some, None, refl, subst}
-use Rattle.std.specs.Prelude.{⊤}
-use Rattle.ghost_model.specs.core.Schema.{Schema, Column, Kind, Integer, Chars}
+use Rattle.std.specs.Prelude.{⊤, ◌||◌}
+use Rattle.ghost_model.specs.core.Schema.{Schema, Column, Kind, Integer, Chars, IntegerOrNull, CharsOrNull, is_empty}
 use Rattle.ghost_model.specs.core.Values.{Value, Row, Rows, Database}
 use Rattle.ghost_model.specs.core.Database.{integer_of, is_text, is_row_among, row_count, records_of}
 use Rattle.ghost_model.specs.refusals.LoadFaults.{LoadFault, FileLimit, Header, RowLimit, FieldCount, BadId, BadInt, BadChars, BadReference, Place, place, unless, value_faults, field_faults, is_number, fields_faults, row_faults, rows_faults, is_header, record_faults, file_faults, reference_fault_in, row_reference_faults, table_references, references_from, most_rows, most_bytes}
@@ -44,6 +44,8 @@ each_first P fault faults h first = (subst (Each P) first.first h).0
 of_value : (table rec column : ℕ) (kind : Kind) (text : List ℕ) → Each (IsOfFile table) (value_faults (place table rec column) kind text)
 of_value table rec column Integer text = each_unless (IsOfFile table) (is_some (integer_of text)) (BadInt (place table rec column)) refl
 of_value table rec column (Chars most) text = each_unless (IsOfFile table) (is_text most text) (BadChars (place table rec column)) refl
+of_value table rec column IntegerOrNull text = each_unless (IsOfFile table) (is_empty text || is_some (integer_of text)) (BadInt (place table rec column)) refl
+of_value table rec column (CharsOrNull most) text = each_unless (IsOfFile table) (is_text most text) (BadChars (place table rec column)) refl
 
 of_fields : (table rec column : ℕ) (columns : List Column) (fields : List (List ℕ)) → Each (IsOfFile table) (field_faults table rec column columns fields)
 unfolding field_faults Each

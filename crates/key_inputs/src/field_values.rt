@@ -49,6 +49,7 @@ fn value_shown(value: &Value) -> Shown
     ensures shown { result ≡ shown (field_text (value_of value.now)) }
 {
     match value {
+        Value::Null => Shown::of(&[]),
         Value::Int(number) => {
             let mut digits = Buffer::new();
             Shown::of(digits.format(*number).as_bytes())

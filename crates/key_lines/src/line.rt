@@ -37,13 +37,14 @@ pub fn put_number(line: &mut Line, number: u64)
     put(line, digits.format(number).as_bytes());
 }
 
-/// Puts a value at the end of a line: an integer in decimal, a text as it is.
+/// Puts a value at the end of a line: an integer in decimal, a text as it is, and of NULL nothing.
 pub fn put_field(line: &mut Line, value: &Value)
     requires room { array_vec_len line.old + 64 ≤ 2112 }
     ensures items { line.new.items ≡ line.old.items ++ field_text (value_of value.now) }
     ensures len { array_vec_len line.new ≤ array_vec_len line.old + 64 }
 {
     match value {
+        Value::Null => {}
         Value::Int(number) => {
             let mut digits = Buffer::new();
             put(line, digits.format(*number).as_bytes());

@@ -63,7 +63,7 @@ levels_catalog = record {
       ∷ [];
   counts = 10 ∷ 20 ∷ 30 ∷ [];
   generation = 1;
-  version = 1;
+  version = 2;
 }
 
 -- those of a text over them with such conditions: low, mid, high

@@ -9,7 +9,7 @@ use Rattle.std.proofs.lemmas.List.Folds.{list_any-append, list_all-append}
 use Rattle.ghost_base.specs.CellLaws.{ValuesAreOrdered}
 use Rattle.ghost_model.specs.core.Schema.{Schema, parent, is_table, first_of}
 use Rattle.ghost_model.specs.laws.SchemaTrees.{IsTree}
-use Rattle.ghost_model.specs.core.Values.{Value, Database}
+use Rattle.ghost_model.specs.core.Values.{Value, Database, is_null}
 use Rattle.ghost_model.specs.core.Database.{order_of, meets, holds}
 use Rattle.ghost_model.specs.laws.ShortWords as short
 use Rattle.ghost_model.specs.core.Query as query
@@ -50,7 +50,7 @@ same_bool false false f g = refl
 
 turned : ValuesAreOrdered → (a b : Value) → holds query.Equal a b ≡ true → holds query.Equal b a ≡ true
 turned laws a b h =
-    let same : a ≡ b = laws.same a b (equal_order (order_of a b) h) in
+    let same : a ≡ b = laws.same a b (equal_order (order_of a b) (and_parts (not (is_null a || is_null b)) (meets query.Equal (order_of a b)) h).1) in
     subst (λ (x : Value). holds query.Equal b x ≡ true) (sym same) (subst (λ (x : Value). holds query.Equal x b ≡ true) same h)
 
 swapped : ValuesAreOrdered → (a b : Option Value) → compares query.Equal a b ≡ compares query.Equal b a

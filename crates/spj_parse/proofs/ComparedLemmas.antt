@@ -6,7 +6,7 @@ use Rattle.std.proofs.lemmas.Bool.{ltb-false}
 use Rattle.std.proofs.lemmas.List.Elements.{filter-append}
 use Rattle.std.proofs.lemmas.List.Folds.{list_any-append}
 use Rattle.std.proofs.lemmas.Grind.{flat_map-append}
-use Rattle.ghost_model.specs.core.Schema.{column_kind, Schema, Column, Kind, Integer, Chars}
+use Rattle.ghost_model.specs.core.Schema.{column_kind, Schema, Column, Kind, Integer, Chars, IntegerOrNull, CharsOrNull}
 use Rattle.ghost_model.specs.laws.SchemaTrees.{IsTree}
 use Rattle.ghost_model.specs.refusals.Tokens.{number_of}
 use Rattle.ghost_model.specs.core.Values.{Number, Text}
@@ -32,6 +32,11 @@ fits_kind schema tree place h text Integer e other large = absurd (let no : true
 fits_kind schema tree place h text (Chars most) e other large =
     let short : length text ≤ most = ltb-false most (length text) large in
     let few : most ≤ 64 = (tree.text_lengths place.table place.column most h.column h.held e).1 in
+    omega (arith, short, few)
+fits_kind schema tree place h text IntegerOrNull e other large = absurd (let no : true ≡ false = other in cc)
+fits_kind schema tree place h text (CharsOrNull most) e other large =
+    let short : length text ≤ most = ltb-false most (length text) large in
+    let few : most ≤ 64 = (tree.nullable_text_lengths place.table place.column most h.column h.held e).1 in
     omega (arith, short, few)
 
 text_fits : (schema : Schema) → IsTree schema → (place : Field) (h : IsHeld schema place) (text : List ℕ) → is_other_kind (column_kind schema place.table place.column) (Text text) ≡ false → is_too_large (column_kind schema place.table place.column) (Text text) ≡ false → length text ≤ 64

@@ -47,12 +47,12 @@ fn is_other_kind(kind: Option<Kind>, literal: LiteralDraft) -> bool
 {
     match kind {
         None => false,
-        Some(Kind::Integer) => match literal {
+        Some(Kind::Integer | Kind::IntegerOrNull) => match literal {
             LiteralDraft::Unsigned(_) => false,
             LiteralDraft::Signed(_, _) => false,
             LiteralDraft::Written(_) => true,
         },
-        Some(Kind::Chars(_)) => match literal {
+        Some(Kind::Chars(_) | Kind::CharsOrNull(_)) => match literal {
             LiteralDraft::Unsigned(_) => true,
             LiteralDraft::Signed(_, _) => true,
             LiteralDraft::Written(_) => false,
@@ -66,8 +66,8 @@ fn is_too_long(kind: Option<Kind>, literal: &[u8]) -> bool
 {
     match kind {
         None => false,
-        Some(Kind::Integer) => false,
-        Some(Kind::Chars(most)) => text_in(literal).len > most as usize,
+        Some(Kind::Integer | Kind::IntegerOrNull) => false,
+        Some(Kind::Chars(most) | Kind::CharsOrNull(most)) => text_in(literal).len > most as usize,
     }
 }
 

@@ -67,6 +67,8 @@ impl<'a> Display for KindOf<'a> {
         match kind_of(self.schema, self.field) {
             Kind::Integer => f.write_str("INTEGER"),
             Kind::Chars(most) => write!(f, "CHAR({most})"),
+            Kind::IntegerOrNull => f.write_str("INTEGER NULL"),
+            Kind::CharsOrNull(most) => write!(f, "CHAR({most}) NULL"),
         }
     }
 }

@@ -1,6 +1,6 @@
 //! The canonical text of a schema, written through a window.
 
-ghost use Rattle.std.specs.Prelude.{◌≡◌, map, flat_map, drop};
+ghost use Rattle.std.specs.Prelude.{◌≡◌, ◌++◌, codes, decimal, map, flat_map, drop};
 ghost use Rattle.ghost_model.specs.forms.Catalog as catalog;
 ghost use Rattle.ghost_base.specs.Views.{kind_of};
 ghost use Rattle.tree_schema.specs.Views.{column_of, table_of};
@@ -21,6 +21,16 @@ fn put_name(window: &mut Window, out: &mut [u8], schema: &Schema, table: usize)
     }
 }
 
+/// The kind of texts of at most so many bytes, and what follows their number.
+#[tactic(auto, using(crate::proofs::WindowLemmas::with_texts, crate::proofs::WindowLemmas::with_no_text))]
+fn put_chars(window: &mut Window, out: &mut [u8], most: u8, end: &[u8])
+    ensures text { pane window.new out.new ≡ with_text (pane window.old out.old) (codes "CHAR(" ++ (decimal most ++ end.now)) }
+{
+    window.put(out, b"CHAR(");
+    window.put_number(out, most);
+    window.put(out, end);
+}
+
 /// A column's kind.
 #[tactic(auto, using(crate::proofs::WindowLemmas::with_texts, crate::proofs::WindowLemmas::with_no_text))]
 fn put_kind(window: &mut Window, out: &mut [u8], kind: Kind)
@@ -28,11 +38,9 @@ fn put_kind(window: &mut Window, out: &mut [u8], kind: Kind)
 {
     match kind {
         Kind::Integer => window.put(out, b"INTEGER"),
-        Kind::Chars(most) => {
-            window.put(out, b"CHAR(");
-            window.put_number(out, most);
-            window.put(out, b")");
-        }
+        Kind::Chars(most) => put_chars(window, out, most, b")"),
+        Kind::IntegerOrNull => window.put(out, b"INTEGER NULL"),
+        Kind::CharsOrNull(most) => put_chars(window, out, most, b") NULL"),
     }
 }
 

@@ -1,19 +1,22 @@
 //! Catalogs: what both sides of the channel know beforehand.
 
-ghost use Rattle.std.specs.Prelude.{◌≡◌, ◌<◌, length, slice_get, IsTrue};
-ghost use Rattle.tree_schema.specs.Catalogs.{IsCatalog, are_counts, catalog_of};
+ghost use Rattle.std.specs.Prelude.{◌≡◌, ◌<◌, ◌==◌, length, slice_get, IsTrue};
+ghost use Rattle.ghost_model.specs.forms.Catalog.{current_version};
+ghost use Rattle.tree_schema.specs.Catalogs.{IsCatalog, are_counts, catalog_of, catalog_of_version};
+ghost use Rattle.tree_schema.specs.Views.{version_of};
 
-use crate::Schema;
+use crate::{Schema, Version};
 use arrayvec::ArrayVec;
 use ghost_base::limits::MAX_TABLES;
 use std::marker::Model;
 
-/// A schema, the number of rows of each table, and a generation.
+/// A schema, the number of rows of each table, a generation, and the version of the format.
 #[derive(Drop)]
 pub struct Catalog {
     schema: Schema,
     counts: ArrayVec<u32, MAX_TABLES>,
     generation: u32,
+    version: Version,
 }
 
 impl Model for Catalog {
@@ -21,26 +24,44 @@ impl Model for Catalog {
 
     ghost Value = { channel.Catalog };
 
-    ghost use Rattle.tree_schema.specs.Catalogs.{IsCatalog, catalog_of};
+    ghost use Rattle.tree_schema.specs.Catalogs.{IsCatalog, catalog_of_version};
+    ghost use Rattle.tree_schema.specs.Views.{version_of};
 
-    ghost view = { λ cat. catalog_of cat.schema cat.counts.items cat.generation };
+    ghost view = { λ cat. catalog_of_version (version_of cat.version) cat.schema cat.counts.items cat.generation };
 
-    ghost invariant = { λ cat. IsCatalog (catalog_of cat.schema cat.counts.items cat.generation) };
+    ghost invariant = { λ cat. IsCatalog (catalog_of_version (version_of cat.version) cat.schema cat.counts.items cat.generation) };
 }
 
 impl Catalog {
-    /// A catalog of a schema whose tables have so many rows, at most 1,000,000 each.
+    /// A catalog of the current version of a schema whose tables have so many rows, at most 1,000,000 each.
     pub fn of(schema: Schema, counts: ArrayVec<u32, MAX_TABLES>, generation: u32) -> Catalog
         requires counts { length counts.items ≡ length schema }
         requires rows { IsTrue (are_counts counts.items) }
         requires generation { 0 < generation }
         ensures { result ≡ catalog_of schema counts.items generation }
     {
+        Catalog::of_version(Version::Two, schema, counts, generation)
+    }
+
+    /// A catalog of a version.
+    pub fn of_version(
+        version: Version,
+        schema: Schema,
+        counts: ArrayVec<u32, MAX_TABLES>,
+        generation: u32,
+    ) -> Catalog
+        requires counts { length counts.items ≡ length schema }
+        requires rows { IsTrue (are_counts counts.items) }
+        requires generation { 0 < generation }
+        ensures { result ≡ catalog_of_version (version_of version) schema counts.items generation }
+    {
         let _ = schema.tables();
+        let _number = version.number();
         Catalog {
             schema,
             counts,
             generation,
+            version,
         }
     }
 
@@ -65,5 +86,19 @@ impl Catalog {
         ensures used { 0 < result }
     {
         self.generation
+    }
+
+    /// Its version.
+    pub fn version(&self) -> Version
+        ensures { version_of result ≡ self.now.version }
+    {
+        self.version
+    }
+
+    /// Whether it is of the version that is made.
+    pub fn is_current(&self) -> bool
+        ensures { result ≡ (self.now.version == current_version) }
+    {
+        self.version.is_current()
     }
 }

@@ -3,11 +3,12 @@
 ghost use Rattle.std.specs.Prelude.{◌≡◌, ◌≤◌, ◌-◌, min, length, take, drop, bytes_eq};
 ghost use Rattle.ghost_model.specs.forms.Catalog as catalog;
 ghost use Rattle.tree_schema.specs.CatalogParts.{CatalogsAreShort};
+ghost use Rattle.tree_schema.specs.Views.{version_of};
 ghost use Rattle.tree_schema.specs.Windows.{pane, with_text};
 
-use crate::Catalog;
 use crate::canonical::put_schema;
 use crate::window::Window;
+use crate::{Catalog, Version};
 
 /// The most bytes of a catalog.
 pub const MAX_CATALOG: usize = 16_640;
@@ -15,11 +16,11 @@ pub const MAX_CATALOG: usize = 16_640;
 /// The bytes of a catalog before its canonical text.
 pub const HEAD_BYTES: usize = 16;
 
+/// The place of the version among them, behind the mark.
+pub const VERSION_AT: usize = 7;
+
 /// The bytes that are compared at a time.
 const PAGE_BYTES: usize = 2048;
-
-/// The version of the form.
-pub const VERSION: u8 = 1;
 
 /// Each catalog is one that both sides may share, and has at most 16,640 bytes.
 pub fn catalogs_are_short()
@@ -41,11 +42,11 @@ pub fn a_catalog_is_short(cat: &Catalog)
 }
 
 /// What stands before the canonical text, whose length is told.
-fn put_head(window: &mut Window, out: &mut [u8], generation: u32, text_len: u32)
-    ensures text { pane window.new out.new ≡ with_text (pane window.old out.old) (catalog.catalog_head catalog.catalog_version generation text_len) }
+fn put_head(window: &mut Window, out: &mut [u8], version: Version, generation: u32, text_len: u32)
+    ensures text { pane window.new out.new ≡ with_text (pane window.old out.old) (catalog.catalog_head (version_of version) generation text_len) }
 {
     window.put(out, b"GHOSTDB");
-    window.put(out, &[VERSION]);
+    window.put(out, &[version.number()]);
     window.put(out, &generation.to_be_bytes());
     window.put(out, &text_len.to_be_bytes());
 }
@@ -91,7 +92,7 @@ pub fn catalog_len(cat: &Catalog) -> u16
 fn put_catalog(window: &mut Window, out: &mut [u8], cat: &Catalog)
     ensures text { pane window.new out.new ≡ with_text (pane window.old out.old) (catalog.catalog_bytes cat.now) }
 {
-    put_head(window, out, cat.generation(), text_len(cat));
+    put_head(window, out, cat.version(), cat.generation(), text_len(cat));
     put_schema(window, out, cat.schema());
     put_counts(window, out, cat);
 }

@@ -6,19 +6,25 @@ ghost use Rattle.ghost_model.specs.core.Channel as channel;
 ghost use Rattle.ghost_model.specs.forms.Catalog as catalog;
 ghost use Rattle.tree_schema.specs.Catalogs.{are_counts};
 ghost use Rattle.tree_schema.specs.CatalogParts.{HasParts, AreParts, BeginsWithCount};
+ghost use Rattle.tree_schema.specs.Views.{version_of};
 
-use crate::catalog_bytes::{HEAD_BYTES, a_catalog_is_short, catalog_len, is_catalog_part};
+use crate::catalog_bytes::{
+    HEAD_BYTES, VERSION_AT, a_catalog_is_short, catalog_len, is_catalog_part,
+};
 use crate::reading::read_schema;
-use crate::{Catalog, Schema};
+use crate::{Catalog, Schema, Version};
 use arrayvec::ArrayVec;
 use ghost_base::limits::{MAX_ROWS, MAX_TABLES};
 
 /// The bytes of a number of four bytes.
 const NUMBER_BYTES: usize = 4;
 
-/// What bytes that may begin with a catalog have behind its mark and version.
+/// What bytes that may begin with a catalog have behind its mark.
 #[derive(Clone, Copy)]
 pub struct Parts<'a> {
+    /// The version.
+    pub version: Version,
+
     /// The generation.
     pub generation: u32,
 
@@ -37,14 +43,17 @@ fn number_of(bytes: &[u8]) -> u32
     u32::from_be_bytes([bytes[0], bytes[1], bytes[2], bytes[3]])
 }
 
-/// The parts of bytes, as far as they are as long as they say.
+/// The parts of bytes, as far as their version is one and they are as long as they say.
 pub fn parts_of<'a>(bytes: &'a [u8]) -> Option<Parts<'a>>
-    ensures only { (generation : ℕ) (text later : List ℕ) → HasParts bytes.now generation text later → IsSomeAnd result (λ parts. AreParts parts generation text later) }
+    ensures only { (version generation : ℕ) (text later : List ℕ) → HasParts bytes.now version generation text later → IsSomeAnd result (λ parts. AreParts parts version generation text later) }
 {
     if bytes.len() < HEAD_BYTES {
         return None;
     }
     let (head, body) = bytes.split_at(HEAD_BYTES);
+    let Some(version) = Version::of(head[VERSION_AT]) else {
+        return None;
+    };
     let (_mark, numbers) = head.split_at(HEAD_BYTES - 2 * NUMBER_BYTES);
     let (generation, size) = numbers.split_at(NUMBER_BYTES);
     let text_len = number_of(size) as usize;
@@ -53,6 +62,7 @@ pub fn parts_of<'a>(bytes: &'a [u8]) -> Option<Parts<'a>>
     }
     let (text, later) = body.split_at(text_len);
     Some(Parts {
+        version,
         generation: number_of(generation),
         text,
         later,
@@ -107,10 +117,16 @@ fn begins_with(bytes: &[u8], cat: &Catalog) -> bool
     is_catalog_part(cat, 0, front)
 }
 
-/// The catalog of this generation and schema with which bytes begin, whose numbers of rows begin these bytes.
-fn catalog_with(bytes: &[u8], schema: Schema, generation: u32, counts: &[u8]) -> Option<Catalog>
+/// The catalog of this version, generation and schema with which bytes begin, whose numbers of rows begin these bytes.
+fn catalog_with(
+    bytes: &[u8],
+    version: Version,
+    schema: Schema,
+    generation: u32,
+    counts: &[u8],
+) -> Option<Catalog>
     ensures begins { IfSome result (λ cat. catalog.BeginsWithCatalog bytes.now cat) }
-    ensures none { IfNone result ((cat : channel.Catalog) (later : List ℕ) → catalog.BeginsWithCatalog bytes.now cat → cat.schema ≡ schema → cat.generation ≡ generation → counts.now ≡ catalog.counts_bytes cat.counts ++ later → ⊥) }
+    ensures none { IfNone result ((cat : channel.Catalog) (later : List ℕ) → catalog.BeginsWithCatalog bytes.now cat → cat.version ≡ version_of version → cat.schema ≡ schema → cat.generation ≡ generation → counts.now ≡ catalog.counts_bytes cat.counts ++ later → ⊥) }
 {
     if generation == 0 {
         return None;
@@ -118,7 +134,7 @@ fn catalog_with(bytes: &[u8], schema: Schema, generation: u32, counts: &[u8]) ->
     let Some(counts) = counts_of(counts, schema.tables()) else {
         return None;
     };
-    let cat = Catalog::of(schema, counts, generation);
+    let cat = Catalog::of_version(version, schema, counts, generation);
     a_catalog_is_short(&cat);
     if begins_with(bytes, &cat) {
         Some(cat)
@@ -128,7 +144,7 @@ fn catalog_with(bytes: &[u8], schema: Schema, generation: u32, counts: &[u8]) ->
 }
 
 /// The catalog with which bytes begin. There is none exactly where no front of the bytes spells a catalog; where there is
-/// one, it has `catalog_len` bytes, and what stands behind them is left alone.
+/// one, it is of the version that its bytes tell, has `catalog_len` bytes, and what stands behind them is left alone.
 pub fn read_catalog(bytes: &[u8]) -> Option<Catalog>
     ensures begins { IfSome result (λ cat. catalog.BeginsWithCatalog bytes.now cat) }
     ensures none { IfNone result ((cat : channel.Catalog) → catalog.BeginsWithCatalog bytes.now cat → ⊥) }
@@ -139,7 +155,7 @@ pub fn read_catalog(bytes: &[u8]) -> Option<Catalog>
         return None;
     };
     match read_schema(parts.text) {
-        Ok(schema) => catalog_with(bytes, schema, parts.generation, parts.later),
+        Ok(schema) => catalog_with(bytes, parts.version, schema, parts.generation, parts.later),
         Err(_) => None,
     }
 }

@@ -16,6 +16,7 @@ pub mod schema;
 mod syntax;
 pub mod tokens;
 mod trees;
+pub mod version;
 mod window;
 
 pub use catalog::Catalog;
@@ -25,3 +26,4 @@ pub use faults::SchemaFault;
 pub use reading::read_schema;
 pub use schema::{Column, Schema, Table};
 pub use tokens::{Cursor, Mark, Token};
+pub use version::Version;

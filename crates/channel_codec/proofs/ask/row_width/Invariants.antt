@@ -8,7 +8,7 @@ abbrev pub invariant-columns : goal.invariant-columns
 invariant-columns l = record {
   counted : l.width + sum (map cell_width (map (asks.kind_at l.schema l.ask.table) l.rest)) ≡ asks.row_width l.schema (ask_view l.ask);
   some : 4 ≤ l.width;
-  most : l.width + 64 * length l.rest ≤ 1540;
+  most : l.width + 65 * length l.rest ≤ 1564;
 }
 
 abbrev pub decreases-columns : goal.decreases-columns

@@ -11,7 +11,7 @@ invariant-kinds l = record {
   narrow : IsTrue (list_all is_narrow (map kind_of l.rest));
   counted : l.width + sum (map cell_width (map kind_of l.rest)) ≡ width_of (map kind_of l.kinds);
   some : 4 ≤ l.width;
-  most : l.width + 64 * length l.rest ≤ 1540;
+  most : l.width + 65 * length l.rest ≤ 1564;
 }
 
 abbrev pub decreases-kinds : goal.decreases-kinds
