@@ -7,15 +7,17 @@ use Rattle.ghost_model.specs.forms.Runs.{Run, found_in, number_in, page_of, reco
 use Rattle.ghost_model.specs.forms.Gaps.{Reading, after_code, are_codes, bytes_at, code_at, last_of, listed, reading_at, reading_of, rest_at}
 use Rattle.ghost_model.specs.forms.Layout.{width_at, count_of, levels_of, above_of}
 use Rattle.ghost_model.specs.forms.Slots.{code_stands, list_end}
+use Rattle.ghost_model.specs.laws.LayoutLaws.{FilesLieAsSummed}
 use Rattle.ghost_model.specs.laws.ShortWords.{first_listed, id_directory, id_level, index_directory, index_level}
 use Rattle.ghost_base.specs.declared.runs.ListRef.{ListRef}
 use Rattle.ghost_base.specs.Runs.{run_of}
 use Rattle.climbing_index.specs.declared.directory.Directory.{Directory}
 use Rattle.climbing_index.specs.declared.directory.LevelFile.{LevelFile}
-use Rattle.climbing_index.specs.Directories.{are_places, entry_bytes, file_of, place_bytes, spells}
+use Rattle.climbing_index.specs.Directories.{are_places, entry_bytes, entry_stands, file_of, place_bytes, spells}
 use Rattle.climbing_index.specs.Laws.{BrokenCodesAreDamaged, IsBrokenAt, IsListOf}
 use Rattle.climbing_index.specs.Searches.{rows_of}
 use Rattle.climbing_index.proofs.Entries.{ends_within}
+use Rattle.climbing_index.proofs.HeldIndexes.{same_entry, same_id_entry}
 use Rattle.climbing_index.proofs.LevelFiles.{how_many}
 use Rattle.climbing_index.proofs.ListedValues.{run_at}
 use Rattle.climbing_index.proofs.Readings.{code_inside, listed_is, of_codes, reading_inside, reading_next, some_code}
@@ -85,8 +87,8 @@ module _ (page : ℕ → List ℕ) (list : ListRef) (rows place number slot foun
   pub out_there : 0 < listed page file list.first is.at → listed page file list.first is.at ≤ rows → ⊥
   out_there = subst (λ r. 0 < listed page r list.first is.at → listed page r list.first is.at ≤ rows → ⊥) file_is is.out
 
-pub broken_codes : BrokenCodesAreDamaged
-broken_codes = record {
+pub broken_codes : FilesLieAsSummed → BrokenCodesAreDamaged
+broken_codes laid = record {
   values = λ page cat table column h index is entry level room told low list given place number slot found bad.
       let file = index_level cat table column level in
       let rows = count_of cat (slice_index (levels_of cat.schema table) level) in
@@ -111,10 +113,16 @@ broken_codes = record {
         damaged = record {
           entry = entry;
           there = omega (arith, room, told, count, header);
+          stands =
+              sym
+              (ap (λ r. entry_stands index.directory (record_at page r entry)) is.run_is
+              ∙ same_entry cat (laid cat) table column h index is (record_at page (index_directory cat table column) entry))
+              ∙ given.listed.stands;
           i = bad.at;
           within = omega (arith, within, long);
           last = bad.last;
           gets = ap (λ n. reading_at page file.first file.count n bad.at) (sym first) ∙ reading_is page file refl list.first bad.at place bad.last gets;
+          kept = bad.kept;
           broken = broken page file refl list.first bad.at place bad.last gets rows (out_there page list rows place number slot found bad file refl file_is);
         };
         found_is = bad.found_is ∙ ap (λ r. found_in (bytes_at page r place)) file_is;
@@ -142,10 +150,16 @@ broken_codes = record {
         damaged = record {
           entry = entry;
           there = there;
+          stands =
+              sym
+              (ap (λ r. entry_stands index.directory (record_at page r entry)) is.run_is
+              ∙ same_id_entry cat (laid cat) table inside_is index is (record_at page (id_directory cat table) entry))
+              ∙ given.listed.stands;
           i = bad.at;
           within = omega (arith, within, long);
           last = bad.last;
           gets = ap (λ n. reading_at page file.first file.count n bad.at) (sym first) ∙ reading_is page file refl list.first bad.at place bad.last gets;
+          kept = bad.kept;
           broken = broken page file refl list.first bad.at place bad.last gets rows (out_there page list rows place number slot found bad file refl file_is);
         };
         found_is = bad.found_is ∙ ap (λ r. found_in (bytes_at page r place)) file_is;

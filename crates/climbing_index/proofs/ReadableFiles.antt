@@ -21,10 +21,11 @@ has_run cat run device order stand some fits end enough small =
     let static = order.static in
     let spool = order.spool in
     let scratch = order.scratch in
+    let appended = order.appended in
     record {
       some = some;
       fits = fits;
-      pages = λ i low. let here = stands.page i low in omega (arith, here, end, static, spool, scratch, enough);
+      pages = λ i low. let here = stands.page i low in omega (arith, here, end, static, spool, scratch, appended, enough);
       small = small;
     }
 

@@ -1,5 +1,6 @@
 -- The directory of an index and its level files, and what calls on them give.
 use Rattle.std.specs.Prelude.{◌≡◌, ℕ, ◌+◌, ◌*◌, ◌≤◌, ⊤, Bool, true, false, ◌&&◌, nat_le, List, [], ◌∷◌, length, take, drop, is_some, Option, Some, None, slice_get, option_map, Result, Ok, Err, IfOk, IfErr, OnOk}
+use Rattle.ghost_model.specs.core.Schema.{plain_of}
 use Rattle.ghost_model.specs.forms.Cells.{cell_width}
 use Rattle.ghost_model.specs.readings.CellReading.{decode_cell}
 use Rattle.ghost_model.specs.forms.Runs as runs
@@ -27,12 +28,18 @@ abbrev pub most_cell : Option Kind → ℕ
 most_cell None = 0
 most_cell (Some kind) = cell_width (kind_of kind)
 
+-- and without the byte that tells NULL
+abbrev pub plain_cell : Option Kind → ℕ
+plain_cell None = 0
+plain_cell (Some kind) = cell_width (plain_of (kind_of kind))
+
 -- a directory may be read, and its lists: the device has their pages, and an entry is as wide as its cell and places
 pub record IsReadable (device : Device) (directory : Directory) : Type 0 where
   pub has : HasRun device (run_of directory.run)
   pub wide : directory.run.width ≡ directory.cell + 8 * length directory.levels.items
   pub cell : directory.cell ≡ most_cell directory.kind
-  pub narrow : directory.cell ≤ 64
+  pub narrow : directory.cell ≤ 65
+  pub plain : plain_cell directory.kind ≤ 64
   pub few : length directory.levels.items ≤ 12
   pub lists : (level : ℕ) (file : LevelFile) → slice_get directory.levels.items level ≡ Some file → HasRun device (file_of file)
 

@@ -219,12 +219,13 @@ pub record DamageIsOfSlots : Type 0 where
       → FailsAt page (run_of index.directory.run) (entry_stands index.directory) entry (Damaged number slot found)
       → IsDamagedSlot cat page number slot found
 
--- Reading a list gets to a place where no identifier of so many rows is read.
+-- Reading a list gets, by identifiers that do not pass the rows, to a place where no identifier of so many rows is read.
 pub record IsBrokenAt (page : ℕ → List ℕ) (list : ListRef) (rows place number slot found : ℕ) : Type 0 where
   pub at : ℕ
   pub within : at < list.count
   pub last : ℕ
   pub gets : reading_of page (run_of list.run) list.first at ≡ Some (record { place = place; last = last })
+  pub kept : last ≤ rows
   pub page_is : number ≡ page_of (run_of list.run) place
   pub slot_is : slot ≡ slot_of (run_of list.run) place
   pub found_is : found ≡ found_in (bytes_at page (run_of list.run) place)

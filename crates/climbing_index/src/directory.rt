@@ -3,7 +3,7 @@
 ghost use Rattle.std.specs.Prelude.{◌≡◌, ◌<◌, ◌≤◌, ◌+◌, ◌*◌, ℕ, true, length, Some, IfErr, slice_get, option_map};
 ghost use Rattle.ghost_base.specs.Runs.{run_of};
 ghost use Rattle.flash_pages.specs.Reads.{Reads, CanRead, WasGiven, must_read};
-ghost use Rattle.climbing_index.specs.Directories.{IsReadable, GivesEntry, GivesList, GivesStanding, GivesWithin, WasEntry, BlamesRecord, GivesPlace, entry_page, entry_stands, are_places, spells, most_cell, file_of};
+ghost use Rattle.climbing_index.specs.Directories.{IsReadable, GivesEntry, GivesList, GivesStanding, GivesWithin, WasEntry, BlamesRecord, GivesPlace, entry_page, entry_stands, are_places, spells, plain_cell, file_of};
 
 use crate::damage::damage;
 use arrayvec::ArrayVec;
@@ -13,12 +13,12 @@ use flash_pages::fault::PageFault;
 use flash_pages::fixed::fixed_get;
 use ghost_base::Kind;
 use ghost_base::cells::decode_cell;
-use ghost_base::limits::{MAX_CHARS, MAX_TABLES};
+use ghost_base::limits::{MAX_CELL, MAX_TABLES};
 use ghost_base::runs::{ListRef, Run};
 use page_pool::{Lease, PagePool};
 
 /// The most bytes of an entry: a cell, and eight bytes for each level.
-pub const MAX_ENTRY: usize = MAX_CHARS + 8 * MAX_TABLES;
+pub const MAX_ENTRY: usize = MAX_CELL + 8 * MAX_TABLES;
 
 /// A level file: lists of identifiers as gaps.
 #[derive(Clone, Copy, Default)]
@@ -57,7 +57,7 @@ pub struct Directory {
 
 /// Whether bytes spell a value of a kind, where there is one.
 fn is_spelled(kind: Option<Kind>, bytes: &[u8]) -> bool
-    requires narrow { most_cell kind ≤ 64 }
+    requires narrow { plain_cell kind ≤ 64 }
     ensures spells { result ≡ spells kind bytes.now }
 {
     match kind {
@@ -85,7 +85,7 @@ fn are_within(levels: &[LevelFile], bytes: &[u8]) -> bool
 impl Directory {
     /// Whether bytes may stand in a slot of the directory.
     fn stands(&self, bytes: &[u8]) -> bool
-        requires narrow { most_cell self.now.kind ≤ 64 }
+        requires narrow { plain_cell self.now.kind ≤ 64 }
         requires width { length bytes.now ≡ self.now.cell + 8 * length self.now.levels.items }
         ensures stands { result ≡ entry_stands self.now bytes.now }
     {

@@ -94,7 +94,9 @@ pub fn damage_is_of_slots()
 /// A place that reading a list of an entry gets to, where no identifier of a row is read, is a damaged slot of its level file.
 pub fn broken_codes_are_damaged()
     ensures damaged { BrokenCodesAreDamaged }
-{}
+{
+    ghost_model::layout::files_lie_as_summed();
+}
 
 /// Where pages have an index whole, nothing is blamed.
 pub fn whole_indexes_have_no_damage()

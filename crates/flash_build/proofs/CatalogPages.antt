@@ -5,7 +5,8 @@ use Rattle.std.proofs.lemmas.List.{take-append-drop, take_min, drop_all, drop-re
 use Rattle.ghost_model.specs.core.Channel.{Catalog}
 use Rattle.ghost_model.specs.forms.Catalog.{catalog_bytes}
 use Rattle.ghost_model.specs.forms.Flash.{catalog_page}
-use Rattle.ghost_model.specs.forms.Layout.{below, public_pages}
+use Rattle.ghost_model.specs.forms.Layout as layout
+use Rattle.ghost_model.specs.forms.Layout.{below}
 use Rattle.ghost_model.specs.laws.ShortWords.{catalog_pages}
 use Rattle.edge_traits.specs.Devices.{Device, Counts, ChangesOnly}
 use Rattle.edge_traits.proofs.DeviceFrames.{changes_trans, changes_wider}
@@ -39,8 +40,8 @@ blank_place cat place behind =
 pub spells_none : (page : ℕ → List ℕ) → page 0 ≡ replicate 2048 255 → SpellsNoCatalog page
 unfolding public_bytes
 spells_none page blank = λ cat begins.
-    let first : get_or (page 0 ++ flat_map page (drop 1 (below public_pages))) 0 0 ≡ 71 = ap (λ xs. get_or xs 0 0) begins.begins in
-    let other : 255 ≡ 71 = sym (ap (λ xs. get_or (xs ++ flat_map page (drop 1 (below public_pages))) 0 0) blank) ∙ first in
+    let first : get_or (page 0 ++ flat_map page (drop 1 (below layout.catalog_pages))) 0 0 ≡ 71 = ap (λ xs. get_or xs 0 0) begins.begins in
+    let other : 255 ≡ 71 = sym (ap (λ xs. get_or (xs ++ flat_map page (drop 1 (below layout.catalog_pages))) 0 0) blank) ∙ first in
     absurd (omega (arith, other))
 
 -- the pages from one on are written
@@ -77,14 +78,14 @@ changes_down left pages some most first second =
 -- page 0 after the others
 from_first :
     (cat : Catalog) {page : ℕ → List ℕ} → HoldsFrom 1 page cat → page 0 ≡ catalog_page cat 0
-    → (place : ℕ) → place < public_pages → page place ≡ catalog_page cat place
+    → (place : ℕ) → place < layout.catalog_pages → page place ≡ catalog_page cat place
 from_first cat later first zero within = first
 from_first cat later first (suc place) within = later (suc place) (omega arith) within
 
 pub holds_all :
     {T E : Type 0} {told : Bool} (cat : Catalog) {b c : Device} (result : Result T E) → (told ≡ true → HoldsFrom 1 b.page cat)
     → ChangesOnly 0 1 b c → OnOk result (told ≡ true → c.page 0 ≡ catalog_page cat 0)
-    → OnOk result (told ≡ true → (place : ℕ) → place < public_pages → c.page place ≡ catalog_page cat place)
+    → OnOk result (told ≡ true → (place : ℕ) → place < layout.catalog_pages → c.page place ≡ catalog_page cat place)
 holds_all cat (Ok value) later changes first = λ told. from_first cat (λ place from within. (changes.above place from).bytes ∙ later told place from within) (first told)
 holds_all cat (Err fault) later changes first = tt
 

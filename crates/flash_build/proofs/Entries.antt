@@ -1,12 +1,12 @@
 -- The levels of an index: as many rows at each as its table has, ranks among the entries, and the lists that they make.
-use Rattle.std.proofs.Common.{◌≡◌, refl, ap, sym, ◌∙◌, subst, ℕ, suc, ◌+◌, ◌-◌, ◌<◌, ◌≤◌, List, [], ◌∷◌, length, map, drop, get_or, Vec, arith}
+use Rattle.std.proofs.Common.{Some, ◌≡◌, refl, ap, sym, ◌∙◌, subst, ℕ, suc, ◌+◌, ◌-◌, ◌<◌, ◌≤◌, List, [], ◌∷◌, length, map, drop, get_or, Vec, arith}
 use Rattle.std.specs.Global.{Global}
 use Rattle.std.specs.List.{All, AllByRecursion}
 use Rattle.std.proofs.lemmas.Option.{slice_get_within}
 use Rattle.std.proofs.lemmas.List.{length-map, get_or-map}
 use Rattle.std.proofs.lemmas.List.Elements.{All-get_or, All-from_get_or, All-from_recursion}
 use Rattle.std.proofs.lemmas.List.FromFn.{length-range_with_len, get_or-range_with_len}
-use Rattle.ghost_model.specs.core.Schema.{Schema}
+use Rattle.ghost_model.specs.core.Schema.{Schema, ancestor}
 use Rattle.ghost_model.specs.core.Channel.{Catalog}
 use Rattle.ghost_model.specs.core.Split.{Hidden}
 use Rattle.ghost_model.specs.laws.SchemaTrees.{IsTree}
@@ -15,13 +15,17 @@ use Rattle.ghost_model.specs.forms.Layout.{below, count_of, levels_of, above_of}
 use Rattle.ghost_model.specs.forms.Flash.{id_lists}
 use Rattle.ghost_model.specs.laws.LayoutSums as sums
 use Rattle.ghost_model.specs.laws.LayoutLaws.{LevelsAreAncestors}
-use Rattle.flash_layout.proofs.PlaceLemmas.{first_ancestor}
 use Rattle.index_lists.specs.Ranks.{of_referred}
 use Rattle.index_lists.specs.Lists.{lists_of}
 use Rattle.index_lists.specs.Laws.{LeadAs, IdListsByRanks}
 use Rattle.index_files.specs.Files.{AreLevels, counts_of, level_pages, level_file}
 use Rattle.index_files.specs.Laws.{FilesOfTables}
 use Rattle.flash_build.specs.Levels.{RankedAbove, AreRankedAbove, items_of}
+
+-- a way up begins with its table
+first_ancestor : (schema : Schema) (table : ℕ) → ancestor schema 0 table ≡ Some table
+unfolding ancestor
+first_ancestor schema table = refl
 
 -- a table is the first of its levels
 pub own_there : (schema : Schema) → LevelsAreAncestors → IsTree schema → (table : ℕ) → table < length schema → 0 < length (levels_of schema table)

@@ -1,10 +1,10 @@
 -- The cells of a hidden column are those of the values at its place among the hidden ones, which are of its kind.
-use Rattle.std.proofs.Common.{◌≡◌, refl, ap, sym, ◌∙◌, subst, ℕ, suc, ◌+◌, ◌<◌, ◌≤◌, true, List, [], length, map, get_or, Option, Some, None, slice_get, option_and_then, arith}
+use Rattle.std.proofs.Common.{◌≡◌, refl, ap, sym, ◌∙◌, subst, ℕ, suc, ◌+◌, ◌<◌, ◌≤◌, true, false, List, [], length, map, get_or, Option, Some, None, slice_get, option_and_then, arith}
 use Rattle.std.specs.Prelude.{IsTrue}
 use Rattle.std.specs.Option.{option_map_or}
 use Rattle.std.proofs.lemmas.Option.{slice_get-get_or}
 use Rattle.std.proofs.lemmas.List.{get_or-map, length-map}
-use Rattle.ghost_model.specs.core.Schema.{Schema, Column, Kind, column_at}
+use Rattle.ghost_model.specs.core.Schema.{Schema, Column, Kind, Integer, Chars, IntegerOrNull, CharsOrNull, column_at, is_nullable, plain_of}
 use Rattle.ghost_model.specs.core.Values.{Value, Row, Rows}
 use Rattle.ghost_model.specs.core.Channel.{Catalog}
 use Rattle.ghost_model.specs.laws.SchemaTrees.{IsTree}
@@ -14,11 +14,12 @@ use Rattle.ghost_model.specs.core.Asks.{kind_or_none, kind_at}
 use Rattle.ghost_model.specs.core.Split as split
 use Rattle.ghost_model.specs.core.Split.{Hidden}
 use Rattle.ghost_model.specs.core.Replies.{hidden_places}
-use Rattle.ghost_model.specs.forms.Layout.{is_hidden}
+use Rattle.ghost_model.specs.forms.Layout.{is_hidden, width_at}
 use Rattle.ghost_model.specs.laws.LayoutLaws.{AreNarrow}
 use Rattle.ghost_model.specs.forms.Flash.{hidden_cells, IsHidden}
 use Rattle.ghost_model.specs.laws.FlashLaws.{GoesWith, hidden_before, CellsFit, HiddenValuesByPlace, HiddenValuesOfDatabases, HiddenPartsGoWithCatalogs, HiddenCellsFit}
 use Rattle.ghost_model.proofs.LayoutLemmas.Columns.{hidden_or_none, width_or_none}
+use Rattle.flash_layout.specs.Limits.{HasNarrowCells}
 use Rattle.flash_build.specs.Cells.{AreOfKind, cell_at, cells_at, value_at}
 
 abbrev pub cell_if_any : Kind → Option Value → List ℕ
@@ -33,6 +34,27 @@ pub width_of_kind : (o : Option Column) → cell_width (kind_or_none o) ≡ widt
 width_of_kind None = refl
 width_of_kind (Some column) = refl
 
+-- for now no NULL may stand there
+pub is_plain : (schema : Schema) → IsTree schema → (table column : ℕ) → is_hidden schema table column ≡ true → is_nullable (kind_at schema table column) ≡ false
+is_plain schema tree table column h =
+    let there = declared (column_at schema table column) h in
+    ap is_nullable (sym there.2) ∙ tree.not_null table column there.0 there.1
+
+plain_width : (kind : Kind) → is_nullable kind ≡ false → cell_width kind ≡ cell_width (plain_of kind)
+plain_width Integer plain = refl
+plain_width (Chars most) plain = refl
+plain_width IntegerOrNull plain = absurd (cc (plain))
+plain_width (CharsOrNull most) plain = absurd (cc (plain))
+
+pub plain_cells_fit : (schema : Schema) → IsTree schema → HasNarrowCells schema → (table column : ℕ) → is_hidden schema table column ≡ true
+    → width_at schema table column ≤ 64
+plain_cells_fit schema tree cells table column h =
+    let there = declared (column_at schema table column) h in
+    let few = cells table column there.0 there.1 in
+    let same = plain_width there.0.kind (tree.not_null table column there.0 there.1) in
+    let width : width_at schema table column ≡ cell_width there.0.kind = ap width_or_none there.1 in
+    omega (arith, few, same, width)
+
 of_rows : (f g : Row → Option Value) (o : Option Row) → ((row : Row) → f row ≡ g row) → option_and_then f o ≡ option_and_then g o
 of_rows f g None same = refl
 of_rows f g (Some row) same = same row
@@ -44,7 +66,7 @@ pub of_kind :
 of_kind cat hidden tree narrow by_place of_databases is table column h =
     let there = declared (column_at cat.schema table column) h in
     record {
-      narrow = subst (λ n. n ≤ 64) (sym (width_of_kind (column_at cat.schema table column))) (narrow.most table column);
+      narrow = subst (λ n. n ≤ 65) (sym (width_of_kind (column_at cat.schema table column))) (narrow.most table column);
       each = λ identifier value found.
           let rows = rows_of hidden.hidden table in
           let by_columns =

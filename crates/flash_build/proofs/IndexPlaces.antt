@@ -50,7 +50,7 @@ pub record IsIndex (cat : Catalog) (table column : ℕ) (room first : Run) (entr
   pub fewer : pages_of entries (directory_width cat.schema table column) ≤ directory_pages cat table column
   pub whole : index_pages cat table column ≡ 1 + (directory_pages cat table column + levels_pages cat (levels_of cat.schema table))
   pub some : 0 < directory_width cat.schema table column
-  pub narrow : directory_width cat.schema table column ≤ 160
+  pub narrow : directory_width cat.schema table column ≤ 161
   pub there : table < length cat.schema
 
 -- fewer records take no more pages

@@ -6,7 +6,7 @@ use Rattle.std.proofs.lemmas.Bool.{cases_lt}
 use Rattle.std.proofs.lemmas.Option.{slice_get-get_or, slice_get-map}
 use Rattle.std.proofs.lemmas.List.{length-map, get_or-map}
 use Rattle.ghost_model.specs.core.Schema.{Schema, Table, Column, columns_of, columns_or_none, column_at, first_of, references_to, is_table, is_empty, parent}
-use Rattle.ghost_model.specs.core.Values.{Value, Number, Text, Row, Database}
+use Rattle.ghost_model.specs.core.Values.{Value, Null, Number, Text, Row, Database}
 use Rattle.ghost_model.specs.core.Channel.{Catalog}
 use Rattle.ghost_model.specs.laws.SchemaTrees.{IsTree}
 use Rattle.ghost_model.specs.core.Database.{rows_of, row_numbered, row_count, value_at_row, is_row_among, identifier_in, reference_column, points_to}
@@ -52,6 +52,7 @@ key_column schema tree table child column (Some held) there h =
     }
 
 number_among : (count : ℕ) (v : Value) → is_row_among count v ≡ true → (m : ℕ) × (v ≡ Number (pos m))
+number_among count Null h = absurd (cc (h))
 number_among count (Text text) h = absurd (cc (h))
 number_among count (Number (negsuc n)) h = absurd (cc (h))
 number_among count (Number (pos m)) h = (m, refl)

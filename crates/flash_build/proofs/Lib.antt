@@ -5,6 +5,8 @@ pub mod Leading
 pub mod NumberRecords
 pub mod TableFiles
 pub mod CatalogPages
+pub mod GateSteps
+pub mod SealSteps
 pub mod Entries
 pub mod TextOrder
 pub mod HiddenValues

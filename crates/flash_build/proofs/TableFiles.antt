@@ -22,11 +22,11 @@ use Rattle.flash_build.specs.Building.{IsBlank, HoldsIdIndex, HoldsTable}
 use Rattle.flash_build.proofs.Writes.{Written, agree_below, below_next, can_fill_rest}
 
 -- blank pages for all files
-pub can_fill_files : {cat : Catalog} {device : Device} → LieInOrder cat → IsBlank public_pages (files_end cat) device
-    → layout.need cat ≤ device.page_count → device.page_count < 2 ^ 32 → CanFill device public_pages (files_end cat - public_pages)
+pub can_fill_files : {cat : Catalog} {device : Device} → LieInOrder cat → IsBlank (public_pages cat) (files_end cat) device
+    → layout.need cat ≤ device.page_count → device.page_count < 2 ^ 32 → CanFill device (public_pages cat) (files_end cat - public_pages cat)
 can_fill_files {cat = cat} order blank enough small =
     let some = order.some in
-    let within : files_end cat ≤ layout.need cat = omega (arith, order.static, order.spool, order.scratch) in
+    let within : files_end cat ≤ layout.need cat = omega (arith, order.static, order.spool, order.scratch, order.appended) in
     record {
       there = omega (arith, some, within, enough);
       blank = λ page from before. blank.blank page from (omega (arith, before, some)) (omega (arith, before, some, within, enough));
@@ -202,7 +202,7 @@ table_stays {b = b} {c = c} cat hidden table tree order there changes apart hold
 -- some tables were written
 pub record TablesWritten (told : Bool) (cat : Catalog) (hidden : Hidden) (before now : Device) (done : ℕ) : Type 0 where
   pub stores : told ≡ true → (table : ℕ) → table < done → HoldsTable now.page cat hidden table
-  pub wrote : Written public_pages (table_begin cat done) (sum_by (table_written cat hidden) (below done)) before now
+  pub wrote : Written (public_pages cat) (table_begin cat done) (sum_by (table_written cat hidden) (below done)) before now
 
 pub tables_more :
     {told : Bool} (cat : Catalog) (hidden : Hidden) (table : ℕ) {b c : Device} → IsTree cat.schema → LieInOrder cat → table < length cat.schema
@@ -248,7 +248,7 @@ can_fill_column cat table column less can changes =
 
 pub can_fill_table :
     {a b : Device} (cat : Catalog) (table : ℕ) → LieAsSummed cat → LieInOrder cat → table < length cat.schema
-    → CanFill a public_pages (files_end cat - public_pages) → ChangesOnly public_pages (table_begin cat table) a b
+    → CanFill a (public_pages cat) (files_end cat - public_pages cat) → ChangesOnly (public_pages cat) (table_begin cat table) a b
     → CanFill b (table_begin cat table) (table_pages cat table)
 can_fill_table cat table laid order less can changes =
     let end = laid.files_end in

@@ -1,10 +1,10 @@
 -- Writes one after another: what changed, how many calls were made, and what is left to fill.
-use Rattle.std.proofs.Common.{◌≡◌, refl, sym, ◌∙◌, subst, ℕ, ◌+◌, ◌<◌, ◌≤◌, Result, Ok, Err, OnOk, IfOk, Option, Some, None, List, inl, inr, arith}
+use Rattle.std.proofs.Common.{◌≡◌, refl, sym, ◌∙◌, subst, ℕ, ◌+◌, ◌<◌, ◌≤◌, ap, false, bytes_eq, if◌then◌else◌, Result, Ok, Err, OnOk, IfOk, Option, Some, None, List, inl, inr, arith}
 use Rattle.std.specs.Prelude.{IfNone}
 use Rattle.std.proofs.lemmas.Bool.{cases_lt}
 use Rattle.ghost_model.specs.forms.Runs.{Run, Stores}
 use Rattle.ghost_model.specs.laws.RunLaws.{AgreeOn}
-use Rattle.edge_traits.specs.Devices.{Device, Counts, ChangesOnly}
+use Rattle.edge_traits.specs.Devices.{Device, Counts, ChangesOnly, is_name, pages_under}
 use Rattle.edge_traits.proofs.DeviceFrames.{kept_same, changes_kept, changes_wider, changes_joined, counts_none, counts_more}
 use Rattle.flash_pages.specs.Filling.{CanFill}
 use Rattle.flash_pages.proofs.RunFrames.{can_fill_part, can_fill_kept}
@@ -125,6 +125,17 @@ wrote_within result wrote lower higher down up = record {
   last = wrote.last;
   large_enough = wrote.large_enough;
 }
+
+-- the pages under any other name stay where only pages of the device that is open changed
+pub others_stay : {low high : ℕ} {a b : Device} (name other : List ℕ) → ChangesOnly low high a b → a.name ≡ Some name → bytes_eq name other ≡ false
+    → pages_under b other ≡ pages_under a other
+others_stay {a = a} {b = b} name other changes named apart =
+    closed b (changes.name ∙ named) ∙ ((λ i. changes.others i other) ∙ sym (closed a named))
+  where
+    closed : (device : Device) → device.name ≡ Some name → pages_under device other ≡ device.others other
+    closed device is =
+        ap (λ under. if is_name under other then device.page else device.others other) is
+        ∙ ap (λ same. if same then device.page else device.others other) apart
 
 -- under equations
 pub wrote_as :

@@ -58,6 +58,7 @@ pub record HoldsTable (page : ℕ → List ℕ) (cat : Catalog) (hidden : Hidden
   pub indexes : (column : ℕ) → is_hidden cat.schema table column ≡ true → HoldsIndex page cat hidden table column
   pub id_index : is_empty (above_of cat.schema table) ≡ false → HoldsIdIndex page cat hidden table
 
--- the calls of a loading: one that makes the device, and one for each page that holds a byte of the catalog or of a file
+-- the calls of a loading: one that makes the device, and one for each page that holds a byte of the catalog, of the gate and its
+-- header, or of a file
 abbrev pub load_calls : Catalog → Hidden → ℕ
 load_calls cat hidden = pages_built cat hidden

@@ -19,7 +19,7 @@ value_at rows identifier place = option_and_then (λ row. slice_get row place) (
 
 -- the values at a place of the rows are of a kind whose cells are narrow
 pub record AreOfKind (kind : Kind) (place : ℕ) (rows : Rows) : Type 0 where
-  pub narrow : cell_width kind ≤ 64
+  pub narrow : cell_width kind ≤ 65
   pub each : (identifier : ℕ) (value : Value) → value_at rows identifier place ≡ Some value → IsTrue (is_of_kind kind value)
 
 -- the integers of a column that holds some

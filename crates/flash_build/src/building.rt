@@ -22,7 +22,8 @@ use tree_schema::Catalog;
 /// of its hidden columns, its subtree key table, and its indexes, in the order of their pages. Each page is written once, and
 /// none after a failed call.
 ///
-/// A flash with fewer pages than the catalog needs is too small, and no call is made.
+/// A flash with fewer pages than the catalog needs is too small, and no call is made. All public pages of the catalog's version stay
+/// as they are.
 pub fn build<F: Flash>(
     alloc: Global,
     cat: &Catalog,
@@ -30,12 +31,12 @@ pub fn build<F: Flash>(
     flash: &mut F,
 ) -> Result<(), BuildFault>
     requires part { IsHidden cat.now hidden.now }
-    requires blank { IsBlank layout.public_pages (layout.files_end cat.now) (F.state flash.old) }
+    requires blank { IsBlank (layout.public_pages cat.now) (layout.files_end cat.now) (F.state flash.old) }
     ensures holds { OnOk result (F.told ≡ true → HoldsFiles (F.state flash.new).page cat.now hidden.now) }
     ensures too_small { (F.state flash.old).page_count < layout.need cat.now → result ≡ Err (fault.TooSmall (layout.need cat.now) (F.state flash.old).page_count) }
     ensures untouched { (F.state flash.old).page_count < layout.need cat.now → F.state flash.new ≡ F.state flash.old }
     ensures large_enough { layout.need cat.now ≤ (F.state flash.old).page_count → IsLargeEnough result }
-    ensures others { ChangesOnly layout.public_pages (layout.files_end cat.now) (F.state flash.old) (F.state flash.new) }
+    ensures others { ChangesOnly (layout.public_pages cat.now) (layout.files_end cat.now) (F.state flash.old) (F.state flash.new) }
     ensures exact { OnOk result (Counts (work.file_pages cat.now hidden.now) (F.state flash.old).calls (F.state flash.new).calls) }
     ensures at_most { (F.state flash.new).calls ≤ (F.state flash.old).calls + work.file_pages cat.now hidden.now }
     ensures deep_reads { (F.state flash.new).deep_reads ≡ (F.state flash.old).deep_reads }

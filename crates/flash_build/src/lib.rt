@@ -2,8 +2,8 @@
 //!
 //! `build` writes the static files table by table, each page once: the column files, the subtree key table, the climbing
 //! indexes of the hidden columns, and the id index. Indexes are made of numbers: the rank of each row, level by level, and
-//! the memory of one index is given back before the next. `seal` writes the catalog's pages from the last to page 0, so that
-//! the pages spell no catalog before all is there. `make_and_build` and `load_flash` do all of it on a new device. Where the
+//! the memory of one index is given back before the next. `seal` writes, at version 2, the gate and the header that
+//! counts, and then the catalog's pages from the last to page 0, so that the pages spell no catalog before all is there. `make_and_build` and `load_flash` do all of it on a new device. Where the
 //! flash fails, nothing more is written.
 #![tactic(auto)]
 
@@ -11,6 +11,7 @@ pub mod building;
 pub mod catalogs;
 mod columns;
 pub mod faults;
+mod gates;
 mod id_indexes;
 mod indexes;
 mod keys;

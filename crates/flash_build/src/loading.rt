@@ -1,13 +1,13 @@
 //! The whole of a new flash.
 
-ghost use Rattle.std.specs.Prelude.{◌≡◌, ◌<◌, ◌≤◌, ◌+◌, ◌*◌, ℕ, List, true, false, Some, Err, OnOk};
+ghost use Rattle.std.specs.Prelude.{◌≡◌, ◌<◌, ◌≤◌, ◌+◌, ◌*◌, ℕ, List, bytes_eq, true, false, Some, Err, OnOk};
 ghost use Rattle.ghost_model.specs.forms.Flash.{HoldsFiles, Holds, IsHidden};
 ghost use Rattle.ghost_model.specs.forms.Layout as layout;
 ghost use Rattle.ghost_model.specs.forms.Work as work;
-ghost use Rattle.edge_traits.specs.Devices.{Counts, IsErased};
+ghost use Rattle.edge_traits.specs.Devices.{Counts, IsErased, pages_under};
 ghost use Rattle.flash_build.specs.Building.{load_calls};
 ghost use Rattle.flash_build.specs.Faults.{BuildCause, EndsAtFault, IsLargeEnough};
-ghost use Rattle.flash_build.specs.Sealing.{HoldsFrom, SpellsNoCatalog};
+ghost use Rattle.flash_build.specs.Sealing.{SpellsNoCatalog, StandsButPage0};
 ghost use Rattle.flash_build.specs.declared.faults.BuildFault.TheVariants as fault;
 
 use crate::building::build;
@@ -24,7 +24,7 @@ use tree_schema::Catalog;
 /// database to it. The catalog is not written yet: the public pages are erased.
 ///
 /// So many blocks may be too small for the catalog, and then no call is made. After any other error the device has no
-/// page, or its pages spell no catalog; it is open under that name, or not at all.
+/// page, or its pages spell no catalog; it is open under that name, or not at all. The devices of other names stay as they are.
 pub fn make_and_build<F: Flash>(
     alloc: Global,
     cat: &Catalog,
@@ -38,8 +38,9 @@ pub fn make_and_build<F: Flash>(
     ensures holds { OnOk result (F.told ≡ true → HoldsFiles (F.state flash.new).page cat.now hidden.now) }
     ensures named { OnOk result ((F.state flash.new).name ≡ Some name.now) }
     ensures never_other { layout.need cat.now ≤ 64 * blocks → (other : List ℕ) → (F.state flash.new).name ≡ Some other → other ≡ name.now }
+    ensures others { F.told ≡ true → (other : List ℕ) → bytes_eq name.now other ≡ false → pages_under (F.state flash.new) other ≡ pages_under (F.state flash.old) other }
     ensures pages { OnOk result ((F.state flash.new).page_count ≡ 64 * blocks) }
-    ensures erased { OnOk result (IsErased F.told 0 layout.public_pages (F.state flash.new)) }
+    ensures erased { OnOk result (IsErased F.told 0 (layout.public_pages cat.now) (F.state flash.new)) }
     ensures too_small { 64 * blocks < layout.need cat.now → result ≡ Err (fault.TooSmall (layout.need cat.now) (64 * blocks)) }
     ensures untouched { 64 * blocks < layout.need cat.now → F.state flash.new ≡ F.state flash.old }
     ensures large_enough { layout.need cat.now ≤ 64 * blocks → IsLargeEnough result }
@@ -65,7 +66,7 @@ pub fn make_and_build<F: Flash>(
 }
 
 /// Makes a device, writes the hidden part of a catalog's database to it, and seals it by the catalog: one call to make it,
-/// and one for each page that holds a byte of the catalog or of a file.
+/// and one for each page that holds a byte of the catalog, of the gate and its header, or of a file.
 ///
 /// As long as page 0 is blank, the pages spell no catalog, and it is written only where all else stands.
 pub fn load_flash<F: Flash>(
@@ -81,14 +82,14 @@ pub fn load_flash<F: Flash>(
     ensures holds { OnOk result (F.told ≡ true → Holds (F.state flash.new).page cat.now hidden.now) }
     ensures named { OnOk result ((F.state flash.new).name ≡ Some name.now) }
     ensures never_other { layout.need cat.now ≤ 64 * blocks → (other : List ℕ) → (F.state flash.new).name ≡ Some other → other ≡ name.now }
+    ensures others { F.told ≡ true → (other : List ℕ) → bytes_eq name.now other ≡ false → pages_under (F.state flash.new) other ≡ pages_under (F.state flash.old) other }
     ensures pages { OnOk result ((F.state flash.new).page_count ≡ 64 * blocks) }
     ensures too_small { 64 * blocks < layout.need cat.now → result ≡ Err (fault.TooSmall (layout.need cat.now) (64 * blocks)) }
     ensures untouched { 64 * blocks < layout.need cat.now → F.state flash.new ≡ F.state flash.old }
     ensures large_enough { layout.need cat.now ≤ 64 * blocks → IsLargeEnough result }
     ensures unsealed { layout.need cat.now ≤ 64 * blocks → 0 < (F.state flash.new).page_count → F.told ≡ true → (F.state flash.new).blank 0 ≡ true → SpellsNoCatalog (F.state flash.new).page }
     ensures unsealed_memory { layout.need cat.now ≤ 64 * blocks → 0 < (F.state flash.new).page_count → result ≡ Err fault.NoMemory → (F.state flash.new).blank 0 ≡ true }
-    ensures files_first { layout.need cat.now ≤ 64 * blocks → 0 < (F.state flash.new).page_count → F.told ≡ true → (F.state flash.new).blank 0 ≡ false → HoldsFiles (F.state flash.new).page cat.now hidden.now }
-    ensures page_0_last { layout.need cat.now ≤ 64 * blocks → 0 < (F.state flash.new).page_count → F.told ≡ true → (F.state flash.new).blank 0 ≡ false → HoldsFrom 1 (F.state flash.new).page cat.now }
+    ensures page_0_last { layout.need cat.now ≤ 64 * blocks → 0 < (F.state flash.new).page_count → F.told ≡ true → (F.state flash.new).blank 0 ≡ false → StandsButPage0 (F.state flash.new).page cat.now hidden.now }
     ensures exact { OnOk result (Counts (load_calls cat.now hidden.now) (F.state flash.old).calls (F.state flash.new).calls) }
     ensures at_most { (F.state flash.new).calls ≤ (F.state flash.old).calls + load_calls cat.now hidden.now }
     ensures deep_reads { (F.state flash.new).deep_reads ≡ (F.state flash.old).deep_reads }

@@ -50,9 +50,9 @@ pub(crate) fn write_tables<F: Flash>(
     flash: &mut F,
 ) -> Result<(), BuildFault>
     requires part { IsHidden laid.now hidden.now }
-    requires can { CanFill (F.state flash.old) layout.public_pages (layout.files_end laid.now - layout.public_pages) }
+    requires can { CanFill (F.state flash.old) (layout.public_pages laid.now) (layout.files_end laid.now - layout.public_pages laid.now) }
     ensures stores { OnOk result (F.told ≡ true → HoldsFiles (F.state flash.new).page laid.now hidden.now) }
-    ensures wrote { Wrote layout.public_pages (layout.files_end laid.now) (work.file_pages laid.now hidden.now) (F.state flash.old) (F.state flash.new) result }
+    ensures wrote { Wrote (layout.public_pages laid.now) (layout.files_end laid.now) (work.file_pages laid.now hidden.now) (F.state flash.old) (F.state flash.new) result }
 {
     layout_laws(laid);
     ghost_model::layout::sums_by_place();

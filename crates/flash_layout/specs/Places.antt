@@ -1,5 +1,5 @@
 -- What the numbers of a layout are, in the words of the definitions.
-use Rattle.std.specs.Prelude.{◌≡◌, ℕ, ◌+◌, ◌≤◌, List, length, map, Some, slice_get}
+use Rattle.std.specs.Prelude.{◌≡◌, ℕ, ◌+◌, ◌<◌, ◌≤◌, List, length, map, Some, slice_get}
 use Rattle.arrayvec.specs.ArrayVec.{ArrayVec}
 use Rattle.ghost_model.specs.core.Schema.{Schema}
 use Rattle.ghost_model.specs.core.Channel.{Catalog}
@@ -21,7 +21,7 @@ pub record ArePlaces (cat : Catalog) (table : ℕ) (places : TablePlaces) : Type
   pub id_index : places.indexes.after ≡ sums.id_index_begin cat table
   pub after : places.after ≡ sums.table_begin cat (table + 1)
   pub spool : places.spool ≡ sums.spool_pages_before cat table
-  pub few : places.spool ≤ 12000768
+  pub few : places.spool ≤ 12049920
   pub spool_width : places.spool_width ≡ layout.spool_width cat.schema table
 
 -- those of the tables before one, by table
@@ -30,9 +30,11 @@ pub record ArePlacesBefore (cat : Catalog) (before : ℕ) (tables : List TablePl
   pub each : (table : ℕ) (places : TablePlaces) → slice_get tables table ≡ Some places → ArePlaces cat table places
 
 -- what a layout knows of its catalog
-pub record IsLaidOut (cat : Catalog) (ways : List (ArrayVec ℕ)) (tables : List TablePlaces) (end half most : ℕ) : Type 0 where
+pub record IsLaidOut (cat : Catalog) (ways : List (ArrayVec ℕ)) (tables : List TablePlaces) (end half top most : ℕ) : Type 0 where
   pub levels : AreWays cat.schema ways
   pub places : ArePlacesBefore cat (length cat.schema) tables
   pub static : end ≡ layout.static_end cat
   pub spool : half ≡ layout.half_pages cat
-  pub largest : most ≡ layout.largest_count cat
+  pub root : top ≡ layout.root_of cat.schema
+  pub there : top < length cat.schema
+  pub largest : most ≡ layout.largest_room cat

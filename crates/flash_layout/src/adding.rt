@@ -10,6 +10,7 @@ use crate::columns::column_begins;
 use crate::indexes::{id_index_pages, index_begins, subtree_pages};
 use crate::limits::a_catalog_has_a_layout;
 use crate::places::TablePlaces;
+use crate::public::public_pages;
 use crate::tables::{but_first, levels_among, tables_below};
 use arrayvec::ArrayVec;
 use ghost_base::limits::MAX_TABLES;
@@ -35,9 +36,9 @@ fn places_of(
     requires there { table < length cat.now.schema }
     requires begin { begin ≡ sums.table_begin cat.now table }
     requires spool { spool ≡ sums.spool_pages_before cat.now table }
-    requires few { spool ≤ 12000768 }
+    requires few { spool ≤ 12049920 }
     ensures places { ArePlaces cat.now table result }
-    ensures most { result.after ≤ 607034752 }
+    ensures most { result.after ≤ 607034944 }
 {
     a_catalog_has_a_layout(cat);
     let levels = levels_among(cat, ways, table);
@@ -62,17 +63,17 @@ pub(crate) fn places_of_all(cat: &Catalog, ways: &[ArrayVec<usize, MAX_TABLES>])
     ensures tables { ArePlacesBefore cat.now (length cat.now.schema) result.tables.items }
     ensures after { result.after ≡ layout.files_end cat.now }
     ensures half { result.half ≡ layout.half_pages cat.now }
-    ensures small { result.after ≤ 607034752 }
-    ensures few { result.half ≤ 12000768 }
+    ensures small { result.after ≤ 607034944 }
+    ensures few { result.half ≤ 12049920 }
 {
     a_catalog_has_a_layout(cat);
     let mut tables = ArrayVec::new();
-    let mut after = 64;
+    let mut after = public_pages(cat);
     let mut half = 0;
     for table in 0..cat.schema().tables() {
         let places = places_of(cat, ways, table, after, half);
         after = places.after;
-        half += spool_pages(cat, table);
+        half += spool_pages(cat, ways, table);
         tables.push(places);
     }
     AllPlaces {

@@ -51,7 +51,7 @@ fn width_at(schema: &Schema, table: usize, column: usize) -> usize
 /// The width of the cells of a catalog's column in bytes, and 0 where there is no such column.
 pub(crate) fn width_of(cat: &Catalog, table: usize, column: usize) -> u32
     ensures value { result ≡ layout.width_at cat.now.schema table column }
-    ensures most { result ≤ 64 }
+    ensures most { result ≤ 65 }
     ensures least { layout.is_hidden cat.now.schema table column ≡ true → 0 < result }
 {
     a_catalog_has_a_layout(cat);
@@ -83,10 +83,10 @@ fn column_pages(cat: &Catalog, table: usize, column: usize) -> u32
 /// has no page.
 pub(crate) fn column_begins(cat: &Catalog, table: usize, begin: u32) -> Begins
     requires begin { begin ≡ sums.table_begin cat.now table }
-    requires most { begin ≤ 607034752 }
+    requires most { begin ≤ 607034944 }
     ensures each { result.each.items ≡ map (sums.column_begin cat.now table) (layout.below (short.column_count cat.now.schema table)) }
     ensures after { result.after ≡ sums.subtree_begin cat.now table }
-    ensures most { result.after ≤ 631034752 }
+    ensures most { result.after ≤ 631034944 }
 {
     a_catalog_has_a_layout(cat);
     let mut each = ArrayVec::new();

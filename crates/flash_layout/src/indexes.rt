@@ -62,7 +62,7 @@ pub(crate) fn directory_width(cat: &Catalog, table: usize, column: usize, levels
     requires levels { levels.now ≡ layout.levels_of cat.now.schema table }
     requires own { 0 < length levels.now }
     ensures value { result ≡ sums.directory_width cat.now.schema table column }
-    ensures most { result ≤ 160 }
+    ensures most { result ≤ 161 }
     ensures some { 8 ≤ result }
 {
     a_catalog_has_a_layout(cat);
@@ -104,10 +104,10 @@ pub(crate) fn index_begins(cat: &Catalog, table: usize, levels: &[usize], begin:
     requires levels { levels.now ≡ layout.levels_of cat.now.schema table }
     requires some { 0 < length levels.now }
     requires begin { begin ≡ sums.indexes_begin cat.now table }
-    requires most { begin ≤ 632034752 }
+    requires most { begin ≤ 632034944 }
     ensures each { result.each.items ≡ map (sums.index_begin cat.now table) (layout.below (short.column_count cat.now.schema table)) }
     ensures after { result.after ≡ sums.id_index_begin cat.now table }
-    ensures most { result.after ≤ 656597528 }
+    ensures most { result.after ≤ 656597720 }
 {
     a_catalog_has_a_layout(cat);
     let own = levels_pages(cat, levels);

@@ -11,7 +11,7 @@ ghost use Rattle.flash_layout.specs.Limits.{HasLayout};
 ghost use Rattle.flash_layout.specs.Places.{ArePlaces};
 
 use crate::adding::places_of_all;
-use crate::areas::largest_count;
+use crate::areas::{appended_pages, appended_width, largest_room, room_to_append, row_room};
 use crate::columns::{is_hidden, rows_of, width_of};
 use crate::indexes::{
     directory_pages, directory_width, id_directory_pages, id_directory_width, levels_pages,
@@ -19,8 +19,9 @@ use crate::indexes::{
 };
 use crate::limits::a_catalog_has_a_layout;
 use crate::places::TablePlaces;
+use crate::public::scratch_count;
 use crate::runs::{PAGE_BYTES, in_blocks, pages};
-use crate::tables::{but_first, levels_among, ways_of};
+use crate::tables::{but_first, levels_among, root_among, ways_of};
 use arrayvec::ArrayVec;
 use ghost_base::Kind;
 use ghost_base::limits::MAX_TABLES;
@@ -40,7 +41,8 @@ pub struct Layout<'a> {
     tables: ArrayVec<TablePlaces, MAX_TABLES>,
     static_end: u32,
     half_pages: u32,
-    largest: u32,
+    root: usize,
+    largest_room: u32,
 }
 
 impl<'a> Model for Layout<'a> {
@@ -52,7 +54,7 @@ impl<'a> Model for Layout<'a> {
 
     ghost view = { λ laid. laid.cat.now };
 
-    ghost invariant = { λ laid. IsLaidOut laid.cat.now laid.ways.items laid.tables.items laid.static_end laid.half_pages laid.largest };
+    ghost invariant = { λ laid. IsLaidOut laid.cat.now laid.ways.items laid.tables.items laid.static_end laid.half_pages laid.root laid.largest_room };
 }
 
 impl<'a> Layout<'a> {
@@ -62,13 +64,16 @@ impl<'a> Layout<'a> {
     {
         let ways = ways_of(cat);
         let places = places_of_all(cat, &ways);
+        let root = root_among(cat, &ways);
+        let largest_room = largest_room(cat, &ways, root);
         Layout {
             cat,
             ways,
             tables: places.tables,
             static_end: in_blocks(places.after),
             half_pages: places.half,
-            largest: largest_count(cat),
+            root,
+            largest_room,
         }
     }
 
@@ -105,6 +110,15 @@ impl<'a> Layout<'a> {
         rows_of(self.cat, table)
     }
 
+    /// The rows for which the areas of a table have room: those that it has, and at version 2 the 4,096 that may be appended to the root.
+    pub fn room(&self, table: usize) -> u32
+        requires there { table < length self.now.schema }
+        ensures value { result ≡ layout.row_room self.now table }
+        ensures most { result ≤ 1004096 }
+    {
+        row_room(self.cat, &self.ways, table)
+    }
+
     /// Whether a column is hidden, and so has a file and an index; where there is no such column, it is not.
     pub fn is_hidden(&self, table: usize, column: usize) -> bool
         ensures value { result ≡ layout.is_hidden self.now.schema table column }
@@ -115,7 +129,7 @@ impl<'a> Layout<'a> {
     /// The width of a column's cells in bytes, and 0 where there is no such column.
     pub fn width(&self, table: usize, column: usize) -> u32
         ensures value { result ≡ layout.width_at self.now.schema table column }
-        ensures most { result ≤ 64 }
+        ensures most { result ≤ 65 }
         ensures least { layout.is_hidden self.now.schema table column ≡ true → 0 < result }
     {
         width_of(self.cat, table, column)
@@ -175,7 +189,7 @@ impl<'a> Layout<'a> {
     fn index_begin(&self, table: usize, column: usize) -> u32
         requires hidden { layout.is_hidden self.now.schema table column ≡ true }
         ensures value { result ≡ sums.index_begin self.now table column }
-        ensures most { result ≤ 656597528 }
+        ensures most { result ≤ 656597720 }
     {
         self.laws();
         let begins = &self.places(table).indexes;
@@ -294,7 +308,7 @@ impl<'a> Layout<'a> {
     pub fn static_end(&self) -> u32
         ensures page { result ≡ layout.static_end self.now }
         ensures block { result % 64 ≡ 0 }
-        ensures most { result ≤ 607034815 }
+        ensures most { result ≤ 607035007 }
     {
         self.laws();
         self.static_end
@@ -303,13 +317,13 @@ impl<'a> Layout<'a> {
     /// The pages of one half of the spool.
     fn half_pages(&self) -> u32
         ensures value { result ≡ layout.half_pages self.now }
-        ensures most { result ≤ 12000768 }
+        ensures most { result ≤ 12049920 }
     {
         self.laws();
         self.half_pages
     }
 
-    /// The area of a table in a half of the spool.
+    /// The area of a table in a half of the spool, with the table's room.
     pub fn spool_area(&self, half: u32, table: usize) -> Run
         requires half { half < 2 }
         requires there { table < length self.now.schema }
@@ -318,7 +332,7 @@ impl<'a> Layout<'a> {
         let places = self.places(table);
         Run {
             first: self.static_end() + (half * self.half_pages() + places.spool),
-            count: self.rows(table),
+            count: self.room(table),
             width: places.spool_width,
         }
     }
@@ -326,7 +340,7 @@ impl<'a> Layout<'a> {
     /// The first page after the spool.
     fn spool_end(&self) -> u32
         ensures value { result ≡ layout.spool_end self.now }
-        ensures most { result ≤ 631036351 }
+        ensures most { result ≤ 631134847 }
     {
         self.static_end() + 2 * self.half_pages()
     }
@@ -337,18 +351,66 @@ impl<'a> Layout<'a> {
         ensures most { result ≤ 1984 }
     {
         self.laws();
-        in_blocks(pages(self.largest, 4))
+        in_blocks(pages(self.largest_room, 4))
     }
 
-    /// A scratch area, from 0 to 5, with an identifier for each row of the table that has most.
+    /// A scratch area, from 0 to 5 at version 1 and to 7 at version 2, with an identifier for each row of the largest room of a table.
     pub fn scratch_area(&self, area: u32) -> Run
-        requires area { area < 6 }
+        requires area { area < layout.scratch_count self.now }
         ensures run { run_of result ≡ layout.scratch_area self.now area }
     {
+        let _ = scratch_count(self.cat);
         Run {
             first: self.spool_end() + area * self.scratch_pages(),
-            count: self.largest,
+            count: self.largest_room,
             width: 4,
+        }
+    }
+
+    /// The page after the scratch areas: no session writes it or a later one.
+    pub fn scratch_end(&self) -> u32
+        ensures page { result ≡ layout.scratch_end self.now }
+        ensures block { result % 64 ≡ 0 }
+        ensures most { result ≤ 631150719 }
+    {
+        self.laws();
+        self.spool_end() + scratch_count(self.cat) * self.scratch_pages()
+    }
+
+    /// The width of an appended row of the root in bytes: its hidden cells, and four bytes for each table below.
+    fn appended_width(&self) -> u32
+        ensures value { result ≡ layout.appended_width self.now.schema (layout.root_of self.now.schema) }
+        ensures most { result ≤ 1608 }
+    {
+        appended_width(self.cat, self.root, self.below(self.root))
+    }
+
+    /// How many rows may be appended to the root.
+    fn appended_room(&self) -> u32
+        ensures value { result ≡ layout.room_to_append self.now (layout.root_of self.now.schema) }
+        ensures most { result ≤ 4096 }
+    {
+        room_to_append(self.cat, &self.ways, self.root)
+    }
+
+    /// The pages of one area for appended rows: none at version 1, and none where an appended row has no byte.
+    pub fn appended_pages(&self) -> u32
+        ensures value { result ≡ layout.appended_pages self.now }
+        ensures most { result ≤ 4096 }
+    {
+        self.laws();
+        appended_pages(self.appended_room(), self.appended_width())
+    }
+
+    /// One of the two areas for appended rows of the root, a record for each.
+    pub fn appended_area(&self, which: u32) -> Run
+        requires which { which < 2 }
+        ensures run { run_of result ≡ layout.appended_area self.now which }
+    {
+        Run {
+            first: self.scratch_end() + which * self.appended_pages(),
+            count: self.appended_room(),
+            width: self.appended_width(),
         }
     }
 
@@ -359,6 +421,6 @@ impl<'a> Layout<'a> {
         ensures small { result < 2 ^ 30 }
     {
         self.laws();
-        self.spool_end() + 6 * self.scratch_pages()
+        self.scratch_end() + 2 * self.appended_pages()
     }
 }

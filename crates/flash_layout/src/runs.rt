@@ -13,11 +13,11 @@ pub const PAGE_BYTES: u32 = 2048;
 /// The pages of a block.
 pub const BLOCK_PAGES: u32 = 64;
 
-/// How many pages so many records of a width need, at most 1,000,000 records of 1 to 2,048 bytes.
+/// How many pages so many records of a width need, at most 1,004,096 records of 1 to 2,048 bytes.
 pub fn pages(count: u32, width: u32) -> u32
     requires some { 0 < width }
     requires fits { width ≤ 2048 }
-    requires rows { count ≤ 1000000 }
+    requires rows { count ≤ 1004096 }
     ensures value { result ≡ runs.pages_of count width }
     ensures most { result ≤ count }
 {
@@ -25,11 +25,11 @@ pub fn pages(count: u32, width: u32) -> u32
     (count + (each - 1)) / each
 }
 
-/// The number of pages of a run, which has at most 1,000,000 records of 1 to 2,048 bytes.
+/// The number of pages of a run, which has at most 1,004,096 records of 1 to 2,048 bytes.
 pub fn run_pages(run: &Run) -> u32
     requires some { 0 < run.now.width }
     requires fits { run.now.width ≤ 2048 }
-    requires rows { run.now.count ≤ 1000000 }
+    requires rows { run.now.count ≤ 1004096 }
     ensures value { result ≡ runs.run_pages (run_of run.now) }
     ensures most { result ≤ run.now.count }
 {

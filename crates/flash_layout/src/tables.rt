@@ -1,7 +1,8 @@
 //! The tables above and below a table.
 
-ghost use Rattle.std.specs.Prelude.{◌≡◌, ◌<◌, ◌≤◌, ◌==◌, length, drop};
+ghost use Rattle.std.specs.Prelude.{◌≡◌, ◌<◌, ◌≤◌, ◌==◌, length, drop, is_none};
 ghost use Rattle.std.specs.List.{list_any};
+ghost use Rattle.ghost_model.specs.core.Schema as schema;
 ghost use Rattle.ghost_model.specs.forms.Layout as layout;
 ghost use Rattle.tree_schema.specs.Schemas.{AreParents};
 ghost use Rattle.flash_layout.specs.Places.{AreWays};
@@ -83,6 +84,35 @@ fn is_below(cat: &Catalog, ways: &[ArrayVec<usize, MAX_TABLES>], table: usize, o
     ensures below { result ≡ layout.is_below cat.now.schema table other }
 {
     is_among(but_first(levels_among(cat, ways, other)), table)
+}
+
+/// Whether a table is the root, which no table lies above.
+pub(crate) fn is_root(cat: &Catalog, ways: &[ArrayVec<usize, MAX_TABLES>], table: usize) -> bool
+    requires ways { AreWays cat.now.schema ways.now }
+    requires there { table < length cat.now.schema }
+    ensures root { result ≡ is_none (schema.parent cat.now.schema table) }
+{
+    a_catalog_has_a_layout(cat);
+    ghost_model::layout::levels_are_ancestors();
+    match levels_among(cat, ways, table).get(1) {
+        None => true,
+        Some(_) => false,
+    }
+}
+
+/// The root, the first table that no table lies above.
+pub(crate) fn root_among(cat: &Catalog, ways: &[ArrayVec<usize, MAX_TABLES>]) -> usize
+    requires ways { AreWays cat.now.schema ways.now }
+    ensures root { result ≡ layout.root_of cat.now.schema }
+    ensures there { result < length cat.now.schema }
+{
+    a_catalog_has_a_layout(cat);
+    for table in 0..cat.schema().tables() {
+        if is_root(cat, ways, table) {
+            return table;
+        }
+    }
+    0
 }
 
 /// The tables below a table, ascending.

@@ -2,7 +2,7 @@
 use Rattle.std.specs.Prelude.{◌≡◌, ℕ, ◌+◌, ◌-◌, ◌/◌, ◌%◌, ◌<◌, ◌≤◌, ◌⊎◌, ◌&&◌, Bool, if◌then◌else◌, true, false, ⊤, List, [], ◌∷◌, nat_lt, nat_le, Option, Some, None, Result, Ok, Err, IfSome, IfOk, IfErr, OnOk, OnErr, MatchOption}
 use Rattle.ghost_model.specs.forms.Runs as runs
 use Rattle.ghost_model.specs.forms.Gaps.{are_codes, bytes_at, listed, listed_from, reading_of, told_by}
-use Rattle.edge_traits.specs.Devices.{Device, KeepsPages, next_if}
+use Rattle.edge_traits.specs.Devices.{Device, KeepsPages, first_deep_page, next_if}
 use Rattle.page_pool.specs.Pools.{Pool, ChangesPage, page_at}
 use Rattle.flash_pages.specs.declared.cursor.RunCursor.{RunCursor}
 use Rattle.flash_pages.specs.declared.fault.PageFault.{PageFault}
@@ -187,13 +187,13 @@ LeavesUnread reads unread left (Ok answer) = left + (if reads then 1 else 0) ≤
 LeavesUnread reads unread left (Err Flash) = left ≤ unread
 LeavesUnread reads unread left (Err (Damaged number slot found)) = left + (if reads then 1 else 0) ≤ unread
 
--- What a call of a cursor says of the device and of the buffer: one page is read at most, that of the next record, and none at
--- the end of the list.
+-- What a call of a cursor says of the device and of the buffer: one page is read at most, that of the next record or code, and none
+-- at the end of the list.
 pub record CursorReads {T : Type 0} (told : Bool) (before now : Device) (pool later : Pool) (cursor : RunCursor) (result : Result T PageFault) : Type 0 where
   pub kept : KeepsPages before now
   pub calls : now.calls ≡ next_if (will_read pool cursor) before.calls
   pub at_most : now.calls ≤ before.calls + 1
-  pub deep_reads : now.deep_reads ≡ next_if (will_read pool cursor && nat_le 64 (page_next cursor)) before.deep_reads
+  pub deep_reads : now.deep_reads ≡ next_if (will_read pool cursor && nat_le first_deep_page (page_next cursor)) before.deep_reads
   pub no_fault : OnOk result (now.faults ≡ before.faults)
   pub fault : IfErr result (FaultTells before now (will_read pool cursor ≡ true))
   pub buffer : ChangesPage pool later cursor.lease

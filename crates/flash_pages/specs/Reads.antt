@@ -3,7 +3,7 @@ use Rattle.std.specs.Prelude.{◌≡◌, ℕ, ◌+◌, ◌≤◌, ◌&&◌, Bool
 use Rattle.ghost_model.specs.core.Causes.{Rose}
 use Rattle.ghost_model.specs.forms.Runs as runs
 use Rattle.ghost_model.specs.forms.Gaps.{are_codes}
-use Rattle.edge_traits.specs.Devices.{Device, KeepsPages, GaveSince, next_if}
+use Rattle.edge_traits.specs.Devices.{Device, KeepsPages, GaveSince, first_deep_page, next_if}
 use Rattle.page_pool.specs.Pools.{Pool, IsOut, ChangesPage, bytes_at, page_at}
 use Rattle.flash_pages.specs.declared.fault.PageFault.{PageFault}
 use Rattle.flash_pages.specs.declared.fault.PageFault.TheVariants.{Flash, Damaged}
@@ -68,7 +68,7 @@ pub record Reads {T : Type 0} (told : Bool) (before now : Device) (pool later : 
   pub kept : KeepsPages before now
   pub calls : now.calls ≡ next_if reads before.calls
   pub at_most : now.calls ≤ before.calls + 1
-  pub deep_reads : now.deep_reads ≡ next_if (reads && nat_le 64 number) before.deep_reads
+  pub deep_reads : now.deep_reads ≡ next_if (reads && nat_le first_deep_page number) before.deep_reads
   pub no_fault : OnOk result (now.faults ≡ before.faults)
   pub fault : IfErr result (FaultTells before now (reads ≡ true))
   pub buffer : ChangesPage pool later lease

@@ -73,6 +73,7 @@ stay_readable before now file same is = record {
   };
   wide = is.wide;
   narrow = is.narrow;
+  plain = is.plain;
 }
 
 pub held_right : ColumnFilesGiveValues → HeldColumnsAreRight

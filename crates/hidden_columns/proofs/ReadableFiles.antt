@@ -18,9 +18,10 @@ has_run cat table column device narrow order stand h enough small =
     let static = order.static in
     let spool = order.spool in
     let scratch = order.scratch in
+    let appended = order.appended in
     record {
       some = least;
       fits = omega (arith, most);
-      pages = λ i low. let here = within.page i low in omega (arith, here, end, static, spool, scratch, enough);
+      pages = λ i low. let here = within.page i low in omega (arith, here, end, static, spool, scratch, appended, enough);
       small = small;
     }

@@ -1,5 +1,6 @@
 -- The file of a hidden column, and what a call on it gives.
 use Rattle.std.specs.Prelude.{◌≡◌, ℕ, ◌-◌, ◌≤◌, ⊤, pos, List, length, Option, Some, None, Result, Ok, Err, IfSome, IfOk, IsTrue}
+use Rattle.ghost_model.specs.core.Schema.{plain_of}
 use Rattle.ghost_model.specs.core.Values.{Value, Number}
 use Rattle.ghost_model.specs.core.Channel.{Catalog}
 use Rattle.ghost_model.specs.forms.Cells.{cell_width}
@@ -23,11 +24,13 @@ pub record IsFileOf (cat : Catalog) (table column : ℕ) (file : ColumnFile) : T
   pub kind_is : kind_of file.kind ≡ kind_at cat.schema table column
   pub range_is : file.child_rows ≡ child_rows cat table column
 
--- the file may be read: the device has its pages, and its slots are as wide as the cells
+-- the file may be read: the device has its pages, and its slots are as wide as the cells, 64 bytes at most and one more where NULL
+-- may stand
 pub record IsReadable (device : Device) (file : ColumnFile) : Type 0 where
   pub has : HasRun device (run_of file.run)
   pub wide : file.run.width ≡ cell_width (kind_of file.kind)
-  pub narrow : file.run.width ≤ 64
+  pub narrow : file.run.width ≤ 65
+  pub plain : cell_width (plain_of (kind_of file.kind)) ≤ 64
 
 -- the slot of a row, by its identifier: its page, its place in it, its bytes, and the value that they spell
 abbrev pub slot_page : ColumnFile → (identifier : ℕ) → ℕ

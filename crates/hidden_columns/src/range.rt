@@ -27,7 +27,7 @@ pub(crate) fn is_in_range(rows: Option<u32>, value: &Value) -> bool
     match (rows, value) {
         (None, _) => true,
         (Some(rows), Value::Int(number)) => 1 <= *number && *number <= i64::from(rows),
-        (Some(_), Value::Chars(_)) => false,
+        (Some(_), Value::Null | Value::Chars(_)) => false,
     }
 }
 
@@ -38,6 +38,6 @@ pub(crate) fn identifier_in(value: &Value, rows: u32) -> u32
 {
     match value {
         Value::Int(number) => *number as u32,
-        Value::Chars(_) => unreachable!(),
+        Value::Null | Value::Chars(_) => unreachable!(),
     }
 }

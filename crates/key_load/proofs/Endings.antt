@@ -1,13 +1,14 @@
 -- How a loading ended, from what its parts did.
-use Rattle.std.proofs.Common.{◌≡◌, ◌⊎◌, inl, inr, ℕ, ◌≤◌, ◌<◌, ◌*◌, Bool, true, false, List, Option, Some, Result, Ok, Err, OnOk, refl, ap, subst, ◌∙◌}
+use Rattle.std.proofs.Common.{◌≡◌, ◌⊎◌, inl, inr, ℕ, ◌≤◌, ◌<◌, ◌*◌, Bool, true, false, List, Option, Some, Result, Ok, Err, OnOk, refl, ap, sym, subst, ◌∙◌, bytes_eq, if◌then◌else◌}
 use Rattle.ghost_model.specs.core.Database.{IsDatabase}
-use Rattle.ghost_model.specs.forms.Flash.{HoldsCatalog, HoldsFiles, Holds}
+use Rattle.ghost_model.specs.forms.Catalog.{current_version}
+use Rattle.ghost_model.specs.forms.Flash.{HoldsCatalog, HoldsFiles, HoldsFresh, Holds}
 use Rattle.ghost_model.specs.forms.Layout.{need}
 use Rattle.ghost_model.specs.core.Schema.{Schema}
 use Rattle.ghost_model.specs.core.Split.{Hidden, hidden_of}
 use Rattle.ghost_model.specs.core.Values.{Database}
 use Rattle.ghost_model.specs.core.Channel.{Catalog}
-use Rattle.edge_traits.specs.Devices.{Device}
+use Rattle.edge_traits.specs.Devices.{Device, ChangesOnly, is_name, pages_under}
 use Rattle.edge_traits.specs.Files.{Files, with_file}
 use Rattle.edge_traits.specs.Written.{grown, GrowsByFront}
 use Rattle.key_inputs.specs.Openings.{Opening, TablesInput}
@@ -24,16 +25,28 @@ use Rattle.key_load.specs.declared.preparing.Prepared.{Prepared}
 
 -- where the catalog was written too, what was prepared stands at both ends
 pub made : {T E : Type 0} (result : Result T E) (told : Bool) (prepared : Prepared) (words : Load) (before after : Option Files) (device : Device)
-    → OnOk result (told ≡ true → HoldsCatalog device.page prepared.cat) → (told ≡ true → HoldsFiles device.page prepared.cat prepared.hidden)
+    → OnOk result (told ≡ true → HoldsCatalog device.page prepared.cat)
+    → OnOk result (told ≡ true → prepared.cat.version ≡ current_version → HoldsFresh device.page prepared.cat) → (told ≡ true → HoldsFiles device.page prepared.cat prepared.hidden)
     → device.name ≡ Some words.flash → device.page_count ≡ 64 * prepared.blocks → OnOk result (HasImage prepared words before after)
     → OnOk result (IsMade told prepared words before after device)
-made (Ok value) told prepared words before after device catalog files name pages file = record {
+made (Ok value) told prepared words before after device catalog fresh files name pages file = record {
   name = name;
-  holds = λ t. record { catalog = catalog t; files = files t };
+  holds = λ t. record { catalog = catalog t; fresh = fresh t; files = files t };
   pages = pages;
   file = file;
 }
-made (Err fault) told prepared words before after device catalog files name pages file = tt
+made (Err fault) told prepared words before after device catalog fresh files name pages file = tt
+
+-- the pages under any other name stay where only pages of the device that is open changed
+pub others_stay : {low high : ℕ} {a b : Device} (name other : List ℕ) → ChangesOnly low high a b → a.name ≡ Some name → bytes_eq name other ≡ false
+    → pages_under b other ≡ pages_under a other
+others_stay {a = a} {b = b} name other changes named apart =
+    closed b (changes.name ∙ named) ∙ ((λ i. changes.others i other) ∙ sym (closed a named))
+  where
+    closed : (device : Device) → device.name ≡ Some name → pages_under device other ≡ device.others other
+    closed device is =
+        ap (λ under. if is_name under other then device.page else device.others other) is
+        ∙ ap (λ same. if same then device.page else device.others other) apart
 
 -- nothing was prepared
 pub unprepared : (T : Type 0) (told : Bool) (one : Loading) (before after : Outside) (fault : LoadFailure) → LeavesBoth before after

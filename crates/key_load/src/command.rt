@@ -1,7 +1,8 @@
 //! The command.
 
-ghost use Rattle.std.specs.Prelude.{◌≡◌, ◌⊎◌, true, Some, Err, ℕ, List};
+ghost use Rattle.std.specs.Prelude.{◌≡◌, ◌⊎◌, true, false, Some, Err, ℕ, List, bytes_eq};
 ghost use Rattle.ghost_model.specs.core.Causes.{Rose};
+ghost use Rattle.edge_traits.specs.Devices.{pages_under};
 ghost use Rattle.edge_traits.specs.Files.{Files, AreSure, SameBut};
 ghost use Rattle.key_words.specs.Views.{load_view};
 ghost use Rattle.key_inputs.specs.Openings.{InputFault, Spelled, Broken, TablesInput, tables_opening};
@@ -21,12 +22,12 @@ use key_words::LoadWords;
 use std::alloc::Global;
 
 /// Does the command `load`: reads the schema and the files of its tables, makes the flash and writes the files of the
-/// hidden part to it, then writes the host's file, then the catalog's pages from the last to page 0, and prints
-/// `= tables t rows r pages p`.
+/// hidden part to it, then writes the host's file, then the gate, its header and the catalog's pages from the last to page 0, and
+/// prints `= tables t rows r pages p`.
 ///
 /// Until the flash is made, it and the host's file are as before: it is made where all files were read and it is to be large
-/// enough, and under its own name. As long as page 0 is blank, its pages spell no catalog. Where only the line could not be
-/// printed, both files stand.
+/// enough, and under its own name; the devices of other names stay as they are. As long as page 0 is blank, its pages spell no
+/// catalog. Where only the line could not be printed, both files stand.
 pub fn load<D: Depot, F: Flash, O: Sink>(
     alloc: Global,
     words: &LoadWords<'_>,
@@ -50,6 +51,7 @@ pub fn load<D: Depot, F: Flash, O: Sink>(
     ensures file_left { leaves_file result ≡ true → D.contents depot.new ≡ D.contents depot.old }
     ensures made_first { (F.state flash.new).page_count ≡ 0 → D.contents depot.new ≡ D.contents depot.old }
     ensures never_other { (F.state flash.new ≡ F.state flash.old) ⊎ ((other : List ℕ) → (F.state flash.new).name ≡ Some other → other ≡ words.now.flash.now) }
+    ensures other_flashes { F.told ≡ true → (other : List ℕ) → bytes_eq words.now.flash.now other ≡ false → pages_under (F.state flash.new) other ≡ pages_under (F.state flash.old) other }
     ensures page_0 { leaves_page_0 result ≡ true → (F.state flash.new ≡ F.state flash.old) ⊎ HasBlankPage0 (F.state flash.new) }
     ensures unsealed { (F.state flash.new ≡ F.state flash.old) ⊎ IsUnsealed F.told (F.state flash.new) }
     ensures others { SameBut words.now.visible.now (D.contents depot.old) (D.contents depot.new) }

@@ -1,10 +1,11 @@
 //! The writing of both ends' files.
 
-ghost use Rattle.std.specs.Prelude.{◌≡◌, ◌<◌, ◌≤◌, ◌*◌, true, false, Some, Err, OnOk, ℕ, List};
-ghost use Rattle.ghost_model.specs.forms.Flash.{HoldsCatalog, HoldsFiles, IsHidden};
+ghost use Rattle.std.specs.Prelude.{◌≡◌, ◌<◌, ◌≤◌, ◌*◌, true, false, Some, Err, OnOk, ℕ, List, bytes_eq};
+ghost use Rattle.ghost_model.specs.forms.Catalog.{current_version};
+ghost use Rattle.ghost_model.specs.forms.Flash.{HoldsCatalog, HoldsFiles, HoldsFresh, IsHidden};
 ghost use Rattle.ghost_model.specs.forms.Layout as layout;
 ghost use Rattle.ghost_model.specs.core.Split.{Hidden};
-ghost use Rattle.edge_traits.specs.Devices.{IsErased};
+ghost use Rattle.edge_traits.specs.Devices.{ChangesOnly, IsErased, pages_under};
 ghost use Rattle.edge_traits.specs.Files.{SameBut, with_file};
 ghost use Rattle.flash_build.specs.Sealing.{SpellsNoCatalog};
 ghost use Rattle.key_words.specs.Blocks.{most_blocks};
@@ -23,7 +24,7 @@ use flash_layout::limits::a_catalog_has_a_layout;
 use key_words::LoadWords;
 use std::alloc::Global;
 
-/// Makes the flash and writes the hidden part to it, then writes the host's file, then the catalog's pages.
+/// Makes the flash and writes the hidden part to it, then writes the host's file, then the public pages.
 pub(crate) fn make_both<D: Depot, F: Flash>(
     alloc: Global,
     prepared: &Prepared,
@@ -38,6 +39,7 @@ pub(crate) fn make_both<D: Depot, F: Flash>(
     ensures kinds { IsOfMaking result }
     ensures in_order { IsMadeInOrder F.told prepared.now (load_view words.now) result (D.contents depot.old) (D.contents depot.new) (F.state flash.new) }
     ensures never_other { (other : List ℕ) → (F.state flash.new).name ≡ Some other → other ≡ words.now.flash.now }
+    ensures other_flashes { F.told ≡ true → (other : List ℕ) → bytes_eq words.now.flash.now other ≡ false → pages_under (F.state flash.new) other ≡ pages_under (F.state flash.old) other }
     ensures page_0 { leaves_page_0 result ≡ true → HasBlankPage0 (F.state flash.new) }
     ensures unsealed { IsUnsealed F.told (F.state flash.new) }
     ensures file_left { leaves_file result ≡ true → D.contents depot.new ≡ D.contents depot.old }
@@ -63,20 +65,20 @@ pub(crate) fn make_both<D: Depot, F: Flash>(
     }
 }
 
-/// Writes the host's file, and then the catalog's pages, which seal the flash.
+/// Writes the host's file, and then the gate, its header and the catalog's pages, which seal the flash.
 fn write_both<D: Depot, F: Flash>(
     prepared: &Prepared,
     words: &LoadWords<'_>,
     depot: &mut D,
     flash: &mut F,
 ) -> Result<(), LoadFailure>
-    requires there { layout.public_pages ≤ (F.state flash.old).page_count }
-    requires erased { IsErased F.told 0 layout.public_pages (F.state flash.old) }
+    requires there { layout.public_pages prepared.now.cat ≤ (F.state flash.old).page_count }
+    requires erased { IsErased F.told 0 (layout.public_pages prepared.now.cat) (F.state flash.old) }
     requires unsealed { 0 < (F.state flash.old).page_count → F.told ≡ true → SpellsNoCatalog (F.state flash.old).page }
     ensures catalog { OnOk result (F.told ≡ true → HoldsCatalog (F.state flash.new).page prepared.now.cat) }
+    ensures fresh { OnOk result (F.told ≡ true → prepared.now.cat.version ≡ current_version → HoldsFresh (F.state flash.new).page prepared.now.cat) }
     ensures files { (hidden : Hidden) → HoldsFiles (F.state flash.old).page prepared.now.cat hidden → HoldsFiles (F.state flash.new).page prepared.now.cat hidden }
-    ensures named { (F.state flash.new).name ≡ (F.state flash.old).name }
-    ensures pages { (F.state flash.new).page_count ≡ (F.state flash.old).page_count }
+    ensures device { ChangesOnly 0 (layout.public_pages prepared.now.cat) (F.state flash.old) (F.state flash.new) }
     ensures file { OnOk result (D.contents depot.new ≡ with_file (D.contents depot.old) words.now.visible.now prepared.now.image.items) }
     ensures flash_file { result ≡ Err failure.Flash → D.contents depot.new ≡ with_file (D.contents depot.old) words.now.visible.now prepared.now.image.items }
     ensures kinds { IsOfWriting result }
@@ -88,8 +90,10 @@ fn write_both<D: Depot, F: Flash>(
     ensures flash { IsTold (told_by result).flash (F.state flash.old).faults (F.state flash.new).faults }
     ensures appends { D.append_faults depot.new ≡ D.append_faults depot.old }
 {
+    let cat = &prepared.cat;
+    a_catalog_has_a_layout(cat);
     match depot.replace(words.visible, &prepared.image) {
-        Ok(()) => match seal(&prepared.cat, flash) {
+        Ok(()) => match seal(cat, flash) {
             Ok(()) => Ok(()),
             Err(_) => Err(LoadFailure::Flash),
         },

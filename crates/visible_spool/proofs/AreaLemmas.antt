@@ -21,8 +21,27 @@ by_empty width [] pages some = absurd (omega (arith, some))
 by_empty width (column ∷ columns) pages some = refl
 
 pub has_pages : (cat : Catalog) (table : ℕ) → 4 < layout.spool_width cat.schema table
-    → layout.spool_pages cat table ≡ layout.in_blocks (pages_of (layout.count_of cat table) (layout.spool_width cat.schema table))
-has_pages cat table some = by_empty (layout.width_at cat.schema table) (layout.visible_columns cat.schema table) (layout.in_blocks (pages_of (layout.count_of cat table) (layout.spool_width cat.schema table))) some
+    → layout.spool_pages cat table ≡ layout.in_blocks (pages_of (layout.row_room cat table) (layout.spool_width cat.schema table))
+has_pages cat table some = by_empty (layout.width_at cat.schema table) (layout.visible_columns cat.schema table) (layout.in_blocks (pages_of (layout.row_room cat table) (layout.spool_width cat.schema table))) some
+
+-- more rows need no fewer pages
+more_by : (each rows room : ℕ) → rows ≤ room → (rows + (each - 1)) / each ≤ (room + (each - 1)) / each
+more_by zero rows room low = omega arith
+more_by (suc each) rows room low =
+    let a : (rows + (suc each - 1)) / suc each * suc each ≤ rows + (suc each - 1) = div-mul-le_self (rows + (suc each - 1)) (suc each) in
+    le-div ((rows + (suc each - 1)) / suc each) (room + (suc each - 1)) (suc each) (omega arith) (omega (arith, a, low))
+
+more_pages : (rows room width : ℕ) → rows ≤ room → layout.in_blocks (pages_of rows width) ≤ layout.in_blocks (pages_of room width)
+more_pages rows room width low = let h = more_by (per_page width) rows room low in omega (arith, h)
+
+-- the area of a table has room for its rows
+has_room : (cat : Catalog) (table : ℕ) (area : Area) → area.rows ≡ layout.count_of cat table → area.width ≡ layout.spool_width cat.schema table
+    → 4 < area.width → layout.in_blocks (pages_of area.rows area.width) ≤ layout.spool_pages cat table
+has_room cat table area rows_is width_is some =
+    let has = has_pages cat table (omega (arith, some, width_is)) in
+    let more = more_pages area.rows (layout.row_room cat table) area.width (omega (arith, rows_is)) in
+    let wide = ap (λ w. layout.in_blocks (pages_of (layout.row_room cat table) w)) width_is in
+    omega (arith, has, more, wide)
 
 before_end : (cat : Catalog) (table : ℕ) → SumsByPlace → table < length cat.schema
     → sum_by (layout.spool_pages cat) (layout.below table) + layout.spool_pages cat table ≤ layout.half_pages cat
@@ -34,10 +53,8 @@ before_end cat table sums there =
 module _ (cat : Catalog) (table : ℕ) (area : Area) (laid : HasLayout cat) (sums : SumsByPlace) (there : table < length cat.schema)
     (even_is : area.even ≡ (layout.spool_area cat 0 table).first) (odd_is : area.odd ≡ (layout.spool_area cat 1 table).first)
     (rows_is : area.rows ≡ layout.count_of cat table) (width_is : area.width ≡ layout.spool_width cat.schema table) where
-  room : 4 < area.width → layout.spool_pages cat table ≡ layout.in_blocks (pages_of area.rows area.width)
-  room some =
-      has_pages cat table (omega (arith, some, width_is))
-      ∙ (ap (λ n. layout.in_blocks (pages_of n (layout.spool_width cat.schema table))) (sym rows_is) ∙ ap (λ w. layout.in_blocks (pages_of area.rows w)) (sym width_is))
+  room : 4 < area.width → layout.in_blocks (pages_of area.rows area.width) ≤ layout.spool_pages cat table
+  room = has_room cat table area rows_is width_is
 
   pub its_area : IsAreaOf cat table area
   its_area =
@@ -59,14 +76,15 @@ module _ (cat : Catalog) (table : ℕ) (area : Area) (laid : HasLayout cat) (sum
       let narrow = laid.narrow.spool table in
       let few = laid.few.rows table in
       let scratch = laid.order.scratch in
+      let appended = laid.order.appended in
       record {
         even_block = omega (arith, even_is, even);
         odd_block = omega (arith, odd_is, odd);
         wide = omega (arith, width_is);
         narrow = omega (arith, width_is, narrow);
         most = omega (arith, rows_is, few);
-        even_there = λ some. let r = room some in omega (arith, even_is, end, r, scratch, need);
-        odd_there = λ some. let r = room some in omega (arith, odd_is, end, r, scratch, need);
+        even_there = λ some. let r = room some in omega (arith, even_is, end, r, scratch, appended, need);
+        odd_there = λ some. let r = room some in omega (arith, odd_is, end, r, scratch, appended, need);
       }
 
 -- narrower rows need no more pages
@@ -90,7 +108,7 @@ fewer_pages_by count n m some low =
     let c = div_below (count + (m - 1)) m (p + 1) (omega (arith, some, low)) (omega (arith, enough, b, some, low)) in
     omega (arith, c)
 
-pub fewer_pages : (count width most : ℕ) → 4 ≤ width → width ≤ most → most ≤ 1540 → layout.in_blocks (pages_of count width) ≤ layout.in_blocks (pages_of count most)
+pub fewer_pages : (count width most : ℕ) → 4 ≤ width → width ≤ most → most ≤ 1564 → layout.in_blocks (pages_of count width) ≤ layout.in_blocks (pages_of count most)
 fewer_pages count width most wide low narrow =
     let each = more_a_page width most (omega (arith, wide)) low in
     let one = le-div 1 2048 most (omega (arith, wide, low)) (omega (arith, narrow)) in
@@ -132,10 +150,7 @@ apart_by false area behind pages e o = o
 
 pub lie_apart : SumsByPlace → AreasLieApart
 lie_apart sums cat table other area behind text less some is later =
-    let width = is.width_is in
-    let r : layout.spool_pages cat table ≡ layout.in_blocks (pages_of area.rows area.width) =
-    has_pages cat table (omega (arith, some, width))
-    ∙ (ap (λ n. layout.in_blocks (pages_of n (layout.spool_width cat.schema table))) (sym is.rows_is) ∙ ap (λ w. layout.in_blocks (pages_of area.rows w)) (sym is.width_is)) in
+    let r = has_room cat table area is.rows_is is.width_is some in
     let step = sums.next (layout.spool_pages cat) table in
     let rise = sums.rise (layout.spool_pages cat) (table + 1) other (omega (arith, less)) in
     let a = is.even_is in

@@ -24,7 +24,7 @@ use Rattle.visible_spool.specs.Laws.{LiesWithin}
 use Rattle.visible_spool.specs.Hands.{CanBegin, CanPut, IsReplyOf, area_end}
 use Rattle.visible_spool.proofs.Places.{row_has_page}
 
-some_rows_in : (reply : Reply) → 4 ≤ reply.run.width → reply.run.width ≤ 1540 → 0 < per_page reply.run.width
+some_rows_in : (reply : Reply) → 4 ≤ reply.run.width → reply.run.width ≤ 1564 → 0 < per_page reply.run.width
 some_rows_in reply wide narrow = let e = le-div 1 2048 reply.run.width (omega (arith, wide)) (omega (arith, narrow)) in omega (arith, e)
 
 -- pages are left as long as rows are

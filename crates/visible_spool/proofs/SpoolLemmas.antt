@@ -48,7 +48,7 @@ there_by true area pages most e o = e
 there_by false area pages most e o = o
 
 -- a reply lies in its area
-pub area_within : (area : Area) (text : ℕ) (reply : Reply) → area.width ≤ 1540 → reply.run.first ≡ first_of area text → reply.rows ≡ area.rows
+pub area_within : (area : Area) (text : ℕ) (reply : Reply) → area.width ≤ 1564 → reply.run.first ≡ first_of area text → reply.rows ≡ area.rows
     → 4 ≤ reply.run.width → reply.run.width ≤ area.width → area_end reply ≤ end_of area text
 area_within area text reply narrow first rows wide fits =
     let fewer = fewer_pages area.rows reply.run.width area.width wide fits narrow in

@@ -2,7 +2,7 @@
 use Rattle.std.proofs.Common.{◌≡◌, ap, refl, ℕ, zero, suc, ◌+◌, ◌-◌, ◌<◌, ◌≤◌, Bool, true, false, ◌&&◌, nat_lt, List, [], ◌∷◌, length, filter, sum_by, Option, None, Some, slice_get, arith}
 use Rattle.std.specs.Prelude.{cond}
 use Rattle.std.specs.Option.{option_map_or}
-use Rattle.ghost_model.specs.core.Schema.{Kind, Integer, Chars, Column, columns_of, column_at, is_shown, is_visible}
+use Rattle.ghost_model.specs.core.Schema.{Kind, Integer, Chars, IntegerOrNull, CharsOrNull, Column, columns_of, column_at, is_shown, is_visible}
 use Rattle.ghost_model.specs.core.Channel.{Catalog}
 use Rattle.ghost_model.specs.forms.Cells.{cell_width}
 use Rattle.ghost_model.specs.laws.ShortWords as short
@@ -13,6 +13,8 @@ use Rattle.visible_spool.specs.Laws.{VisibleTablesHaveRoom}
 kind_least : (kind : Kind) → ((most : ℕ) → kind ≡ Chars most → 1 ≤ most) → 0 < cell_width kind
 kind_least Integer h = omega arith
 kind_least (Chars most) h = let least = h most refl in omega (arith, least)
+kind_least IntegerOrNull h = omega arith
+kind_least (CharsOrNull most) h = omega arith
 
 width_least : (o : Option Column) → ((held : Column) → o ≡ Some held → 0 < cell_width held.kind) → is_shown o ≡ true
     → 0 < option_map_or (λ (held : Column). cell_width held.kind) o 0

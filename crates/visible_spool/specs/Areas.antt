@@ -45,7 +45,7 @@ pub record IsArea (device : Device) (area : Area) : Type 0 where
   pub even_block : area.even % 64 ≡ 0
   pub odd_block : area.odd % 64 ≡ 0
   pub wide : 4 ≤ area.width
-  pub narrow : area.width ≤ 1540
+  pub narrow : area.width ≤ 1564
   pub most : area.rows ≤ 1000000
   pub even_there : 4 < area.width → area.even + layout.in_blocks (pages_of area.rows area.width) ≤ device.page_count
   pub odd_there : 4 < area.width → area.odd + layout.in_blocks (pages_of area.rows area.width) ≤ device.page_count

@@ -21,7 +21,7 @@ pub record CanBegin (device : Device) (reply : Reply) : Type 0 where
   pub there : area_end reply ≤ device.page_count
   pub small : device.page_count < 2 ^ 32
   pub wide : 4 ≤ reply.run.width
-  pub narrow : reply.run.width ≤ 1540
+  pub narrow : reply.run.width ≤ 1564
   pub most : reply.rows ≤ 1000000
   pub cells : reply.cells ≤ 24
   pub kinds : IsTrue (list_all is_narrow (kinds_of reply))

@@ -1,7 +1,7 @@
 -- The reply to an ask as it stands in the spool, and what a look-up in it gives.
 use Rattle.std.specs.Prelude.{◌≡◌, ◌≢◌, ℕ, ◌+◌, ◌-◌, ◌<◌, ◌≤◌, ◌&&◌, ⊤, Bool, true, false, nat_lt, nat_le, List, [], length, map, take, drop, get_or, Option, Some, None, Result, Ok, Err, IsTrue}
 use Rattle.std.specs.List.{list_all}
-use Rattle.ghost_model.specs.core.Schema.{Kind}
+use Rattle.ghost_model.specs.core.Schema.{Kind, plain_of}
 use Rattle.ghost_model.specs.core.Asks.{RowCells, row_in}
 use Rattle.ghost_model.specs.core.NextMove.{are_cells}
 use Rattle.ghost_model.specs.forms.Cells.{cell_width}
@@ -15,9 +15,9 @@ use Rattle.flash_pages.specs.declared.fault.PageFault.{PageFault}
 use Rattle.flash_pages.specs.declared.fault.PageFault.TheVariants.{Flash, Damaged}
 use Rattle.visible_spool.specs.declared.reply.Reply.{Reply}
 
--- whether the cells of a kind are as narrow as those of a declared column
+-- whether the cells of a kind are as narrow as those of a declared column: 64 bytes, and one more where NULL may stand
 abbrev pub is_narrow : Kind → Bool
-is_narrow kind = nat_le (cell_width kind) 64
+is_narrow kind = nat_le (cell_width (plain_of kind)) 64
 
 -- the kinds of a row's cells
 abbrev pub kinds_of : Reply → List Kind
@@ -26,7 +26,7 @@ kinds_of reply = map kind_of (take reply.cells reply.kinds)
 -- a reply has no more rows than its table, and each row's bytes are those of an identifier and at most 24 cells
 pub record IsSound (reply : Reply) : Type 0 where
   pub wide : 4 ≤ reply.run.width
-  pub narrow : reply.run.width ≤ 1540
+  pub narrow : reply.run.width ≤ 1564
   pub few : reply.run.count ≤ reply.rows
   pub most : reply.rows ≤ 1000000
   pub cells : reply.cells ≤ 24

@@ -57,7 +57,7 @@ pub record IsAsked (spool : Spool) (text table : ℕ) (kinds : List Kind) (width
   pub visible : 4 < (area_at spool table).width
   pub wide : 4 ≤ width
   pub fits : width ≤ (area_at spool table).width
-  pub narrow_row : width ≤ 1540
+  pub narrow_row : width ≤ 1564
   pub few : length kinds ≤ 24
   pub narrow : IsTrue (list_all is_narrow (map kind_of kinds))
   pub same_kinds : is_at spool text table ≡ true → kinds_of spool.hand.reply ≡ map kind_of kinds

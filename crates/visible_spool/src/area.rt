@@ -61,7 +61,7 @@ fn area_of(laid: &Layout<'_>, table: usize) -> Area
     Area {
         even: even.first,
         odd: odd.first,
-        rows: even.count,
+        rows: laid.rows(table),
         width: even.width,
     }
 }

@@ -38,7 +38,7 @@ impl Hand {
     /// Begins another reply. Rows of the one before that were not written are lost.
     pub(crate) fn begin(&mut self, text: u32, table: usize, reply: Reply)
         requires wide { 4 ≤ reply.run.width }
-        requires narrow { reply.run.width ≤ 1540 }
+        requires narrow { reply.run.width ≤ 1564 }
         ensures text { self.new.text ≡ text }
         ensures table { self.new.table ≡ table }
         ensures reply { self.new.reply ≡ reply }

@@ -39,7 +39,7 @@ impl Reply {
     /// The bytes of the row at a place, in the bytes of the page in which it stands.
     pub fn row<'p>(&self, page: &'p [u8; 2048], place: u32) -> &'p [u8]
         requires wide { 4 ≤ self.now.run.width }
-        requires narrow { self.now.run.width ≤ 1540 }
+        requires narrow { self.now.run.width ≤ 1564 }
         ensures row { result.now ≡ row_at self.now page.now place }
         ensures width { length result.now ≡ self.now.run.width }
     {
@@ -49,7 +49,7 @@ impl Reply {
     /// Its identifier.
     fn id_at(&self, bytes: &[u8; 2048], place: u32) -> u32
         requires wide { 4 ≤ self.now.run.width }
-        requires narrow { self.now.run.width ≤ 1540 }
+        requires narrow { self.now.run.width ≤ 1564 }
         ensures id { result ≡ id_at self.now bytes.now place }
     {
         number_at(self.row(bytes, place), 0)

@@ -6,8 +6,8 @@ ghost use Rattle.ghost_model.specs.core.Asks.{row_in};
 use flash_pages::cells::number_at;
 use std::marker::Model;
 
-/// The most bytes of a row: an identifier of 4 bytes and 24 cells of 64 bytes.
-pub const MAX_ROW: usize = 1540;
+/// The most bytes of a row: an identifier of 4 bytes and 24 cells of 65 bytes.
+pub const MAX_ROW: usize = 1564;
 
 /// A row of a reply. A clause sees its identifier and the bytes of its cells.
 #[derive(Drop)]
@@ -24,14 +24,14 @@ impl Model for SpoolRow {
 
     ghost view = { λ row. row_in (take row.size row.bytes) };
 
-    ghost invariant = { λ row. (4 ≤ row.size) × (row.size ≤ 1540) × (length row.bytes ≡ 1540) };
+    ghost invariant = { λ row. (4 ≤ row.size) × (row.size ≤ 1564) × (length row.bytes ≡ 1564) };
 }
 
 impl SpoolRow {
     /// The row that has these bytes, 4 to 1,540 of them.
     pub(crate) fn of(bytes: &[u8]) -> SpoolRow
         requires some { 4 ≤ length bytes.now }
-        requires most { length bytes.now ≤ 1540 }
+        requires most { length bytes.now ≤ 1564 }
         ensures row { result ≡ row_in bytes.now }
     {
         let mut places = [0; MAX_ROW];

@@ -91,7 +91,7 @@ impl Reply {
     /// The pages in which an identifier may stand, since those before it and behind it leave it a range of places.
     fn looking(&self, id: u32) -> Looking
         requires wide { 4 ≤ self.now.run.width }
-        requires narrow { self.now.run.width ≤ 1540 }
+        requires narrow { self.now.run.width ≤ 1564 }
         requires few { self.now.run.count ≤ self.now.rows }
         requires most { self.now.rows ≤ 1000000 }
         ensures within { result.high ≤ pages_in self.now }
@@ -117,7 +117,7 @@ impl Reply {
     /// Where a search stands: one that is new begins with all pages in which the identifier may stand.
     fn begun(&self, search: Search, id: u32) -> Looking
         requires wide { 4 ≤ self.now.run.width }
-        requires narrow { self.now.run.width ≤ 1540 }
+        requires narrow { self.now.run.width ≤ 1564 }
         requires few { self.now.run.count ≤ self.now.rows }
         requires most { self.now.rows ≤ 1000000 }
         requires search { IsSearch self.now search }
@@ -135,7 +135,7 @@ impl Reply {
     /// The page that is guessed by proportion, counted from the first one.
     fn guess(&self, below: Known, above: Known, id: u32) -> u32
         requires wide { 4 ≤ self.now.run.width }
-        requires narrow { self.now.run.width ≤ 1540 }
+        requires narrow { self.now.run.width ≤ 1564 }
         ensures page { result ≡ guessed_page self.now below above id }
     {
         let ids = above.id.saturating_sub(below.id).max(1) as u64;
@@ -149,7 +149,7 @@ impl Reply {
     /// The page that is looked at next: by proportion as long as guesses are left, and then the middle one.
     fn next_page(&self, looking: Looking, id: u32) -> u32
         requires wide { 4 ≤ self.now.run.width }
-        requires narrow { self.now.run.width ≤ 1540 }
+        requires narrow { self.now.run.width ≤ 1564 }
         requires open { looking.low < looking.high }
         ensures low { looking.low ≤ result }
         ensures high { result < looking.high }
@@ -167,7 +167,7 @@ impl Reply {
     /// The fault of the slot of the row at a place, in the page that has these bytes.
     fn damage(&self, bytes: &[u8; 2048], place: u32) -> PageFault
         requires wide { 4 ≤ self.now.run.width }
-        requires narrow { self.now.run.width ≤ 1540 }
+        requires narrow { self.now.run.width ≤ 1564 }
         requires page { runs.page_of (run_of self.now.run) place < 2 ^ 32 }
         ensures fault { result ≡ Damaged (runs.page_of (run_of self.now.run) place) (runs.slot_of (run_of self.now.run) place) (runs.found_in (row_at self.now bytes.now place)) }
         ensures wide { length (row_at self.now bytes.now place) ≡ self.now.run.width }

@@ -3,6 +3,7 @@
 ghost use Rattle.std.specs.Prelude.{◌≡◌, ◌<◌, ◌≤◌, ◌+◌, ◌-◌, ◌*◌, ◌++◌, ◌∷◌, [], ◌^◌, ℕ, Bool, true, false, List, length, map, drop, IfSome, OnOk, OnErr};
 ghost use Rattle.ghost_model.specs.forms.Runs.{number_in};
 ghost use Rattle.ghost_model.specs.core.NextMove.{are_cells};
+ghost use Rattle.ghost_model.specs.forms.Catalog.{current_version};
 ghost use Rattle.ghost_model.specs.forms.Layout as layout;
 ghost use Rattle.ghost_base.specs.Views.{kind_of};
 ghost use Rattle.edge_traits.specs.Devices.{Device};
@@ -76,6 +77,7 @@ fn reply_at(first: u32, rows: u32, kinds: &[Kind], width: u32) -> Reply
 impl Spool {
     /// A spool without replies, of which `lease` is the buffer.
     pub fn begin(cat: &Catalog, lease: Lease) -> Spool
+        requires version { cat.now.version ≡ current_version }
         ensures areas { AreAreasOf cat.now result.areas.items }
         ensures lease { result.hand.writer.lease ≡ lease }
         ensures none { result.hand.text ≡ 0 }

@@ -14,7 +14,7 @@ write_tables-requires-clause-can g c =
     let enough : layout.need c.args.cat.now ≤ (g.F.Flash.state c.args.flash.now).page_count =
     omega (arith, c.if-have-need.false, c.need-need.ensures.pages, c.pages-have.ensures, needed) in
     let small : (g.F.Flash.state c.args.flash.now).page_count < 2 ^ 32 = search rules in
-    subst (λ (cat : Catalog). CanFill (g.F.Flash.state c.args.flash.now) layout.public_pages (layout.files_end cat - layout.public_pages)) (sym same)
+    subst (λ (cat : Catalog). CanFill (g.F.Flash.state c.args.flash.now) (layout.public_pages cat) (layout.files_end cat - layout.public_pages cat)) (sym same)
     (can_fill_files c.a_catalog_has_a_layout.ensures.layout.order c.requires.blank enough small)
 
 pub returns-clause-exact : goal.returns-clause-exact

@@ -9,7 +9,7 @@ use Rattle.csv_split.specs.declared.cells.Cells.{Cells}
 use Rattle.csv_split.specs.Cells.{values_in}
 use Rattle.csv_split.specs.Tables.{IsColumn}
 use Rattle.index_lists.specs.Ranks.{number_cells}
-use Rattle.flash_build.proofs.HiddenCells.{width_of_kind, part_fits, cell_widths}
+use Rattle.flash_build.proofs.HiddenCells.{width_of_kind, part_fits, plain_cells_fit, cell_widths}
 use Rattle.flash_build.proofs.HiddenValues.{values_are, none_are, numbers_are, texts_are, all_fit}
 use Rattle.flash_build.proofs.columns.column_cells.Goals as goal
 
@@ -188,7 +188,7 @@ invariant_of-result-in-Some-Texts c =
     let width = c.width-width.ensures.value ∙ sym (width_of_kind (column_at cat.schema table column)) in
     let size : length texts ≡ layout.count_of cat table = sym (length-map texts Text) ∙ are.long in
     let most = laid.few.rows table in
-    let narrow = laid.narrow.most table column in
+    let narrow = plain_cells_fit cat.schema laid.tree laid.cells table column c.requires.hidden in
     record {
       some = c.width-width.ensures.least c.requires.hidden;
       narrow = omega (arith, c.width-width.ensures.value, narrow);

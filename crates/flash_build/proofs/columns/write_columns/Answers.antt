@@ -1,9 +1,9 @@
-use Rattle.std.proofs.Common.{◌≡◌, sym, subst, refl, Err, arith, rules}
+use Rattle.std.proofs.Common.{◌≡◌, ap, sym, subst, refl, Err, arith, rules}
 use Rattle.ghost_model.specs.laws.ShortWords as short
 use Rattle.ghost_model.specs.forms.Layout as layout
 use Rattle.ghost_model.specs.laws.LayoutSums as sums
 use Rattle.flash_build.specs.Building.{Wrote}
-use Rattle.flash_build.proofs.Writes.{written, written_more, written_as, wrote_after, fails}
+use Rattle.flash_build.proofs.Writes.{written, written_more, written_as, wrote_after, wrote_ok, fails}
 use Rattle.flash_build.proofs.TableFiles.{can_fill_column, column_ends, columns_more}
 use Rattle.flash_build.proofs.columns.write_columns.Goals as goal
 
@@ -38,6 +38,15 @@ loop-column-preserved g c =
           written_as refl (omega (arith, next)) (sym next)
           (written_more (omega arith) (omega arith) was.wrote (written step.wrote));
     }
+
+pub returns-clause-wrote : goal.returns-clause-wrote
+returns-clause-wrote g c =
+    let cat = c.args.laid.now in
+    let table = c.args.table in
+    let all : c.loop-column.column ≡ short.column_count cat.schema table =
+    omega (arith, c.columns-column-end.ensures.count, c.loop-column.auto.column-end, c.loop-column-test.false) in
+    wrote_ok
+    (written_as refl (ap (sums.column_begin cat table) all) (ap (sums.column_pages_before cat table) all) c.loop-column.invariant.wrote)
 
 pub returns-clause-stores : goal.returns-clause-stores
 returns-clause-stores g c = λ told column h.

@@ -1,10 +1,10 @@
-use Rattle.std.proofs.Common.{◌≡◌, ◌<◌, sym, subst, refl, Err, arith, rules}
+use Rattle.std.proofs.Common.{◌≡◌, ◌<◌, ℕ, sym, subst, refl, Err, arith, rules}
 use Rattle.ghost_model.specs.laws.ShortWords as short
 use Rattle.ghost_model.specs.forms.Layout as layout
 use Rattle.ghost_model.specs.laws.LayoutSums as sums
 use Rattle.ghost_model.specs.laws.WorkLaws.{indexes_written}
 use Rattle.flash_build.specs.Building.{Wrote}
-use Rattle.flash_build.proofs.Writes.{written, written_more, written_as, wrote_after, fails}
+use Rattle.flash_build.proofs.Writes.{Written, written, written_more, written_as, wrote_after, wrote_ok, fails}
 use Rattle.flash_build.proofs.TableFiles.{can_fill_index, index_ends, indexes_more, written_next, written_rise}
 use Rattle.flash_build.proofs.indexes.write_indexes.Goals as goal
 
@@ -47,3 +47,12 @@ returns-clause-holds g c = λ told column h.
     let there = c.layout_laws.ensures.layout.order.there_are c.args.table column h in
     c.loop-column.invariant.holds told column
     (omega (arith, there.1, c.columns-column-end.ensures.count, c.loop-column.auto.column-end, c.loop-column-test.false)) h
+
+pub returns-clause-wrote : goal.returns-clause-wrote
+returns-clause-wrote g c =
+    let cat = c.args.laid.now in
+    let table = c.args.table in
+    let last : c.loop-column.column ≡ short.column_count cat.schema table =
+    omega (arith, c.columns-column-end.ensures.count, c.loop-column.auto.column-end, c.loop-column-test.false) in
+    let W : ℕ → Type 0 = λ done. Written (sums.indexes_begin cat table) (sums.index_begin cat table done) (indexes_written cat c.args.hidden.now table done) (g.F.Flash.state c.args.flash.now) (g.F.Flash.state c.loop-column.flash) in
+    wrote_ok (subst W last c.loop-column.invariant.wrote)

@@ -60,3 +60,17 @@ returns-in_err-write_indexes-clause-wrote g c =
     subst (λ r. Wrote (sums.table_begin cat table) (sums.table_begin cat table + sums.table_pages cat table) (table_written cat c.args.hidden.now table)
     (g.F.Flash.state c.args.flash.now) (g.F.Flash.state c.write_indexes.new.flash) r) (sym same)
     (fails e step (sums.table_begin cat table) (sums.table_begin cat table + sums.table_pages cat table) (table_written cat c.args.hidden.now table) (omega arith) (omega arith) (omega arith))
+
+pub write_subtree-requires-clause-can : goal.write_subtree-requires-clause-can
+write_subtree-requires-clause-can g c =
+    can_fill_rest c.requires.can (written c.in_ok-write_columns.ensures.wrote).others (omega arith) (omega arith) (omega arith)
+
+pub returns-in_err-write_columns-clause-wrote : goal.returns-in_err-write_columns-clause-wrote
+returns-in_err-write_columns-clause-wrote g c =
+    let cat = c.args.laid.now in
+    let table = c.args.table in
+    let e = c.in_err-write_columns.field-0.0 in
+    let same : c.from_residual.result ≡ Err e = search rules in
+    subst (λ r. Wrote (sums.table_begin cat table) (sums.table_begin cat table + sums.table_pages cat table) (table_written cat c.args.hidden.now table)
+    (g.F.Flash.state c.args.flash.now) (g.F.Flash.state c.write_columns.new.flash) r) (sym same)
+    (fails e c.in_err-write_columns.ensures.wrote (sums.table_begin cat table) (sums.table_begin cat table + sums.table_pages cat table) (table_written cat c.args.hidden.now table) (omega arith) (omega arith) (omega arith))

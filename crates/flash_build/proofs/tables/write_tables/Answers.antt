@@ -26,9 +26,9 @@ returns-in_err-write_table-clause-wrote g c =
     let rise = sizes_rise cat c.args.hidden.now table less in
     let all = sizes_are c.pages_add_up.ensures cat c.args.hidden.now in
     let step = wrote_after (Err c.in_err-write_table.field-0.0) (omega arith) (omega arith) c.loop-table.invariant.wrote c.in_err-write_table.ensures.wrote in
-    subst (λ r. Wrote layout.public_pages (layout.files_end cat) (work.file_pages cat c.args.hidden.now)
+    subst (λ r. Wrote (layout.public_pages cat) (layout.files_end cat) (work.file_pages cat c.args.hidden.now)
     (g.F.Flash.state c.args.flash.now) (g.F.Flash.state c.write_table.new.flash) r) (sym same)
-    (fails c.in_err-write_table.field-0.0 step layout.public_pages (layout.files_end cat) (work.file_pages cat c.args.hidden.now)
+    (fails c.in_err-write_table.field-0.0 step (layout.public_pages cat) (layout.files_end cat) (work.file_pages cat c.args.hidden.now)
     (omega arith) (omega (arith, next, later, end)) (omega (arith, rise, all)))
 
 pub loop-table-preserved : goal.loop-table-preserved

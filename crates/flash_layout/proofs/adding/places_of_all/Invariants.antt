@@ -11,6 +11,6 @@ invariant-loop-table l =
       room : array_vec_len l.tables ≤ l.table;
       begin : l.after ≡ sums.table_begin l.cat l.table;
       spool : l.half ≡ sums.spool_pages_before l.cat l.table;
-      most : l.after ≤ 607034752;
-      few : l.half ≤ 1000064 * l.table;
+      most : l.after ≤ 607034944;
+      few : l.half ≤ 1004160 * l.table;
     }

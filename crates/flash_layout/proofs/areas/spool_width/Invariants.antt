@@ -7,5 +7,5 @@ abbrev pub invariant-loop-column : goal.invariant-loop-column
 invariant-loop-column l =
     record {
       bytes : l.width ≡ 4 + sum_by (layout.width_at l.cat.schema l.table) (filter (schema.is_visible l.cat.schema l.table) (layout.below l.column));
-      most : l.width ≤ 4 + 64 * l.column;
+      most : l.width ≤ 4 + 65 * l.column;
     }

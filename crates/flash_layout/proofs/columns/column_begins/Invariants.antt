@@ -10,5 +10,5 @@ invariant-loop-column l =
       each : l.each.items ≡ map (sums.column_begin l.cat l.table) (layout.below l.column);
       room : array_vec_len l.each ≤ l.column;
       next : l.after ≡ sums.column_begin l.cat l.table l.column;
-      most : l.after ≤ 607034752 + 1000000 * l.column;
+      most : l.after ≤ 607034944 + 1000000 * l.column;
     }

@@ -10,5 +10,5 @@ invariant-loop-column l =
       each : l.each.items ≡ map (sums.index_begin l.cat l.table) (layout.below l.column);
       room : array_vec_len l.each ≤ l.column;
       next : l.after ≡ sums.index_begin l.cat l.table l.column;
-      most : l.after ≤ 632034752 + 1023449 * l.column;
+      most : l.after ≤ 632034944 + 1023449 * l.column;
     }

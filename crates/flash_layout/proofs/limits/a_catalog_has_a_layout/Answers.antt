@@ -1,3 +1,4 @@
+use Rattle.flash_layout.proofs.PlaceLemmas.{narrow_cells}
 use Rattle.flash_layout.proofs.limits.a_catalog_has_a_layout.Goals as goal
 
 pub returns : goal.returns
@@ -12,5 +13,6 @@ returns c =
         blocks = c.areas_are_whole_blocks.ensures c.args.cat.now;
         narrow = c.layout_is_small.ensures.narrow c.args.cat.now limited.tree;
         few = c.layout_is_small.ensures.few c.args.cat.now limited;
+        cells = narrow_cells c.args.cat.now.schema limited.tree;
       };
     }

@@ -68,6 +68,18 @@ returns-in-Ok-print_line-clause-ends g c = λ files told.
 pub returns-in-Ok-print_line-clause-unsealed : goal.returns-in-Ok-print_line-clause-unsealed
 returns-in-Ok-print_line-clause-unsealed g c = inr c.in_ok-make_both.ensures.unsealed
 
+pub returns-clause-ends : goal.returns-clause-ends
+returns-clause-ends g c = λ files told.
+    let words = load_view c.args.words.now in
+    let input = c.in-Ok.input in
+    let before = outside (g.D.Depot.contents c.args.depot.now) (g.D.Depot.faults c.args.depot.now) (g.D.Depot.append_faults c.args.depot.now) (g.F.Flash.state c.args.flash.now) (g.O.Sink.written c.args.out.now) (g.O.Sink.faults c.args.out.now) in
+    let after = outside (g.D.Depot.contents c.make_both.new.depot) (g.D.Depot.faults c.make_both.new.depot) (g.D.Depot.append_faults c.make_both.new.depot) (g.F.Flash.state c.make_both.new.flash) (g.O.Sink.written c.print_line.new.out) (g.O.Sink.faults c.print_line.new.out) in
+    let made = c.in_ok-prepared.ensures in
+    let are : IsPrepared input.schema input.tables words.blocks c.in_ok-prepared.prepared = record { cat = made.cat; hidden = made.hidden; image = made.image; blocks = made.blocks } in
+    ends_spelled g.F.Flash.told (tables_opening files c.args.words.now.schema.now c.args.words.now.tables.now) input words (Err failure.Sink) before after (c.in-Ok.ensures.opened files told)
+    (unprinted input.schema input.tables words c.in_ok-prepared.prepared g.F.Flash.told are made.enough before after (g.D.Depot.contents c.open_tables.new.depot) c.in-Ok.ensures.same
+    c.in_ok-make_both.ensures.made c.in-Err-print_line.ensures.failed)
+
 pub returns-clause-loads : goal.returns-clause-loads
 returns-clause-loads g c =
     let words = load_view c.args.words.now in

@@ -8,10 +8,10 @@ pub returns-clause-area : goal.returns-clause-area
 returns-clause-area c =
     its_area c.args.laid.now c.args.table _ (subst HasLayout c.catalog.ensures.catalog c.a_catalog_has_a_layout.ensures.layout) c.sums_by_place.ensures c.requires.there
     (ap (λ (run : runs.Run). run.first) c.spool_area-even.ensures.run) (ap (λ (run : runs.Run). run.first) c.spool_area-odd.ensures.run)
-    (ap (λ (run : runs.Run). run.count) c.spool_area-even.ensures.run) (ap (λ (run : runs.Run). run.width) c.spool_area-even.ensures.run)
+    c.rows.ensures.value (ap (λ (run : runs.Run). run.width) c.spool_area-even.ensures.run)
 
 pub returns-clause-writable : goal.returns-clause-writable
 returns-clause-writable c =
     its_pages c.args.laid.now c.args.table _ (subst HasLayout c.catalog.ensures.catalog c.a_catalog_has_a_layout.ensures.layout) c.sums_by_place.ensures c.requires.there
     (ap (λ (run : runs.Run). run.first) c.spool_area-even.ensures.run) (ap (λ (run : runs.Run). run.first) c.spool_area-odd.ensures.run)
-    (ap (λ (run : runs.Run). run.count) c.spool_area-even.ensures.run) (ap (λ (run : runs.Run). run.width) c.spool_area-even.ensures.run)
+    c.rows.ensures.value (ap (λ (run : runs.Run). run.width) c.spool_area-even.ensures.run)

@@ -1,10 +1,18 @@
-use Rattle.std.proofs.Common.{◌≡◌, ◌∙◌, ◌+◌, ap, refl, length, arith}
+use Rattle.std.proofs.Common.{◌≡◌, ◌∙◌, ◌+◌, ◌<◌, ◌*◌, ◌^◌, ap, refl, length, arith, rules}
 use Rattle.std.proofs.lemmas.List.FromFn.{length-map-range_with_len}
 use Rattle.ghost_model.specs.laws.ShortWords as short
 use Rattle.ghost_model.specs.forms.Layout as layout
 use Rattle.ghost_model.specs.laws.LayoutSums as sums
 use Rattle.flash_layout.proofs.ByPlace.{at_place}
 use Rattle.flash_layout.proofs.layout.Layout.index_begin.Goals as goal
+
+pub offset_bounds-deref-column : goal.offset_bounds-deref-column
+offset_bounds-deref-column c =
+    let laid = c.laws.ensures.layout in
+    let there = laid.order.there_are c.args.table c.args.column c.requires.hidden in
+    let few = laid.narrow.columns c.args.table in
+    let low : c.args.column * 4 < 2 ^ 64 = omega (arith, there.1, few) in
+    search (rules, low)
 
 pub bounds-deref-column : goal.bounds-deref-column
 bounds-deref-column c =
