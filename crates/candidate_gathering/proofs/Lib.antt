@@ -1,5 +1,6 @@
 pub mod known_lemmas
 pub mod searching_lemmas
+pub mod ScratchPages
 pub mod Scratches
 pub mod AreasMay
 pub mod Regions

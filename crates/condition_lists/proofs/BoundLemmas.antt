@@ -1,5 +1,5 @@
 -- The order of values between bounds.
-use Rattle.std.proofs.Common.{◌≡◌, ◌∙◌, refl, ap, sym, ℕ, ◌<◌, pos, inl, inr, Bool, true, false, not, ◌&&◌, arith}
+use Rattle.std.proofs.Common.{◌≡◌, ◌∙◌, refl, ap, ap₂, sym, subst, ℕ, ◌<◌, pos, inl, inr, Bool, true, false, not, ◌&&◌, arith}
 use Rattle.std.specs.Prelude.{◌||◌, cond, int_lt, Option}
 use Rattle.std.specs.Cmp.{IsTotalOrder}
 use Rattle.std.specs.Ordering.{ordering_reverse}
@@ -7,13 +7,15 @@ use Rattle.std.specs.declared.cmp.Ordering.{Ordering}
 use Rattle.std.specs.declared.cmp.Ordering.TheVariants as order
 use Rattle.std.proofs.lemmas.Bool.{cases_lt}
 use Rattle.std.proofs.lemmas.Int.{ints}
-use Rattle.ghost_model.specs.core.Values.{Value, Number}
-use Rattle.ghost_model.specs.core.Database.{order_of, meets}
+use Rattle.ghost_model.specs.core.Values.{Value, Null, Number, Text, is_null}
+use Rattle.ghost_model.specs.core.Query.{Operator}
+use Rattle.ghost_model.specs.core.Database.{order_of, meets, holds}
 use Rattle.ghost_base.specs.Views.{operator_of, value_of}
 use Rattle.ghost_base.specs.declared.kind.Kind.{Kind}
 use Rattle.ghost_base.specs.declared.operator.Operator.{Operator as Sign}
 use Rattle.ghost_base.specs.declared.operator.Operator.TheVariants as sign
 use Rattle.ghost_base.specs.declared.value.Value.{Value as Literal}
+use Rattle.ghost_base.specs.declared.value.Value.TheVariants as literals
 use Rattle.climbing_index.specs.Searches.{before_by, fits_kind}
 use Rattle.condition_lists.specs.Bounds.{AreBoundsOf, AreOfKind, first_by, lies_between, lies_in_second, lies_within, second_by}
 
@@ -96,12 +98,43 @@ ascend_by total sign.AtMost literal value other low high = absurd (cc (high))
 ascend_by total sign.More literal value other low high = absurd (cc (high))
 ascend_by total sign.AtLeast literal value other low high = absurd (cc (high))
 
-pub of_operator : IsTotalOrder order_of → (operator : Sign) (literal : Literal)
+-- an operator holds between values that are not NULL as their order meets it
+holds_some : (operator : Operator) (a b : Value) → is_null a ≡ false → is_null b ≡ false → meets operator (order_of a b) ≡ holds operator a b
+holds_some operator a b some other = ap₂ (λ x y. not (x || y) && meets operator (order_of a b)) (sym some) (sym other)
+
+pub of_operator : IsTotalOrder order_of → (operator : Sign) (literal : Literal) → is_null (value_of literal) ≡ false
     → AreBoundsOf (operator_of operator) (value_of literal) (record { operator = operator; literal = literal })
-of_operator total operator literal = record {
-  admits = λ value. within_by operator literal value ∙ holds_by operator (order_of value (value_of literal));
+of_operator total operator literal other = record {
+  admits = λ value some.
+      within_by operator literal value ∙ holds_by operator (order_of value (value_of literal))
+      ∙ holds_some (operator_of operator) value (value_of literal) some other;
   ascend = λ value other low high. ascend_by total operator literal value other low high;
 }
+
+-- NULL alone lies between those of NULL
+none_by : (operator : Operator) (value : Value) → is_null value ≡ false → lies_within (record { operator = sign.Equal; literal = literals.Null }) value ≡ holds operator value Null
+none_by operator Null some = absurd (cc (some))
+none_by operator (Number n) some = refl
+none_by operator (Text t) some = refl
+
+pub of_null : IsTotalOrder order_of → (operator : Operator) → AreBoundsOf operator Null (record { operator = sign.Equal; literal = literals.Null })
+of_null total operator = record {
+  admits = λ value some. none_by operator value some;
+  ascend = λ value other low high. ascend_by total sign.Equal literals.Null value other low high;
+}
+
+-- those of any literal
+pub of_either : IsTotalOrder order_of → (operator beside : Sign) (literal : Literal)
+    → (is_null (value_of literal) ≡ false → beside ≡ operator) → (is_null (value_of literal) ≡ true → beside ≡ sign.Equal)
+    → AreBoundsOf (operator_of operator) (value_of literal) (record { operator = beside; literal = literal })
+of_either total operator beside literals.Null same null =
+    subst (λ (it : Sign). AreBoundsOf (operator_of operator) Null (record { operator = it; literal = literals.Null })) (sym (null refl)) (of_null total (operator_of operator))
+of_either total operator beside (literals.Int number) same null =
+    subst (λ (it : Sign). AreBoundsOf (operator_of operator) (Number number) (record { operator = it; literal = literals.Int number })) (sym (same refl))
+    (of_operator total operator (literals.Int number) refl)
+of_either total operator beside (literals.Chars text) same null =
+    subst (λ (it : Sign). AreBoundsOf (operator_of operator) (Text text) (record { operator = it; literal = literals.Chars text })) (sym (same refl))
+    (of_operator total operator (literals.Chars text) refl)
 
 -- they have the literal for their value
 pub of_kind : (kind : Option Kind) (operator : Sign) (literal : Literal) → fits_kind kind (value_of literal) ≡ true

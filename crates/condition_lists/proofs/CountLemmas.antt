@@ -1,16 +1,14 @@
 -- Counting: elements of a list that stand in no two lists, and values each counted once.
-use Rattle.std.proofs.Common.{◌≡◌, ◌∙◌, refl, ap, ap₂, sym, subst, ℕ, zero, suc, ◌+◌, ◌<◌, ◌≤◌, inl, inr, Bool, true, false, cond, List, [], ◌∷◌, ◌++◌, length, map, filter, get_or, sum_by, length-append, arith}
-use Rattle.std.specs.Prelude.{count_by, ◌||◌}
+use Rattle.std.proofs.Common.{◌≡◌, ◌∙◌, refl, ap, ap₂, sym, subst, ℕ, zero, suc, ◌+◌, ◌<◌, ◌≤◌, inl, inr, Bool, true, false, cond, List, [], ◌∷◌, ◌++◌, length, map, filter, get_or, sum_by, length-append, slice_get, Option, Some, None, arith}
+use Rattle.std.specs.Prelude.{count_by, filter_map, ◌||◌}
 use Rattle.std.specs.Cmp.{IsEquivalence}
-use Rattle.std.specs.List.{concat, range_with_len, IsDistinct, AllByRecursion, list_any}
+use Rattle.std.specs.List.{concat, cons_option, range_with_len, IsDistinct, AllByRecursion, list_any}
 use Rattle.std.specs.Set.{unique_keys}
 use Rattle.std.proofs.lemmas.List.Sums.{length-filter, sum_by-cons}
 use Rattle.std.proofs.lemmas.Map.Made.{length-le_from_is_member}
-use Rattle.ghost_model.specs.core.Values.{Value}
-use Rattle.ghost_model.specs.core.Database.{holds}
-use Rattle.ghost_model.specs.core.Query as query
+use Rattle.ghost_model.specs.core.Values.{Value, Null, Number, Text, Row}
 use Rattle.ghost_model.proofs.MeaningLemmas.OneRow.{Among, Distinct, distinct-append, from_map, value_equal, either_true}
-use Rattle.ghost_model.specs.forms.QueryWork.{count_values}
+use Rattle.ghost_model.specs.forms.QueryWork.{count_values, is_same_value}
 use Rattle.condition_lists.proofs.MemberLemmas.{mapped_many}
 
 pub in_range : (x a n : ℕ) → Among x (range_with_len a n) → (a ≤ x) × (x < a + n)
@@ -154,24 +152,49 @@ lists_within g p q es xs once is one passes =
 pub same_count : (p q : ℕ → Bool) (xs : List ℕ) → ((x : ℕ) → Among x xs → p x ≡ q x) → count_by p xs ≡ count_by q xs
 same_count p q xs each = same_sums (λ x. cond (p x) 1 0) (λ x. cond (q x) 1 0) xs (λ x a. ap (λ b. cond b 1 0) (each x a))
 
+kept_both : (p q : Value → Bool) (o : Option Value) (values : List Value) → ((value : Value) → o ≡ Some value → p value ≡ q value)
+    → filter p values ≡ filter q values → filter p (cons_option o values) ≡ filter q (cons_option o values)
+kept_both p q None values one rest = rest
+kept_both p q (Some value) values one rest = ap₂ (λ b left. cond b (value ∷ left) left) (one value refl) rest
+
+-- two tests of a column's values that agree at each of them
+pub same_values : (p q : Value → Bool) (column : ℕ) (rows : List Row)
+    → ((place : ℕ) (row : Row) (value : Value) → slice_get rows place ≡ Some row → slice_get row column ≡ Some value → p value ≡ q value)
+    → filter p (filter_map (λ row. slice_get row column) rows) ≡ filter q (filter_map (λ row. slice_get row column) rows)
+same_values p q column [] each = refl
+same_values p q column (row ∷ rows) each =
+    kept_both p q (slice_get row column) (filter_map (λ r. slice_get r column) rows) (λ value is. each 0 row value refl is)
+    (same_values p q column rows (λ place other value at is. each (suc place) other value at is))
+
 -- ---- values counted once
 
-member_value : (x : Value) (xs : List Value) → list_any (holds query.Equal x) xs ≡ true → Among x xs
+value_same : (x y : Value) → is_same_value x y ≡ true → x ≡ y
+value_same Null Null e = refl
+value_same Null (Number n) e = absurd (cc (e))
+value_same Null (Text t) e = absurd (cc (e))
+value_same (Number n) Null e = absurd (cc (e))
+value_same (Text t) Null e = absurd (cc (e))
+value_same (Number n) (Number m) e = value_equal (Number n) (Number m) e
+value_same (Number n) (Text t) e = value_equal (Number n) (Text t) e
+value_same (Text t) (Number n) e = value_equal (Text t) (Number n) e
+value_same (Text t) (Text u) e = value_equal (Text t) (Text u) e
+
+member_value : (x : Value) (xs : List Value) → list_any (is_same_value x) xs ≡ true → Among x xs
 member_value x [] e = absurd (cc (e))
 member_value x (y ∷ xs) e =
-    elim (either_true (holds query.Equal x y) (list_any (holds query.Equal x) xs) e) [
-      | inl here ↦ inl (sym (value_equal x y here))
+    elim (either_true (is_same_value x y) (list_any (is_same_value x) xs) e) [
+      | inl here ↦ inl (sym (value_same x y here))
       | inr later ↦ inr (member_value x xs later)
     ]
 
 abbrev uniques : List Value → List Value
-uniques = unique_keys (holds query.Equal)
+uniques = unique_keys is_same_value
 
 kept : (z : Value) (xs : List Value) → Among z xs → Among z (uniques xs)
 kept z [] among = absurd among
-kept z (x ∷ xs) among = by (list_any (holds query.Equal x) xs) refl among (λ y. kept y xs)
+kept z (x ∷ xs) among = by (list_any (is_same_value x) xs) refl among (λ y. kept y xs)
   where
-    by : (b : Bool) → list_any (holds query.Equal x) xs ≡ b → Among z (x ∷ xs) → ((y : Value) → Among y xs → Among y (uniques xs))
+    by : (b : Bool) → list_any (is_same_value x) xs ≡ b → Among z (x ∷ xs) → ((y : Value) → Among y xs → Among y (uniques xs))
         → Among z (cond b (uniques xs) (x ∷ uniques xs))
     by true e among rest =
         elim among [

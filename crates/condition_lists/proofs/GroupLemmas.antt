@@ -65,7 +65,7 @@ ids_of_one rows operator literal bounds first second are is none begin count = r
   admits = λ entry low.
       ap (λ b. is_in first entry || b) (none_in second count entry) ∙ ap (λ a. a || false) (ids_found rows (first_of bounds) first is entry low)
       ∙ ap (λ o. lies_between (first_of bounds) (Number (pos (entry + 1))) || lies_in_second o (Number (pos (entry + 1)))) (sym none)
-      ∙ are.admits (Number (pos (entry + 1)));
+      ∙ are.admits (Number (pos (entry + 1))) refl;
   behind = λ some other. absurd (omega (arith, other, count));
 }
 
@@ -77,7 +77,7 @@ ids_of_two rows operator literal bounds pair first second are is some_is other =
   admits = λ entry low.
       ap₂ (λ a b. a || b) (ids_found rows (first_of bounds) first is entry low) (ids_found rows pair second other entry low)
       ∙ ap (λ o. lies_between (first_of bounds) (Number (pos (entry + 1))) || lies_in_second o (Number (pos (entry + 1)))) (sym some_is)
-      ∙ are.admits (Number (pos (entry + 1)));
+      ∙ are.admits (Number (pos (entry + 1))) refl;
   behind = λ some more.
       let last : is_in first (first.first + first.count - 1) ≡ true = to_group first (first.first + first.count - 1) (omega (arith, some), omega (arith, some)) in
       let begin : is_in second second.first ≡ true = to_group second second.first (omega arith, omega (arith, more)) in

@@ -5,8 +5,8 @@ use Rattle.std.specs.Option.{option_map}
 use Rattle.std.specs.List.{list_all, list_any}
 use Rattle.std.proofs.lemmas.List.Folds.{list_all-append, list_all-map}
 use Rattle.std.proofs.lemmas.Bool.{ltb-false, le-leb}
-use Rattle.ghost_model.specs.core.Schema.{Schema, Column, Kind, Integer, Chars, column_at}
-use Rattle.ghost_model.specs.core.Values.{Value, Number, Text, fits_integer}
+use Rattle.ghost_model.specs.core.Schema.{Schema, Column, Kind, Integer, Chars, IntegerOrNull, CharsOrNull, column_at}
+use Rattle.ghost_model.specs.core.Values.{Value, Null, Number, Text, fits_integer}
 use Rattle.ghost_model.specs.core.Query.{Query, Condition, Compare, Join, AtLeast, AtMost}
 use Rattle.ghost_model.specs.core.Database.{is_of_kind}
 use Rattle.ghost_model.specs.refusals.Tokens.{Symbol, Quoted, EndOfText, Word, AndWord, Comma, is_printable, symbols}
@@ -58,8 +58,9 @@ none_all p (x ∷ xs) e =
     let both : (p x ≡ false) × (list_any p xs ≡ false) = neither (p x) (list_any p xs) e in
     hold_both _ _ (not_true (p x) both.0) (none_all p xs both.1)
 
--- a value that breaks no rule of literals is of its column's kind; `is_plain` says that a text is printable
+-- a value that breaks no rule of literals is of its column's kind; `is_plain` says that a text is printable, and that it is not NULL
 abbrev is_plain : Value → Bool
+is_plain Null = false
 is_plain (Number _) = true
 is_plain (Text bytes) = list_all is_printable bytes
 
@@ -68,10 +69,15 @@ not_not true e = refl
 not_not false e = absurd (false_is_not (sym e))
 
 by_kind : (kind : Kind) (value : Value) → meaning.is_other_kind (Some kind) value ≡ false → meaning.is_too_large (Some kind) value ≡ false → is_plain value ≡ true → is_of_kind kind value ≡ true
+by_kind kind Null a b c = absurd (false_is_not c)
 by_kind Integer (Number z) a b c = not_not (fits_integer z) b
 by_kind Integer (Text text) a b c = absurd (false_is_not (sym a))
 by_kind (Chars most) (Number z) a b c = absurd (false_is_not (sym a))
 by_kind (Chars most) (Text text) a b c = hold_both _ _ (le-leb (length text) most (ltb-false most (length text) b)) c
+by_kind IntegerOrNull (Number z) a b c = not_not (fits_integer z) b
+by_kind IntegerOrNull (Text text) a b c = absurd (false_is_not (sym a))
+by_kind (CharsOrNull most) (Number z) a b c = absurd (false_is_not (sym a))
+by_kind (CharsOrNull most) (Text text) a b c = hold_both _ _ (le-leb (length text) most (ltb-false most (length text) b)) c
 
 -- whether a literal is of a column's kind, where there is such a column
 abbrev pub fits_if : Option Column → Value → Bool

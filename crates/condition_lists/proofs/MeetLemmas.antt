@@ -3,7 +3,7 @@ use Rattle.std.proofs.Common.{◌≡◌, ◌∙◌, refl, ap, ap₂, sym, ℕ, z
 use Rattle.std.specs.List.{list_all}
 use Rattle.std.specs.Option.{option_map_or}
 use Rattle.ghost_model.specs.core.Schema.{is_visible}
-use Rattle.ghost_model.specs.core.Values.{Value, Number, Database}
+use Rattle.ghost_model.specs.core.Values.{Value, Number, Database, is_null}
 use Rattle.ghost_model.specs.core.Channel.{Catalog}
 use Rattle.ghost_model.specs.core.Database.{holds, leads, value_at_row}
 use Rattle.ghost_model.specs.core.Meaning.{compares}
@@ -27,12 +27,12 @@ use Rattle.condition_lists.specs.declared.term.Term.TheVariants.{Ranges, Entries
 use Rattle.condition_lists.specs.Bounds.{AreBoundsOf, lies_within}
 use Rattle.condition_lists.specs.Terms.{AreRangesOf, AreEntriesOf, AreIdentifiersOf, IsTermOf, IsReplyTermOf, AreTermsOf, is_in_one, meets}
 use Rattle.condition_lists.specs.Laws.{IsOver}
-use Rattle.condition_lists.proofs.RowLemmas.{unseen, never_hidden, below_by, is_row, led}
+use Rattle.condition_lists.proofs.RowLemmas.{unseen, never_hidden, not_null, below_by, is_row, led}
 
 pub by_value : (operator : Operator) (literal : Value) (bounds : Bounds) → AreBoundsOf operator literal bounds → (o : Option Value)
-    → option_map_or (lies_within bounds) o false ≡ compares operator o (Some literal)
-by_value operator literal bounds are None = refl
-by_value operator literal bounds are (Some value) = are.admits value
+    → ((value : Value) → o ≡ Some value → is_null value ≡ false) → option_map_or (lies_within bounds) o false ≡ compares operator o (Some literal)
+by_value operator literal bounds are None some = refl
+by_value operator literal bounds are (Some value) some = are.admits value (some value refl)
 
 module _ (cat : Catalog) (database : Database) (over : IsOver cat database) (given : List replies.Reply) (top identifier : ℕ) (row : IsRowOf cat top identifier)
     (levels : LevelsAreAncestors) (keys : LeadsFollowKeys cat.schema database) (values : HiddenValuesOfDatabases) where
@@ -55,6 +55,12 @@ module _ (cat : Catalog) (database : Database) (over : IsOver cat database) (giv
       ≡ option_and_then (λ reached. value_at_row database wanted.table reached wanted.column) o
   led_known wanted h None = refl
   led_known wanted h (Some reached) = hidden_known wanted.table wanted.column reached h
+
+  -- they are not NULL
+  led_some : (wanted : Field) → is_hidden cat.schema wanted.table wanted.column ≡ true → (o : Option ℕ) (value : Value)
+      → option_and_then (λ reached. value_at_row database wanted.table reached wanted.column) o ≡ Some value → is_null value ≡ false
+  led_some wanted h None value e = absurd (cc (e))
+  led_some wanted h (Some reached) value e = not_null cat database over wanted.table reached wanted.column h value e
 
   -- a condition on an identifier
   identified : (wanted : Field) (operator : Operator) (literal : Value) (reached : ℕ) → wanted.column ≡ 0
@@ -79,7 +85,7 @@ module _ (cat : Catalog) (database : Database) (over : IsOver cat database) (giv
       → option_map_or (lies_within bounds) (led_value cat.schema database top identifier (field wanted.table wanted.column)) false ≡ holds_here (Compare wanted operator literal)
   of_entries wanted operator literal index level bounds are =
       let hidden = are.index_at.hidden in
-      by_value operator literal bounds are.bounds_are (led_value cat.schema database top identifier (field wanted.table wanted.column))
+      by_value operator literal bounds are.bounds_are (led_value cat.schema database top identifier (field wanted.table wanted.column)) (led_some wanted hidden (leads cat.schema database top identifier wanted.table))
       ∙ ap (λ o. compares operator o (Some literal)) (sym (led_known wanted hidden (leads cat.schema database top identifier wanted.table)))
       ∙ sym (ap (λ b. if b then true else compares operator (known wanted) (Some literal)) (unseen cat.schema wanted.table wanted.column hidden))
 

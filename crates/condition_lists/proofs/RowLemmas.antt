@@ -2,10 +2,10 @@
 use Rattle.std.proofs.Common.{◌≡◌, ◌∙◌, refl, ap, sym, ℕ, zero, suc, ◌<◌, length, Bool, true, false, ◌&&◌, List, slice_get, slice_index, Option, Some, None, arith}
 use Rattle.std.specs.Prelude.{not}
 use Rattle.std.specs.Option.{option_map_or}
-use Rattle.ghost_model.specs.core.Schema.{Schema, Table, Column, columns_or_none, column_at, is_shown, is_visible}
-use Rattle.ghost_model.specs.core.Values.{Row, Database}
+use Rattle.ghost_model.specs.core.Schema.{Schema, Table, Column, Kind, Integer, Chars, IntegerOrNull, CharsOrNull, columns_or_none, column_at, is_nullable, is_shown, is_visible}
+use Rattle.ghost_model.specs.core.Values.{Value, Null, Number, Text, Row, Database, is_null}
 use Rattle.ghost_model.specs.core.Channel.{Catalog}
-use Rattle.ghost_model.specs.core.Database.{row_of, rows_of}
+use Rattle.ghost_model.specs.core.Database.{is_of_kind, row_of, rows_of, value_at_row}
 use Rattle.ghost_model.specs.forms.Layout.{is_hidden, count_of, levels_of}
 use Rattle.ghost_model.specs.laws.LayoutLaws.{LevelsAreAncestors}
 use Rattle.ghost_model.specs.laws.SchemaTrees.{IsTree, identifier}
@@ -44,6 +44,21 @@ never_hidden schema tree table h =
   where
     clash : (held : Column) → held.hidden ≡ true → Some held ≡ Some identifier → ⊥
     clash held hidden same = let it : held ≡ identifier = cc in let e : true ≡ false = sym hidden ∙ ap (λ (c : Column). c.hidden) it in cc
+
+-- for now no value is NULL
+kind_not_null : (kind : Kind) (value : Value) → is_nullable kind ≡ false → is_of_kind kind value ≡ true → is_null value ≡ false
+kind_not_null kind (Number n) plain fits = refl
+kind_not_null kind (Text t) plain fits = refl
+kind_not_null Integer Null plain fits = absurd (cc (fits))
+kind_not_null (Chars most) Null plain fits = absurd (cc (fits))
+kind_not_null IntegerOrNull Null plain fits = absurd (cc (plain))
+kind_not_null (CharsOrNull most) Null plain fits = absurd (cc (plain))
+
+pub not_null : (cat : Catalog) (database : Database) → IsOver cat database → (table identifier column : ℕ) → is_hidden cat.schema table column ≡ true
+    → (value : Value) → value_at_row database table identifier column ≡ Some value → is_null value ≡ false
+not_null cat database over table identifier column hidden value at =
+    let held = some_column (column_at cat.schema table column) hidden in
+    kind_not_null held.0.kind value (over.tree.not_null table column held.0 held.1) (over.is.kinds table identifier column value held.0 at held.1)
 
 -- a table with a level is the top one or below it
 pub below_by : LevelsAreAncestors → (cat : Catalog) (database : Database) → IsOver cat database → (top table level : ℕ)

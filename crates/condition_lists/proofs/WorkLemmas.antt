@@ -41,12 +41,12 @@ use Rattle.condition_lists.specs.Laws.{IsOver}
 use Rattle.ghost_model.specs.forms.QueryWork.{union_work, values_of, count_values, rows_leading, values_work, condition_work, honest_rows, reply_work}
 use Rattle.condition_lists.specs.Costs.{rows_meeting, values_within, replied_count, term_cost}
 use Rattle.condition_lists.specs.CostLaws.{WorkGrows}
-use Rattle.condition_lists.proofs.CountLemmas.{ranges_once, among_map, counted, at_most, same_count}
+use Rattle.condition_lists.proofs.CountLemmas.{ranges_once, among_map, counted, at_most, same_count, same_values}
 use Rattle.condition_lists.proofs.CostLemmas.{entries_in, in_groups, ends_within, both_many, row_among}
 use Rattle.condition_lists.proofs.ListLemmas.{in_column, replied_some}
 use Rattle.condition_lists.proofs.MeetLemmas.{by_value}
 use Rattle.condition_lists.proofs.MemberLemmas.{mapped_many}
-use Rattle.condition_lists.proofs.RowLemmas.{never_hidden, rows_are, row_there, below_by, is_row, led}
+use Rattle.condition_lists.proofs.RowLemmas.{never_hidden, not_null, rows_are, row_there, below_by, is_row, led}
 
 module _ (cat : Catalog) (database : Database) (over : IsOver cat database) (levels : LevelsAreAncestors) (keys : LeadsFollowKeys cat.schema database)
     (grows : WorkGrows) (given : List replies.Reply) (top : ℕ) where
@@ -71,11 +71,15 @@ module _ (cat : Catalog) (database : Database) (over : IsOver cat database) (lev
         else if column == 0 && not (table == top) then values_work cat.schema database top (field table column) operator literal else 0) are.index_at.hidden)
       where
         values_same : values_within database (field table column) bounds ≡ values_met database (field table column) operator literal
-        values_same = ap (λ (p : Value → Bool). count_values (filter p (values_of database (field table column)))) (λ i value. are.bounds_are.admits value i)
+        values_same =
+            ap count_values
+            (same_values (lies_within bounds) (λ value. holds operator value literal) column (rows_of database table)
+            (λ place row value at is. are.bounds_are.admits value (not_null cat database over table (suc place) column are.index_at.hidden value (ap (option_and_then (λ r. slice_get r column)) at ∙ is))))
 
         by_lead : (o : Option ℕ) → option_map_or (lies_within bounds) (option_and_then (λ reached. value_at_row database table reached column) o) false ≡ option_map_or (admitted table column) o false
         by_lead None = refl
-        by_lead (Some reached) = by_value operator literal bounds are.bounds_are (value_at_row database table reached column)
+        by_lead (Some reached) =
+            by_value operator literal bounds are.bounds_are (value_at_row database table reached column) (λ value at. not_null cat database over table reached column are.index_at.hidden value at)
 
         rows_same : rows_meeting cat database given top (Entries table column index level bounds) ≡ rows_met cat.schema database top (field table column) operator literal
         rows_same = same_rows _ _ (λ x row. by_lead (leads cat.schema database top x table))

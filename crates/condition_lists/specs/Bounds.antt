@@ -1,7 +1,7 @@
 -- Bounds of values, and of the cells and identifiers that stand for them.
 use Rattle.std.specs.Prelude.{◌≡◌, ⊤, Bool, true, false, not, ◌&&◌, ◌||◌, Option, Some, None}
 use Rattle.std.specs.declared.cmp.Ordering.TheVariants.{Less}
-use Rattle.ghost_model.specs.core.Values.{Value}
+use Rattle.ghost_model.specs.core.Values.{Value, is_null}
 use Rattle.ghost_model.specs.core.Query.{Operator}
 use Rattle.ghost_model.specs.core.Database.{order_of, holds}
 use Rattle.ghost_base.specs.Views.{value_of}
@@ -64,10 +64,10 @@ lies_in_second (Some pair) value = lies_between pair value
 abbrev pub lies_within : Bounds → Value → Bool
 lies_within bounds value = lies_between (first_of bounds) value || lies_in_second (second_of bounds) value
 
--- the values between the bounds are those with which the operator holds, and those of the first pair lie below those of the
--- second
+-- the values between the bounds, NULL aside, are those with which the operator holds, and those of the first pair lie below those of
+-- the second
 pub record AreBoundsOf (operator : Operator) (literal : Value) (bounds : Bounds) : Type 0 where
-  pub admits : (value : Value) → lies_within bounds value ≡ holds operator value literal
+  pub admits : (value : Value) → is_null value ≡ false → lies_within bounds value ≡ holds operator value literal
   pub ascend : (value other : Value) → lies_between (first_of bounds) value ≡ true → lies_in_second (second_of bounds) other ≡ true → order_of value other ≡ Less
 
 -- the bounds have values of a column's kind

@@ -69,6 +69,7 @@ broken_at page list rows number slot found out = record {
   within = out.within;
   last = out.last;
   gets = out.gets;
+  kept = out.kept;
   page_is = out.page_is;
   slot_is = out.slot_is;
   found_is = out.found_is;

@@ -4,7 +4,7 @@ use Rattle.std.specs.List.{concat}
 use Rattle.ghost_model.specs.forms.Runs.{page_of, slot_of, per_page, cell_in, id_at, number_in}
 use Rattle.ghost_base.specs.declared.runs.ListRef.{ListRef}
 use Rattle.ghost_base.specs.Runs.{run_of}
-use Rattle.edge_traits.specs.Devices.{Device, KeepsPages, next_if}
+use Rattle.edge_traits.specs.Devices.{Device, KeepsPages, first_deep_page, next_if}
 use Rattle.page_pool.specs.Pools.{Pool, ChangesPage, page_at}
 use Rattle.flash_pages.specs.Cursors.{IsPageOf}
 use Rattle.flash_pages.specs.declared.fault.PageFault.{PageFault}
@@ -160,7 +160,7 @@ pub record ReadsOnce {T : Type 0} (told : Bool) (before now : Device) (pool late
   pub kept : KeepsPages before now
   pub calls : now.calls ≡ next_if reads before.calls
   pub at_most : now.calls ≤ before.calls + 1
-  pub deep_reads : now.deep_reads ≡ next_if (reads && nat_le 64 number) before.deep_reads
+  pub deep_reads : now.deep_reads ≡ next_if (reads && nat_le first_deep_page number) before.deep_reads
   pub no_fault : OnOk result (now.faults ≡ before.faults)
   pub fault : IfErr result (FaultTells before now (reads ≡ true))
   pub buffer : ChangesPage pool later lease

@@ -77,7 +77,7 @@ pub reaches_none :
     → Reaches told low device device pool pool cursors cursors
 reaches_none {told = told} low {device = device} cursors ready = record {
   moves = record {
-    kept = record { name = refl; page_count = refl; page = refl; blank = refl; never_falls = omega arith; gave = λ at page bytes is. is };
+    kept = record { name = refl; page_count = refl; page = refl; others = refl; blank = refl; never_falls = omega arith; gave = λ at page bytes is. is };
     out = refl;
     others = record { size = refl; bytes = λ other was. refl; filled = λ other was. refl };
     given = λ since from was. was;

@@ -4,8 +4,8 @@ use Rattle.std.specs.Prelude.{◌*◌, option_map, nat_le, if◌then◌else◌}
 use Rattle.std.specs.List.{list_all}
 use Rattle.std.proofs.lemmas.List.{length-map}
 use Rattle.std.proofs.lemmas.Bool.Decides.{nat_tests}
-use Rattle.ghost_model.specs.core.Schema.{Column, Kind, Integer, Chars, columns_of, column_at}
-use Rattle.ghost_model.specs.core.Values.{Value, Number, Text, Row, Database}
+use Rattle.ghost_model.specs.core.Schema.{Column, Kind, Integer, Chars, IntegerOrNull, CharsOrNull, columns_of, column_at}
+use Rattle.ghost_model.specs.core.Values.{Value, Null, Number, Text, Row, Database}
 use Rattle.ghost_model.specs.core.Channel.{Catalog}
 use Rattle.ghost_model.specs.core.Database.{IsDatabase, rows_of, row_count, row_counts, is_of_kind, is_row_among, value_at_row}
 use Rattle.ghost_model.specs.core.Asks.{kind_or_none, kind_at}
@@ -124,11 +124,15 @@ value_for : Option ℕ → Kind → Value
 value_for (Some rows) kind = Number (pos 1)
 value_for None Integer = Number (pos 0)
 value_for None (Chars most) = Text []
+value_for None IntegerOrNull = Number (pos 0)
+value_for None (CharsOrNull most) = Text []
 
 kind_for : (kind : Kind) → is_of_kind kind (value_for None kind) ≡ true
 unfolding value_for
 kind_for Integer = refl
 kind_for (Chars most) = and_true (nat_le 0 most) true (le-leb 0 most (omega arith)) refl
+kind_for IntegerOrNull = refl
+kind_for (CharsOrNull most) = and_true (nat_le 0 most) true (le-leb 0 most (omega arith)) refl
 
 key_for : (rows : ℕ) → 1 ≤ rows → is_row_among rows (Number (pos 1)) ≡ true
 key_for rows some = and_true true (nat_le 1 rows) refl (le-leb 1 rows some)
@@ -230,6 +234,7 @@ module _ (cells : CellsSpellOneValue) (parts : PartsByFlags) (hidden : HiddenVal
 -- ---- other numbers of rows
 
 none_among : (value : Value) → is_row_among 0 value ≡ true → ⊥
+none_among Null h = absurd (cc (h))
 none_among (Text text) h = absurd (cc (h))
 none_among (Number (negsuc n)) h = absurd (cc (h))
 none_among (Number (pos zero)) h = absurd (cc (h))

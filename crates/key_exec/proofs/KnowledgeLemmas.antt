@@ -114,7 +114,7 @@ pub slot_is_static :
     → is_hidden cat.schema table column ≡ true → place < count_of cat table → page_of (column_file cat table column) place < static_end cat
 slot_is_static small order stand cat tree table column place hidden within =
     let narrow = small.narrow cat tree in
-    let most : width_at cat.schema table column ≤ 64 = narrow.most table column in
+    let most : width_at cat.schema table column ≤ 65 = narrow.most table column in
     let least : 0 < width_at cat.schema table column = narrow.least table column hidden in
     let lie = order cat in
     let before = (stand (column_file cat table column) least (omega (arith, most))).page place within in
@@ -232,7 +232,7 @@ scan_files_kept small order summed stand told page now cat database tree keeps k
   counts = knows.counts;
   columns = λ table column hidden.
       let narrow = small.narrow cat tree in
-      let most : width_at cat.schema table column ≤ 64 = narrow.most table column in
+      let most : width_at cat.schema table column ≤ 65 = narrow.most table column in
       let inside : run_end (column_file cat table column) ≤ files_end cat = (order cat).within table column hidden in
       let rounded : files_end cat ≤ static_end cat = (order cat).static in
       run_static cat (column_file cat table column) _ keeps stand (narrow.least table column hidden) (omega (arith, most)) (omega (arith, inside, rounded))

@@ -86,6 +86,7 @@ module _ (told : Bool) (since : ℕ) (before now : Device) (forced : Option Form
         from = omega (arith, lies.0, blames.page_is);
         to = omega (arith, lies.1, blames.page_is);
         run = run;
+        width = (is_half.readable look.table needed).sound.wide;
         at = record {
           place = blames.place;
           within = blames.within;

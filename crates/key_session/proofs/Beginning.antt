@@ -12,7 +12,7 @@ use Rattle.ghost_model.specs.forms.Frames.{AreBytes}
 use Rattle.ghost_model.specs.laws.SchemaTrees.{IsTree}
 use Rattle.ghost_model.specs.readings.QueryReading.{reading}
 use Rattle.ghost_laws.specs.Selected.{AreWholeReplies, RepliesAreWhole}
-use Rattle.ghost_model.specs.forms.Layout.{spool_end, need}
+use Rattle.ghost_model.specs.forms.Layout.{spool_end, scratch_end}
 use Rattle.edge_traits.specs.Devices.{Device, ChangesOnly}
 use Rattle.page_pool.specs.Pools.{Pool, KeepsOthers, others_out}
 use Rattle.page_pool.proofs.Leases.{other_out}
@@ -154,12 +154,12 @@ none_taken plan pages_told catalog texts journal since now pool pump teller stor
 
 -- ---- a step reads pages, and may write some behind the spool, while a text is told
 
-pub keeps_spool : (plan : Plan) (catalog : Catalog) (before now : Device) → KeepsBy plan catalog before now → ChangesOnly (spool_end catalog) (need catalog) before now
+pub keeps_spool : (plan : Plan) (catalog : Catalog) (before now : Device) → KeepsBy plan catalog before now → ChangesOnly (spool_end catalog) (scratch_end catalog) before now
 keeps_spool Scan catalog before now keeps = changes_kept keeps _ _
 keeps_spool (Linked forced) catalog before now keeps = keeps
 
 pub telling_spared : (plan : Plan) (pages_told : Bool) (catalog : Catalog) (texts : List (List ℕ)) (journal : Journal) (top : ℕ) (since : SessionSide) (sink : Handed) (before now : Device) (pool more : Pool) (left : List (List ℕ)) (count : ℕ) (counts : Counts) (store : Replies)
-    → ChangesOnly (spool_end catalog) (need catalog) before now → now.faults ≡ before.faults → IsKept pages_told now more catalog (heard_in catalog texts journal) (count + 1) top store
+    → ChangesOnly (spool_end catalog) (scratch_end catalog) before now → now.faults ≡ before.faults → IsKept pages_told now more catalog (heard_in catalog texts journal) (count + 1) top store
     → IsTelling plan pages_told catalog texts journal top since sink before pool left count counts store
     → IsTelling plan pages_told catalog texts journal top since sink now more left count counts store
 telling_spared plan pages_told catalog texts journal top since sink before now pool more left count counts store keeps faults kept telling =
@@ -221,7 +221,7 @@ pub text_alone : (pool : Pool) (lease : ℕ) (running : Option Telling) (telling
 text_alone pool lease running telling is alone = subst (λ (r : Option Telling). IsOutAlone (leases_of r) pool lease) is alone
 
 pub kept_still : RepliesStayKept → (pages_told : Bool) (before now : Device) (pool more : Pool) (catalog : Catalog) (heard : Heard) (low top : ℕ) (store : Replies) (leases later : List ℕ)
-    → ChangesOnly (spool_end catalog) (need catalog) before now → others_out more later ≡ others_out pool leases → KeepsOthers (others_out pool leases) pool more → IsOutAlone leases pool (lease_of store)
+    → ChangesOnly (spool_end catalog) (scratch_end catalog) before now → others_out more later ≡ others_out pool leases → KeepsOthers (others_out pool leases) pool more → IsOutAlone leases pool (lease_of store)
     → IsKept pages_told before pool catalog heard low top store → IsKept pages_told now more catalog heard low top store
 kept_still stays pages_told before now pool more catalog heard low top store leases later keeps same others alone kept =
     let after = alone_still leases later pool more (lease_of store) same others alone in
@@ -280,7 +280,7 @@ settled_by catalog texts journal text count within before last =
 module _ (join : PiecesJoin) (decided : TextsAreDecided) (laws : PageLaws) (stays : RepliesStayKept) (later : LaterTextsAreUnmarked) (rises : LowRises) (plan : Plan) (pages_told : Bool) (catalog : Catalog) (texts : List (List ℕ)) (journal : Journal) (since before now : SessionSide)
     (pool more : Pool) (pump : Pump) (old : Teller) (store : Replies) (text next : Telling)
     (is_text : old.running ≡ Some text) (begun : IsBegun plan pages_told catalog texts journal since before pool pump old store)
-    (keeps : ChangesOnly (spool_end catalog) (need catalog) before.flash now.flash) (number : next.number ≡ text.number)
+    (keeps : ChangesOnly (spool_end catalog) (scratch_end catalog) before.flash now.flash) (number : next.number ≡ text.number)
     (same : others_out more (lines.leases_of next) ≡ others_out pool (lines.leases_of text)) (others : KeepsOthers (others_out pool (lines.leases_of text)) pool more)
     (alone : IsOutAlone (lines.leases_of text) pool (lease_of store)) where
   same_text : begun.telling ≡ text

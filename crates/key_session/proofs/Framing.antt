@@ -2,7 +2,7 @@
 use Rattle.std.proofs.Common.{◌≡◌, ◌+◌, ℕ, Bool, false, List, [], refl, sym, ◌∙◌, Option, Some, None}
 use Rattle.std.specs.Prelude.{◌≢◌, ◌%◌}
 use Rattle.ghost_model.specs.core.Channel.{Catalog, Journal}
-use Rattle.ghost_model.specs.forms.Layout.{spool_end, need}
+use Rattle.ghost_model.specs.forms.Layout.{spool_end, scratch_end}
 use Rattle.edge_traits.specs.Devices.{Device}
 use Rattle.edge_traits.proofs.DeviceFrames.{changes_kept, kept_same}
 use Rattle.page_pool.specs.Pools.{Pool, ChangesPage, bytes_at}
@@ -41,7 +41,7 @@ module _ (pool more : Pool) (frame : ℕ) (teller : Teller) (kept : Replies) (ap
   kept_written : RepliesStayKept → (told : Bool) (device : Device) (catalog : Catalog) (texts : List (List ℕ)) (journal : Journal) (low top : ℕ) → IsKept told device pool catalog (heard_in catalog texts journal) low top kept
       → IsKept told device more catalog (heard_in catalog texts journal) low top kept
   kept_written stays told device catalog texts journal low top is =
-      stays told device device pool more catalog (heard_in catalog texts journal) low top kept (changes_kept (kept_same device) (spool_end catalog) (need catalog))
+      stays told device device pool more catalog (heard_in catalog texts journal) low top kept (changes_kept (kept_same device) (spool_end catalog) (scratch_end catalog))
       (out_kept (change_keeps_out changes) is.spooling.out) (change_elsewhere changes (λ same. apart.replies (sym same))) is
 
   spares : (told : Bool) (catalog : Catalog) (number : ℕ) (device : Device) (telling : Telling) → IsOutAlone (lines.leases_of telling) pool frame → Spares catalog (number % 2) device device pool more (lines.leases_of telling)

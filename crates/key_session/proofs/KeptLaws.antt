@@ -10,7 +10,7 @@ use Rattle.ghost_model.specs.core.Moves.{taken}
 use Rattle.ghost_model.specs.core.NextMove.{Heard, EndedAsk, Ending, Answered, Refused, heard}
 use Rattle.ghost_model.specs.core.Replies as given
 use Rattle.ghost_model.specs.core.Replies.{reply_for, reply_about, replied_row}
-use Rattle.ghost_model.specs.forms.Layout.{spool_end, need}
+use Rattle.ghost_model.specs.forms.Layout.{spool_end, scratch_end}
 use Rattle.ghost_model.specs.forms.Runs.{page_of}
 use Rattle.ghost_base.specs.Runs.{run_of}
 use Rattle.edge_traits.specs.Devices.{Device, ChangesOnly}
@@ -171,7 +171,7 @@ area_upto catalog spool table text areas wide =
     omega (arith, to, upto)
 
 module _ (stays : StaysSpooling) (pushed : StillPushed) (readable : RepliesStayReadable) (is_kept : RepliesAreKept) (told : Bool) (before now : Device) (pool later : Pool) (catalog : Catalog) (spool : Spool)
-    (changes : ChangesOnly (spool_end catalog) (need catalog) before now) (out : IsOut later spool.hand.writer.lease) (buffer : SameBuffer pool later spool.hand.writer.lease)
+    (changes : ChangesOnly (spool_end catalog) (scratch_end catalog) before now) (out : IsOut later spool.hand.writer.lease) (buffer : SameBuffer pool later spool.hand.writer.lease)
     (areas : AreAreasOf catalog spool.areas.items) (spooling : IsSpooling before pool spool) where
   spares : (spool.hand.text ≡ 0 → ⊥) → Spares before now pool later spool
   spares some =

@@ -1,7 +1,7 @@
 -- A teller after one more text.
 use Rattle.std.proofs.Common.{[], ◌∷◌, ◌++◌, ◌≡◌, ◌≤◌, ◌<◌, ℕ, zero, suc, ◌+◌, arith, Bool, true, false, List, sym, ap, ◌∙◌, subst, Some, slice_get}
 use Rattle.edge_traits.proofs.DeviceFrames.{changes_trans, changes_wider}
-use Rattle.std.specs.Prelude.{◌%◌, min}
+use Rattle.std.specs.Prelude.{◌*◌, ◌%◌, min}
 use Rattle.std.specs.List.{concat}
 use Rattle.ghost_model.specs.core.Lines.{Reason}
 use Rattle.ghost_model.specs.core.Causes.{last_count}
@@ -12,7 +12,7 @@ use Rattle.ghost_model.specs.core.NextMove.{standing_after}
 use Rattle.ghost_model.specs.core.Split.{hidden_of}
 use Rattle.ghost_model.specs.core.Replies.{Reply, replies}
 use Rattle.ghost_model.specs.laws.SchemaTrees.{IsTree}
-use Rattle.ghost_model.specs.forms.Layout.{static_end, spool_end, need}
+use Rattle.ghost_model.specs.forms.Layout.{static_end, half_pages, spool_end, scratch_pages, scratch_count, scratch_end}
 use Rattle.edge_traits.specs.Devices.{Device, ChangesOnly}
 use Rattle.channel_pump.specs.Marks.{state_of}
 use Rattle.channel_pump.specs.declared.state.ReplyState.{ReplyState}
@@ -72,21 +72,31 @@ no_fall most before now up = omega (arith, up)
 pub files_on : (catalog : Catalog) (a b c : Device) → KeepsFiles catalog a b → KeepsFiles catalog b c → KeepsFiles catalog a c
 files_on catalog a b c first second = changes_trans first second
 
+-- both halves of the spool end below what is behind it
+first_half : (files half more : ℕ) → files + 1 * half ≤ (files + 2 * half) + more
+first_half files half more = omega arith
+
+second_half : (files half more : ℕ) → files + 2 * half ≤ (files + 2 * half) + more
+second_half files half more = omega arith
+
+same_end : (number : ℕ) → number ≤ number
+same_end number = omega arith
+
 -- so do they where the half of a text is written
 pub half_files : (catalog : Catalog) (text : ℕ) (a b : Device) → WritesHalf catalog text a b → KeepsFiles catalog a b
-half_files catalog text a b writes = (let lies = within (text % 2) (below text) in changes_wider writes (static_end catalog) (need catalog) lies.0 lies.1)
+half_files catalog text a b writes = (let lies = within (text % 2) (below text) in changes_wider writes (static_end catalog) (scratch_end catalog) lies.0 lies.1)
   where
     below : (n : ℕ) → n % 2 < 2
     below n = omega arith
 
-    within : (side : ℕ) → side < 2 → (static_end catalog ≤ half_begin catalog side) × (half_end catalog side ≤ need catalog)
-    within zero less = (omega arith, omega arith)
-    within (suc zero) less = (omega arith, omega arith)
+    within : (side : ℕ) → side < 2 → (static_end catalog ≤ half_begin catalog side) × (half_end catalog side ≤ scratch_end catalog)
+    within zero less = (omega arith, first_half (static_end catalog) (half_pages catalog) (scratch_count catalog * scratch_pages catalog))
+    within (suc zero) less = (omega arith, second_half (static_end catalog) (half_pages catalog) (scratch_count catalog * scratch_pages catalog))
     within (suc (suc side)) less = absurd (omega (arith, less))
 
 -- and where pages behind the spool are
-pub files_kept : (catalog : Catalog) (a b c : Device) → KeepsFiles catalog a b → ChangesOnly (spool_end catalog) (need catalog) b c → KeepsFiles catalog a c
-files_kept catalog a b c first second = changes_trans first (changes_wider second (static_end catalog) (need catalog) (omega arith) (omega arith))
+pub files_kept : (catalog : Catalog) (a b c : Device) → KeepsFiles catalog a b → ChangesOnly (spool_end catalog) (scratch_end catalog) b c → KeepsFiles catalog a c
+files_kept catalog a b c first second = changes_trans first (changes_wider second (static_end catalog) (scratch_end catalog) (omega arith) (same_end (scratch_end catalog)))
 
 -- and so do the pages below the spool
 pub static_later : (catalog : Catalog) (a b : Device) → KeepsFiles catalog a b → KeepsStatic catalog a.page b.page
@@ -134,7 +144,7 @@ module _ (join : PiecesJoin) (decided : TextsAreDecided) (laws : PageLaws) (late
     (telling : IsTelling plan pages_told catalog texts journal top since first.sink before.flash pool (texts_left old) old.count old.counts store)
     (taken : IsTaken plan pages_told catalog texts journal old.count state (is_lost store (old.count + 1)) half since.flash first before pool text)
     (ends : HasTold plan pages_told catalog ((old.count + 1) % 2) (old.count + 1) taken.written state (is_lost store (old.count + 1)) half first.flash now.flash first.sink now.sink result one)
-    (tells : ToldTells before.flash.faults now.flash.faults result) (kept_pages : ChangesOnly (spool_end catalog) (need catalog) before.flash now.flash)
+    (tells : ToldTells before.flash.faults now.flash.faults result) (kept_pages : ChangesOnly (spool_end catalog) (scratch_end catalog) before.flash now.flash)
     (kept : IsKept pages_told now.flash more catalog (heard_in catalog texts journal) (old.count + 1) top store) (ended : EndsText result one old new) where
   abbrev marked : Bool
   marked = is_lost store (old.count + 1)

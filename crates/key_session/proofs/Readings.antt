@@ -50,9 +50,9 @@ module _ (early since : ℕ) (before now : Device) (earlier : early ≤ since) (
   found_on pages_told catalog asked forced top side number slot found (InFile was) =
       InFile (record { file = was.file; has = was.has; read_for = was.read_for; at = found_at (run_of_file catalog was.file) (λ bytes. in_slot (λ _. bytes) catalog was.file) number slot found was.at })
   found_on pages_told catalog asked forced top side number slot found (InReplies untold was) =
-      InReplies untold (record { from = was.from; to = was.to; run = was.run; at = found_at was.run (λ bytes. reads.bytes_in bytes was.run) number slot found was.at })
+      InReplies untold (record { from = was.from; to = was.to; run = was.run; width = was.width; at = found_at was.run (λ bytes. reads.bytes_in bytes was.run) number slot found was.at })
   found_on pages_told catalog asked forced top side number slot found (InScratch untold was) =
-      InScratch untold (record { from = was.from; to = was.to; run = was.run; at = found_at was.run (λ bytes. reads.bytes_in bytes was.run) number slot found was.at })
+      InScratch untold (record { from = was.from; to = was.to; run = was.run; width = was.width; at = found_at was.run (λ bytes. reads.bytes_in bytes was.run) number slot found was.at })
 
   damage_on : (plan : Plan) (pages_told : Bool) (catalog : Catalog) (asked : Query) (top side : ℕ) (half : Half) (number slot found : ℕ)
       → WasDamaged plan pages_told since before catalog asked top side half number slot found → WasDamaged plan pages_told early now catalog asked top side half number slot found

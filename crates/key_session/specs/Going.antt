@@ -6,6 +6,7 @@ use Rattle.ghost_model.specs.core.Channel.{Catalog, Journal, Entry}
 use Rattle.ghost_model.specs.core.Asks.{NumberedAsk, asked_of}
 use Rattle.ghost_model.specs.core.NextMove.{standing_after, heard}
 use Rattle.ghost_model.specs.core.Replies.{replies}
+use Rattle.ghost_model.specs.forms.Catalog.{current_version}
 use Rattle.edge_traits.specs.Devices.{Device}
 use Rattle.page_pool.specs.Pools.{Pool, IsIdle, IsOut, bytes_at, others_out}
 use Rattle.visible_spool.specs.declared.half.Half.{Half}
@@ -100,6 +101,7 @@ pub record HasLeases (pages_told : Bool) (device : Device) (pool : Pool) (sessio
 
 -- what a session needs that has its buffers
 pub record CanWork (pages_told : Bool) (device : Device) (pool : Pool) (session : Session) : Type 0 where
+  pub version : session.cat.now.version ≡ current_version
   pub suffices : Suffices session.cat.now device
   pub has : HasLeases pages_told device pool session
 
@@ -130,6 +132,7 @@ HasBuffers buffers.Taken pages_told device pool session = IsAtWork pages_told de
 HasBuffers buffers.GivenBack pages_told device pool session = IsAtEnd pool session
 
 pub record CanStep (pages_told : Bool) (device : Device) (pool : Pool) (session : Session) : Type 0 where
+  pub version : session.cat.now.version ≡ current_version
   pub suffices : Suffices session.cat.now device
   pub buffers : HasBuffers session.buffers pages_told device pool session
 

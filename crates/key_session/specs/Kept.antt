@@ -65,7 +65,7 @@ pub record IsAskOf (schema : Schema) (asked : NumberedAsk) (hand : AskAtHand) : 
   pub narrow : IsTrue (list_all is_narrow (map kind_of hand.kinds.items))
   pub few : length hand.kinds.items ≤ 24
   pub least : 4 ≤ hand.width
-  pub most : hand.width ≤ 1540
+  pub most : hand.width ≤ 1564
 
 -- the spool has the rows that came for the ask at hand, unless its text is marked
 pub record HasCome (told : Bool) (page : ℕ → List ℕ) (pool : Pool) (ended : List EndedAsk) (hand : AskAtHand) (rows : List ℕ) (spool : Spool) : Type 0 where

@@ -2,7 +2,7 @@
 use Rattle.std.specs.Prelude.{◌≡◌, ℕ, ◌+◌, ◌%◌, ◌<◌, ◌≤◌, Bool, false}
 use Rattle.ghost_model.specs.core.Channel.{Catalog}
 use Rattle.ghost_model.specs.core.NextMove.{Heard}
-use Rattle.ghost_model.specs.forms.Layout.{spool_end, need}
+use Rattle.ghost_model.specs.forms.Layout.{spool_end, scratch_end}
 use Rattle.edge_traits.specs.Devices.{Device, ChangesOnly}
 use Rattle.page_pool.specs.Pools.{Pool, IsOut}
 use Rattle.page_pool.specs.Laws.{SameBuffer}
@@ -14,7 +14,7 @@ use Rattle.key_session.specs.declared.replies.Replies.{Replies}
 abbrev pub RepliesStayKept : Type 0
 RepliesStayKept =
     (told : Bool) (before now : Device) (pool later : Pool) (catalog : Catalog) (heard : Heard) (low top : ℕ) (replies : Replies)
-    → ChangesOnly (spool_end catalog) (need catalog) before now → IsOut later (lease_of replies) → SameBuffer pool later (lease_of replies)
+    → ChangesOnly (spool_end catalog) (scratch_end catalog) before now → IsOut later (lease_of replies) → SameBuffer pool later (lease_of replies)
     → IsKept told before pool catalog heard low top replies → IsKept told now later catalog heard low top replies
 
 -- a text was answered

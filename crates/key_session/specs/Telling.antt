@@ -9,7 +9,7 @@ use Rattle.ghost_model.specs.readings.QueryReading.{reading}
 use Rattle.ghost_model.specs.core.Channel.{Catalog, Journal}
 use Rattle.ghost_model.specs.core.Split.{hidden_of}
 use Rattle.ghost_model.specs.core.Lines.{Reason}
-use Rattle.ghost_model.specs.forms.Layout.{static_end, need}
+use Rattle.ghost_model.specs.forms.Layout.{static_end, scratch_end}
 use Rattle.edge_traits.specs.Devices.{Device, ChangesOnly}
 use Rattle.page_pool.specs.Pools.{Pool}
 use Rattle.session_laws.specs.TextEnds.{heard_in}
@@ -68,7 +68,7 @@ pub record AreKeptSoFar (by : Plan) (pages_told : Bool) (page : ℕ → List ℕ
 
 -- what stays below the spool and behind it
 abbrev pub KeepsFiles : Catalog → (before now : Device) → Type 0
-KeepsFiles catalog before now = ChangesOnly (static_end catalog) (need catalog) before now
+KeepsFiles catalog before now = ChangesOnly (static_end catalog) (scratch_end catalog) before now
 
 -- A teller has told some texts of a session that went by a journal, the sink as it was after the last of them, and the flash as
 -- it is now. The replies for the others are kept, none of them for a text behind `top`.

@@ -4,6 +4,7 @@ ghost use Rattle.std.specs.Prelude.{◌≡◌, ◌≤◌, ◌<◌, ◌+◌, ◌*
 ghost use Rattle.ghost_model.specs.core.Channel.{Catalog};
 ghost use Rattle.ghost_model.specs.core.Asks.{NumberedAsk};
 ghost use Rattle.ghost_model.specs.core.NextMove.{Heard, are_cells, last_identifier};
+ghost use Rattle.ghost_model.specs.forms.Catalog.{current_version};
 ghost use Rattle.ghost_model.specs.forms.Frames.{payload_in};
 ghost use Rattle.ghost_model.specs.forms.Layout as layout;
 ghost use Rattle.ghost_model.specs.forms.Runs.{number_in};
@@ -62,6 +63,7 @@ fn payload_of(page: &[u8; 2048]) -> &[u8]
 impl Replies {
     /// No replies. With any buffer for the rows at hand they are kept, and as yet they have none.
     pub(crate) fn begin(cat: &Catalog) -> Replies
+        requires version { cat.now.version ≡ current_version }
         ensures kept { (told : Bool) (device : Device) (pool : Pool) (lease : ℕ) → layout.need cat.now ≤ device.page_count → device.page_count < 2 ^ 32 → IsOut pool lease
             → IsKept told device pool cat.now (none_heard cat.now) 1 0 (with_lease lease result) }
         ensures closed { result.is_open ≡ false }

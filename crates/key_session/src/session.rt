@@ -9,6 +9,7 @@ ghost use Rattle.ghost_model.specs.core.Moves.{taken};
 ghost use Rattle.ghost_model.specs.core.NextMove.{heard, standing_after};
 ghost use Rattle.ghost_model.specs.core.Texts.{texts_of};
 ghost use Rattle.edge_traits.specs.Devices.{Device, ChangesOnly};
+ghost use Rattle.ghost_model.specs.forms.Catalog.{current_version};
 ghost use Rattle.ghost_model.specs.forms.Layout as layout;
 ghost use Rattle.channel_pump.specs.Here.{moves_left};
 ghost use Rattle.channel_pump.specs.Marks.{asked_at};
@@ -93,8 +94,9 @@ pub struct Session<'a> {
 }
 
 impl<'a> Session<'a> {
-    /// The session of a script, which has at most 64 texts, before its first step.
+    /// The session of a script, which has at most 64 texts, before its first step. The catalog is of the version that is made.
     pub fn begin(cat: &'a Catalog, script: &'a [u8], options: &Options<'a>) -> Self
+        requires version { cat.now.version ≡ current_version }
         requires few { length (texts_of script.now) ≤ 64 }
         ensures live { (told : Bool) (now : SessionSide) (pool : Pool) → Suffices cat.now now.flash → IsLive options.now.plan told (texts_of script.now) [] now now pool result }
         ensures can { (told : Bool) (device : Device) (pool : Pool) → Suffices cat.now device → IsIdle pool → CanStep told device pool result }
@@ -445,7 +447,7 @@ fn await_reply(cat: &Catalog, pump: &Pump, replies: &mut Replies) -> bool
 }
 
 /// Runs the session of a script, which has at most 64 texts, with the host at the options' address, and prints the lines of
-/// each text: the replies of the host and the key's own flash answer it.
+/// each text: the replies of the host and the key's own flash answer it. The catalog is of the version that is made.
 ///
 /// Every page that it reads of the flash lies in a buffer of the pool, of which none is out before it and none after it.
 /// The replies are written to the spool, behind the files of the hidden part; by the indexes the candidates of a text are gathered
@@ -464,6 +466,7 @@ pub fn run_session<F: Flash, L: Link, O: Sink>(
     link: &mut L,
     out: &mut O,
 ) -> Tally
+    requires version { cat.now.version ≡ current_version }
     requires few { length (texts_of script.now) ≤ 64 }
     requires suffices { Suffices cat.now (F.state flash.old) }
     requires idle { IsIdle pool.old }
@@ -473,7 +476,7 @@ pub fn run_session<F: Flash, L: Link, O: Sink>(
     ensures prints { PrintsSome (handed false (O.faults out.old) (O.written out.old)) (handed (is_sink result.status) (O.faults out.new) (O.written out.new)) }
     ensures sink_rose { is_sink result.status ≡ true → Rose (O.faults out.old) (O.faults out.new) }
     ensures sink_same { is_sink result.status ≡ false → O.faults out.new ≡ O.faults out.old }
-    ensures pages { ChangesOnly (layout.static_end cat.now) (layout.need cat.now) (F.state flash.old) (F.state flash.new) }
+    ensures pages { ChangesOnly (layout.static_end cat.now) (layout.scratch_end cat.now) (F.state flash.old) (F.state flash.new) }
     ensures idle { IsIdle pool.new }
     ensures flash_calls { min (F.state flash.old).calls last_count ≤ (F.state flash.new).calls }
     ensures flash_called { blames_flash result.status ≡ true → Rose (F.state flash.old).calls (F.state flash.new).calls }

@@ -6,6 +6,7 @@ ghost use Rattle.ghost_model.specs.core.Channel.{Journal};
 ghost use Rattle.channel_pump.specs.declared.state.Pump as pumps;
 ghost use Rattle.ghost_model.specs.core.Asks.{asked_of};
 ghost use Rattle.ghost_model.specs.core.Moves.{taken};
+ghost use Rattle.ghost_model.specs.forms.Catalog.{current_version};
 ghost use Rattle.ghost_model.specs.forms.Frames.{AreBytes};
 ghost use Rattle.ghost_model.specs.laws.SchemaTrees.{IsTree};
 ghost use Rattle.edge_traits.specs.Devices.{Device};
@@ -47,6 +48,7 @@ use tree_schema::Catalog;
 impl<'a> Teller<'a> {
     /// Begins the text that comes next, unless it was begun: its asks are over.
     pub(crate) fn take_up(&mut self, cat: &Catalog, pump: &Pump, replies: &Replies)
+        requires version { cat.now.version ≡ current_version }
         requires left { is_some self.old.ahead ≡ true }
         ensures begun { is_some self.new.running ≡ true }
         ensures can { (told : Bool) (device : Device) (pool : Pool) (lease : ℕ) → Suffices cat.now device → IsHalf told cat.now ((self.old.count + 1) % 2) device (half_in replies.now (self.old.count + 1))
@@ -71,6 +73,7 @@ impl<'a> Teller<'a> {
     /// Begins the text that comes next. It is no part of a slice's own code, which needs no room for a job that begins.
     #[inline(never)]
     fn begin_text(&mut self, cat: &Catalog, pump: &Pump, replies: &Replies)
+        requires version { cat.now.version ≡ current_version }
         requires left { is_some self.old.ahead ≡ true }
         requires none { is_some self.old.running ≡ false }
         ensures begun { is_some self.new.running ≡ true }

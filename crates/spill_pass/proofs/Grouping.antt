@@ -24,6 +24,7 @@ lists_area changes = record {
   name = changes.name;
   page_count = changes.page_count;
   stays = λ page outside apart. elim outside [ inl below ↦ changes.below page below | inr above ↦ changes.above page above ];
+  devices = changes.others;
   never_falls = changes.never_falls;
   gave = changes.gave;
 }
@@ -33,6 +34,7 @@ places_area changes = record {
   name = changes.name;
   page_count = changes.page_count;
   stays = λ page outside apart. elim apart [ inl below ↦ changes.below page below | inr above ↦ changes.above page above ];
+  devices = changes.others;
   never_falls = changes.never_falls;
   gave = changes.gave;
 }
@@ -42,6 +44,7 @@ areas_kept first end other other_end kept = record {
   name = kept.name;
   page_count = kept.page_count;
   stays = λ page outside apart. same_kept kept page;
+  devices = kept.others;
   never_falls = kept.never_falls;
   gave = kept.gave;
 }
@@ -62,6 +65,7 @@ areas_trans {first = first} {end = end} {other = other} {other_end = other_end} 
       stays = λ page outside apart.
           same_trans (one.stays page outside apart)
           (two.stays page (beside_same page first end first' end' f e outside) (beside_same page other other_end other' other_end' o oe apart));
+      devices = two.devices ∙ one.devices;
       never_falls = omega (arith, one.never_falls, two.never_falls);
       gave = λ at page bytes gave. two.gave at page bytes (one.gave at page bytes gave);
     }

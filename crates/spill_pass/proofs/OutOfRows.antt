@@ -21,6 +21,7 @@ out_kept page now list rows number slot found inside same out =
       place = out.place;
       last = out.last;
       gets = sym (reading_of_kept page now run list.first out.at (omega (arith, out.within, inside)) same) ∙ out.gets;
+      kept = out.kept;
       page_is = out.page_is;
       slot_is = out.slot_is;
       found_is = out.found_is ∙ ap found_in (bytes_kept page now run out.place there same);

@@ -117,6 +117,7 @@ out_in page some rows cursors damaged (Err (Damaged number slot found)) over jud
       place = out.run.place;
       last = out.run.last;
       gets = out.gets;
+      kept = omega (arith, out.kept, is.rows_are);
       page_is = out.place.page_is;
       slot_is = out.place.slot_is;
       found_is = out.found_is;

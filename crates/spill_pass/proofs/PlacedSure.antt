@@ -10,14 +10,14 @@ use Rattle.ghost_base.specs.declared.runs.Run.{Run}
 use Rattle.ghost_base.specs.declared.runs.ListRef.{ListRef}
 use Rattle.ghost_base.specs.Runs.{run_of}
 use Rattle.flash_pages.specs.declared.fault.PageFault.{PageFault}
-use Rattle.flash_pages.proofs.ListFrames.{listed_by_width, reading_of_record, records_by_width}
+use Rattle.flash_pages.proofs.ListFrames.{listed_by_width}
 use Rattle.flash_pages.proofs.RunFrames.{record_kept}
 use Rattle.spill_pass.specs.declared.groups.PlacedLists.{PlacedLists}
 use Rattle.spill_pass.specs.declared.places.PlaceReader.{PlaceReader}
 use Rattle.spill_pass.specs.Grouping.{AreRowLists, StoresLists}
 use Rattle.spill_pass.specs.Listings.{PlacedHas}
 use Rattle.spill_pass.specs.Lists.{OutOfRowsIn, id_of}
-use Rattle.spill_pass.specs.Places.{DamagesReader, LiesInLists, ReaderHas, lists_run, source_of}
+use Rattle.spill_pass.specs.Places.{DamagesReader, ReaderHas, source_of}
 use Rattle.spill_pass.specs.Sources.{BlamesSource, GivesLists}
 use Rattle.spill_pass.proofs.Over.{blames_less}
 use Rattle.spill_pass.proofs.PlaceLaws.{lists_used, reader_has}
@@ -46,57 +46,6 @@ none_out page rows run list width same inside all number slot found out =
     let within : place < run.count = omega (arith, inside, out.within) in
     out.out (omega (arith, is, all.above place within)) (omega (arith, is, all.within place within))
 
--- a slot of such a list is one of the whole run
-abbrev last_or : Option gaps.Reading → ℕ
-last_or None = 0
-last_or (Some reading) = reading.last
-
-abbrev place_or : Option gaps.Reading → ℕ
-place_or None = 0
-place_or (Some reading) = reading.place
-
-record_reads :
-    (page : ℕ → List ℕ) (run : runs.Run) (begin i : ℕ) → gaps.are_codes run ≡ false
-    → gaps.reading_of page run begin i ≡ Some (record { place = begin + i; last = last_or (gaps.reading_of page run begin i) })
-record_reads page run begin zero records = let e : begin ≡ begin + 0 = omega arith in ap (λ n. Some (record { place = n; last = 0 })) e
-record_reads page run begin (suc i) records =
-    let is = reading_of_record page run begin i records in
-    is ∙ sym (ap (λ reading. Some (record { place = begin + suc i; last = last_or reading })) is)
-
-pub whole_out :
-    (page : ℕ → List ℕ) (rows : ℕ) (list : ListRef) → list.run.width ≡ 4 → list.first + list.count ≤ list.run.count → (number slot found : ℕ)
-    → OutOfRowsIn page list rows number slot found
-    → OutOfRowsIn page (record { run = list.run; first = 0; count = list.run.count }) rows number slot found
-whole_out page rows list width inside number slot found out =
-    let run = run_of list.run in
-    let wide : 4 ≤ list.run.width = omega (arith, width) in
-    let records = records_by_width run wide in
-    let at = list.first + out.at in
-    let place : out.place ≡ at = ap place_or (sym out.gets ∙ record_reads page run list.first out.at records) in
-    let none : 0 + at ≡ at = omega arith in
-    let same : gaps.listed page run 0 at ≡ id_of page list out.at =
-    listed_by_width page run 0 at wide ∙ ap (λ n. id_at page run n) none ∙ sym (listed_by_width page run list.first out.at wide) in
-    record {
-      at = at;
-      within = omega (arith, out.within, inside);
-      place = out.place;
-      last = last_or (gaps.reading_of page run 0 at);
-      gets = record_reads page run 0 at records ∙ ap (λ n. Some (record { place = n; last = last_or (gaps.reading_of page run 0 at) })) (none ∙ sym place);
-      page_is = out.page_is;
-      slot_is = out.slot_is;
-      found_is = out.found_is;
-      out = λ some few. out.out (omega (arith, same, some)) (omega (arith, same, few));
-    }
-
-pub judged_whole :
-    (page : ℕ → List ℕ) (rows : ℕ) (reader : PlaceReader) (list : ListRef) → reader.lists.width ≡ 4 → LiesInLists page reader list
-    → (number slot found : ℕ) → OutOfRowsIn page list rows number slot found → DamagesReader page rows reader number slot found
-judged_whole page rows reader list width lies number slot found out =
-    let P : Run → Type 0 = λ run. OutOfRowsIn page (record { run = run; first = 0; count = run.count }) rows number slot found in
-    let W : Run → Type 0 = λ run. (run.width ≡ 4) × (list.first + list.count ≤ run.count) in
-    let is = subst W (sym lies.run_is) (width, lies.within) in
-    subst P lies.run_is (whole_out page rows list is.0 is.1 number slot found out)
-
 pub sure_of : {page right : ℕ → List ℕ} {rows : ℕ} {reader : PlaceReader} {ids : List (List ℕ)} → PlacedHas page right rows reader ids → AllOfRows page rows reader.lists
 sure_of has = record { above = has.above; within = has.within }
 
@@ -108,8 +57,8 @@ placed_sound page now right rows reader ids damaged result pages has blames =
     blames_less (DamagesReader now rows reader) damaged result
     (λ number slot found out.
     absurd
-    (none_out now rows reader.lists (lists_run reader) has.has.lists_width refl (omega arith)
-    (sure_on page now rows reader.lists reader.lists pages refl (sure_of has)) number slot found out))
+    (none_out now rows reader.lists out.list has.has.lists_width out.lies.run_is out.lies.within
+    (sure_on page now rows reader.lists reader.lists pages refl (sure_of has)) number slot found out.out))
     blames
 
 -- the lists that are given

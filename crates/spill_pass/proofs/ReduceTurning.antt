@@ -28,6 +28,7 @@ reduce_of_pass source rest areas old new is goes lists = record {
   name = goes.changes.name;
   page_count = goes.changes.page_count;
   stays = λ page outside. goes.changes.stays page (outside.lists old.into.writer.filler.first is.for_lists) (outside.places old.places.filler.first is.for_places);
+  devices = goes.changes.devices;
   never_falls = goes.changes.never_falls;
   gave = goes.changes.gave;
   beside = goes.beside;
@@ -63,6 +64,7 @@ reduce_then {mid = mid} {later = later} source rest next areas old new begun goe
       name = goes.name;
       page_count = goes.page_count;
       stays = goes.stays;
+      devices = goes.devices;
       never_falls = goes.never_falls;
       gave = goes.gave;
       beside = over.beside ∙ goes.beside;
@@ -102,6 +104,7 @@ reduce_goes_on {mid = mid} {later = later} first second =
       name = second.name ∙ first.name;
       page_count = second.page_count ∙ first.page_count;
       stays = λ page outside. same_trans (first.stays page outside) (second.stays page (outside_fewer first.rows first.size outside));
+      devices = second.devices ∙ first.devices;
       never_falls = omega (arith, first.never_falls, second.never_falls);
       gave = λ at page bytes gave. second.gave at page bytes (first.gave at page bytes gave);
       beside = second.beside ∙ first.beside;
@@ -120,6 +123,7 @@ reduce_none source groups are = record {
   name = refl;
   page_count = refl;
   stays = λ page outside. record { bytes = refl; blank = refl };
+  devices = refl;
   never_falls = omega arith;
   gave = λ at page bytes gave. gave;
   beside = refl;

@@ -96,6 +96,7 @@ pub record ChangesAreas (first end other other_end : ℕ) (before now : Device) 
   pub page_count : now.page_count ≡ before.page_count
   pub stays :
       (page : ℕ) → (page < first) ⊎ (end ≤ page) → (page < other) ⊎ (other_end ≤ page) → SamePage before now page
+  pub devices : now.others ≡ before.others
   pub never_falls : before.calls ≤ now.calls
   pub gave : (at page : ℕ) (bytes : List ℕ) → before.gave at page bytes ≡ true → now.gave at page bytes ≡ true
 

@@ -42,13 +42,15 @@ abbrev pub ListOutside : (low high : ℕ) → ListRef → Type 0
 ListOutside low high list =
     (i : ℕ) → i < list.run.count → (runs.page_of (run_of list.run) i < low) ⊎ (high ≤ runs.page_of (run_of list.run) i)
 
--- by the bytes of the pages, the slot is one that reading of the list gets to, and has no identifier of the rows
+-- by the bytes of the pages, the slot is one that reading of the list gets to by identifiers that do not pass the rows, and has no
+-- identifier of the rows
 pub record OutOfRowsIn (page : ℕ → List ℕ) (list : ListRef) (rows number slot found : ℕ) : Type 0 where
   pub at : ℕ
   pub within : at < list.count
   pub place : ℕ
   pub last : ℕ
   pub gets : reading_of page (run_of list.run) list.first at ≡ Some (record { place = place; last = last })
+  pub kept : last ≤ rows
   pub page_is : number ≡ runs.page_of (run_of list.run) place
   pub slot_is : slot ≡ runs.slot_of (run_of list.run) place
   pub found_is : found ≡ runs.found_in (bytes_at page (run_of list.run) place)

@@ -4,7 +4,7 @@ use Rattle.ghost_model.specs.forms.Runs as runs
 use Rattle.ghost_base.specs.declared.runs.Run.{Run}
 use Rattle.ghost_base.specs.declared.runs.ListRef.{ListRef}
 use Rattle.ghost_base.specs.Runs.{run_of}
-use Rattle.edge_traits.specs.Devices.{Device, KeepsPages, next_if}
+use Rattle.edge_traits.specs.Devices.{Device, KeepsPages, first_deep_page, next_if}
 use Rattle.page_pool.specs.Pools.{Pool, ChangesPage, page_at}
 use Rattle.flash_pages.specs.declared.fault.PageFault.{PageFault}
 use Rattle.flash_pages.specs.declared.fault.PageFault.TheVariants.{Flash, Damaged}
@@ -107,7 +107,7 @@ pub record ReadsPlace {T : Type 0} (told : Bool) (before now : Device) (pool lat
   pub kept : KeepsPages before now
   pub calls : now.calls ≡ next_if (reads_place pool reader) before.calls
   pub at_most : now.calls ≤ before.calls + 1
-  pub deep_reads : now.deep_reads ≡ next_if (reads_place pool reader && nat_le 64 (runs.page_of (run_of reader.places) reader.at)) before.deep_reads
+  pub deep_reads : now.deep_reads ≡ next_if (reads_place pool reader && nat_le first_deep_page (runs.page_of (run_of reader.places) reader.at)) before.deep_reads
   pub no_fault : OnOk result (now.faults ≡ before.faults)
   pub fault : IfErr result (FaultTells before now (reads_place pool reader ≡ true))
   pub buffer : ChangesPage pool later reader.lease
@@ -152,15 +152,13 @@ pub record ReaderHas (page right : ℕ → List ℕ) (rows : ℕ) (reader : Plac
   pub lists_width : reader.lists.width ≡ 4
   pub has : HasPlaces page right rows reader.places reader.lists reader.at reader.next ids
 
--- the run of the lists, as one list
-abbrev pub lists_run : PlaceReader → ListRef
-lists_run reader = record { run = reader.lists; first = 0; count = reader.lists.count }
-
 -- whatever the pages have: a list that a reader may give lies in the run of the lists
 pub record LiesInLists (page : ℕ → List ℕ) (reader : PlaceReader) (list : ListRef) : Type 0 where
   pub run_is : list.run ≡ reader.lists
   pub within : list.first + list.count ≤ reader.lists.count
 
--- by the bytes of the pages no place is damaged, but a record of the lists may be
-abbrev pub DamagesReader : (page : ℕ → List ℕ) → (rows : ℕ) → PlaceReader → (number slot found : ℕ) → Type 0
-DamagesReader page rows reader number slot found = OutOfRowsIn page (lists_run reader) rows number slot found
+-- by the bytes of the pages no place is damaged, but a record of a list that a reader may give may be
+pub record DamagesReader (page : ℕ → List ℕ) (rows : ℕ) (reader : PlaceReader) (number slot found : ℕ) : Type 0 where
+  pub list : ListRef
+  pub lies : LiesInLists page reader list
+  pub out : OutOfRowsIn page list rows number slot found

@@ -64,6 +64,7 @@ pub record ReduceGoes (areas : Areas) (before now : Device) (pool later : Pool) 
   pub name : now.name ≡ before.name
   pub page_count : now.page_count ≡ before.page_count
   pub stays : (page : ℕ) → IsOutside areas old.into.rows old.size page → SamePage before now page
+  pub devices : now.others ≡ before.others
   pub never_falls : before.calls ≤ now.calls
   pub gave : (at page : ℕ) (bytes : List ℕ) → before.gave at page bytes ≡ true → now.gave at page bytes ≡ true
   pub beside : others_out later (pass_held rest new) ≡ others_out pool (pass_held source old)

@@ -19,6 +19,7 @@ pub record WorkGoes (unwritten : (page : ℕ) → Type 0) (before now : Device) 
   pub name : now.name ≡ before.name
   pub page_count : now.page_count ≡ before.page_count
   pub stays : (page : ℕ) → unwritten page → SamePage before now page
+  pub devices : now.others ≡ before.others
   pub never_falls : before.calls ≤ now.calls
   pub gave : (at page : ℕ) (bytes : List ℕ) → before.gave at page bytes ≡ true → now.gave at page bytes ≡ true
   pub beside : others_out later new ≡ others_out pool old

@@ -1,7 +1,7 @@
 -- Where lists of candidates stand, and that they stay there.
 use Rattle.std.proofs.Common.{◌≡◌, refl, ℕ, ◌+◌, ◌*◌, ◌≤◌, inl, inr, List, arith}
 use Rattle.ghost_model.specs.core.Channel.{Catalog}
-use Rattle.ghost_model.specs.forms.Layout.{count_of, largest_count, need, scratch_area, spool_end}
+use Rattle.ghost_model.specs.forms.Layout.{count_of, largest_count, scratch_area, scratch_end, scratch_pages, spool_end}
 use Rattle.edge_traits.specs.Devices.{ChangesOnly, Device}
 use Rattle.id_merge.specs.declared.merge.Merge.{Merge}
 use Rattle.spill_pass.specs.Merging.{area_pages}
@@ -12,6 +12,7 @@ use Rattle.candidate_lists.specs.Spared.{ClosedStays, KeepsClosed, ListsStay}
 use Rattle.candidate_lists.specs.Staying.{ClosedIsKept}
 use Rattle.candidate_gathering.specs.Stages.{IsListArea, KeepsSpare}
 use Rattle.candidate_gathering.proofs.FoldingOn.{area_few}
+use Rattle.candidate_gathering.proofs.ScratchPages.{rows_in_area, six_areas}
 use Rattle.candidate_gathering.proofs.TermSources.{count_is_few}
 use Rattle.candidate_gathering.specs.cross_forms.Laws.{StandingListsLieInScratch}
 use Rattle.candidate_gathering.specs.cross_forms.Stages.{Stands}
@@ -20,21 +21,24 @@ module _ (cat : Catalog) where
   abbrev wide : ℕ
   wide = area_pages (largest_count cat)
 
-  at_is : (area : ℕ) → (scratch_area cat area).first ≡ spool_end cat + area * wide
+  at_is : (area : ℕ) → (scratch_area cat area).first ≡ spool_end cat + area * scratch_pages cat
   at_is area = refl
 
-  end_is : spool_end cat + 6 * wide ≡ need cat
-  end_is = refl
+  wide_in : wide ≤ scratch_pages cat
+  wide_in = rows_in_area cat
+
+  end_is : spool_end cat + 6 * scratch_pages cat ≤ scratch_end cat
+  end_is = six_areas cat
 
   pub area_from : (first : ℕ) → IsListArea cat first → spool_end cat ≤ first
   area_from first (inl is) = omega (arith, is, at_is 0)
   area_from first (inr (inl is)) = omega (arith, is, at_is 1)
   area_from first (inr (inr is)) = omega (arith, is, at_is 3)
 
-  pub area_to : (first : ℕ) → IsListArea cat first → first + wide ≤ need cat
-  area_to first (inl is) = omega (arith, is, at_is 0, end_is)
-  area_to first (inr (inl is)) = omega (arith, is, at_is 1, end_is)
-  area_to first (inr (inr is)) = omega (arith, is, at_is 3, end_is)
+  pub area_to : (first : ℕ) → IsListArea cat first → first + wide ≤ scratch_end cat
+  area_to first (inl is) = omega (arith, is, at_is 0, end_is, wide_in)
+  area_to first (inr (inl is)) = omega (arith, is, at_is 1, end_is, wide_in)
+  area_to first (inr (inr is)) = omega (arith, is, at_is 3, end_is, wide_in)
 
   pub pages_few : (table : ℕ) (closed : Closed) → closed.rows ≡ count_of cat table → area_pages closed.rows ≤ wide
   pages_few table closed rows = let most = count_is_few cat table in area_few closed.rows (largest_count cat) (omega (arith, rows, most))

@@ -7,7 +7,7 @@ use Rattle.std.proofs.lemmas.Bool.{and_parts, or_cases, leb-true, ltb-true, eqb-
 use Rattle.ghost_model.specs.core.Schema.{Schema, ancestor, is_empty}
 use Rattle.ghost_model.specs.core.Channel.{Catalog}
 use Rattle.ghost_model.specs.core.Query.{Query}
-use Rattle.ghost_model.specs.forms.Layout.{above_of, descendants_of, is_hidden, levels_of, need, spool_end, File, Cells, Subtrees, IndexHeader, IndexDirectory, IndexLevel, IdDirectory, IdLevel, run_of_file}
+use Rattle.ghost_model.specs.forms.Layout.{above_of, descendants_of, is_hidden, levels_of, scratch_end, spool_end, File, Cells, Subtrees, IndexHeader, IndexDirectory, IndexLevel, IdDirectory, IdLevel, run_of_file}
 use Rattle.ghost_model.specs.forms.Runs.{Run, cell_in, found_in, page_of, per_page, record_at, run_end}
 use Rattle.ghost_model.specs.forms.Slots.{has_file, in_slot}
 use Rattle.ghost_model.specs.laws.LayoutLaws.{FilesLieAsSummed, FilesLieInOrder, LayoutIsSmall, RecordsStandWithin}
@@ -111,20 +111,20 @@ module _ (told : Bool) (calls : ℕ) (device : Device) (cat : Catalog) (asked : 
         found_is = at.found_is ∙ ap found_in (slot_read cat at.bytes file at.place has other);
       }
 
-  between : (low high : ℕ) → lies_in low high blamed.run ≡ true → WasFoundBetween calls device low high number slot found
-  between low high lies =
+  between : (low high : ℕ) → 4 ≤ blamed.run.width → lies_in low high blamed.run ≡ true → WasFoundBetween calls device low high number slot found
+  between low high wide lies =
       let at = lies_between low high blamed.run lies blamed.place blamed.within in
       let page = blamed.page_is in
       let from = at.0 in
       let to = at.1 in
-      record { from = omega (arith, page, from); to = omega (arith, page, to); run = blamed.run; at = found_at }
+      record { from = omega (arith, page, from); to = omega (arith, page, to); run = blamed.run; width = wide; at = found_at }
 
   is_found : WasFoundByForms told calls device cat asked forced top side number slot found
   is_found =
       let files = list_any (is_run_read cat asked forced top blamed.run) (files_in cat.schema) in
       let replies = lies_in (half_begin cat side) (half_end cat side) blamed.run in
-      let scratch = lies_in (spool_end cat) (need cat) blamed.run in
-      elim (or_cases files (not told && (replies || scratch)) blamed.may) [
+      let scratch = lies_in (spool_end cat) (scratch_end cat) blamed.run in
+      elim (or_cases files (not told && (nat_le 4 blamed.run.width && (replies || scratch))) blamed.may) [
         | inl static ↦ (
             let one = some_of (is_run_read cat asked forced top blamed.run) (files_in cat.schema) static in
             let file = one.item in
@@ -139,11 +139,13 @@ module _ (told : Bool) (calls : ℕ) (device : Device) (cat : Catalog) (asked : 
               at = found_in_file file first.0 (not_told (is_column file) second.0) (run_is blamed.run (run_of_file cat file) rest.1);
             }))
         | inr other ↦ (
-            let parts = and_parts (not told) (replies || scratch) other in
+            let parts = and_parts (not told) (nat_le 4 blamed.run.width && (replies || scratch)) other in
             let untold = not_told told parts.0 in
-            elim (or_cases replies scratch parts.1) [
-              | inl one ↦ InReplies untold (between (half_begin cat side) (half_end cat side) one)
-              | inr one ↦ InScratch untold (between (spool_end cat) (need cat) one)
+            let records = and_parts (nat_le 4 blamed.run.width) (replies || scratch) parts.1 in
+            let wide = leb-true 4 blamed.run.width records.0 in
+            elim (or_cases replies scratch records.1) [
+              | inl one ↦ InReplies untold (between (half_begin cat side) (half_end cat side) wide one)
+              | inr one ↦ InScratch untold (between (spool_end cat) (scratch_end cat) wide one)
             ])
       ]
 

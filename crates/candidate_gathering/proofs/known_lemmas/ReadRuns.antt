@@ -9,7 +9,7 @@ use Rattle.ghost_model.specs.core.Schema.{Schema, is_empty}
 use Rattle.ghost_model.specs.core.Channel.{Catalog}
 use Rattle.ghost_model.specs.core.Query.{Condition, Field, Operator, Query, Compare, Join}
 use Rattle.ghost_model.specs.core.Values.{Value}
-use Rattle.ghost_model.specs.forms.Layout.{above_of, count_of, is_below, is_hidden, levels_of, need, spool_end, File, IndexHeader, IndexDirectory, IndexLevel, IdDirectory, IdLevel, run_of_file}
+use Rattle.ghost_model.specs.forms.Layout.{above_of, count_of, is_below, is_hidden, levels_of, scratch_end, spool_end, File, IndexHeader, IndexDirectory, IndexLevel, IdDirectory, IdLevel, run_of_file}
 use Rattle.ghost_model.specs.forms.Runs.{Run, id_at, number_in, page_of}
 use Rattle.ghost_model.specs.forms.Slots.{has_file}
 use Rattle.ghost_model.specs.laws.LayoutLaws.{FilesLieInOrder, LevelsAreAncestors}
@@ -74,26 +74,28 @@ module _ (cat : Catalog) (asked : Query) (forced : Option Form) (top side : ℕ)
   files_may orders told file tree has other read =
       let run = run_of_file cat file in
       let replies = lies_in (half_begin cat side) (half_end cat side) run in
-      let scratch = lies_in (spool_end cat) (need cat) run in
-      before (list_any (is_run_read cat asked forced top run) (files_in cat.schema)) (not told && (replies || scratch))
+      let scratch = lies_in (spool_end cat) (scratch_end cat) run in
+      before (list_any (is_run_read cat asked forced top run) (files_in cat.schema)) (not told && (nat_le 4 run.width && (replies || scratch)))
       (listed cat tree (orders cat) (is_run_read cat asked forced top run) file has
       (both (has_file cat.schema file) (not (is_column file) && (is_read_by cat asked forced top file && is_same_run run run)) has
       (both (not (is_column file)) (is_read_by cat asked forced top file && is_same_run run run) (ap not other)
       (both (is_read_by cat asked forced top file) (is_same_run run run) read (same_run run)))))
 
-  spool_may : (run : Run) → ((place : ℕ) → place < run.count → (half_begin cat side ≤ page_of run place) × (page_of run place < half_end cat side))
+  spool_may : (run : Run) → 4 ≤ run.width → ((place : ℕ) → place < run.count → (half_begin cat side ≤ page_of run place) × (page_of run place < half_end cat side))
       → may_blame false cat asked forced top side run ≡ true
-  spool_may run inside =
+  spool_may run wide inside =
       let replies = lies_in (half_begin cat side) (half_end cat side) run in
-      let scratch = lies_in (spool_end cat) (need cat) run in
-      behind (list_any (is_run_read cat asked forced top run) (files_in cat.schema)) (replies || scratch) (before replies scratch (all_lie (half_begin cat side) (half_end cat side) run inside))
+      let scratch = lies_in (spool_end cat) (scratch_end cat) run in
+      behind (list_any (is_run_read cat asked forced top run) (files_in cat.schema)) (nat_le 4 run.width && (replies || scratch))
+      (both (nat_le 4 run.width) (replies || scratch) (le-leb 4 run.width wide) (before replies scratch (all_lie (half_begin cat side) (half_end cat side) run inside)))
 
-  scratch_may : (run : Run) → ((place : ℕ) → place < run.count → (spool_end cat ≤ page_of run place) × (page_of run place < need cat))
+  scratch_may : (run : Run) → 4 ≤ run.width → ((place : ℕ) → place < run.count → (spool_end cat ≤ page_of run place) × (page_of run place < scratch_end cat))
       → may_blame false cat asked forced top side run ≡ true
-  scratch_may run inside =
+  scratch_may run wide inside =
       let replies = lies_in (half_begin cat side) (half_end cat side) run in
-      let scratch = lies_in (spool_end cat) (need cat) run in
-      behind (list_any (is_run_read cat asked forced top run) (files_in cat.schema)) (replies || scratch) (behind replies scratch (all_lie (spool_end cat) (need cat) run inside))
+      let scratch = lies_in (spool_end cat) (scratch_end cat) run in
+      behind (list_any (is_run_read cat asked forced top run) (files_in cat.schema)) (nat_le 4 run.width && (replies || scratch))
+      (both (nat_le 4 run.width) (replies || scratch) (le-leb 4 run.width wide) (behind replies scratch (all_lie (spool_end cat) (scratch_end cat) run inside)))
 
 -- ---- replies
 
@@ -136,7 +138,7 @@ module _ (calls : ℕ) (cat : Catalog) (asked : Query) (forced : Option Form) (t
   reply_with false rows is there same = record {
     there = there;
     few = few;
-    may = Blamed (spool_may cat asked forced top side (run_of (reply_of half table).run) (is.lies table there));
+    may = Blamed (spool_may cat asked forced top side (run_of (reply_of half table).run) (is.readable table there).sound.wide (is.lies table there));
   }
     where
       few : (reply_of half table).run.count ≤ rows
@@ -443,8 +445,8 @@ term_still since half page now top rows keeps (Reply table index level) may = (r
 pub runs_may : FilesLieInOrder → LevelsAreAncestors → RunsMay
 runs_may orders levels = record {
   files = λ told cat asked forced top side file tree has other read. files_may cat asked forced top side orders told file tree has other read;
-  spool = λ cat asked forced top side run inside. spool_may cat asked forced top side run inside;
-  scratch = λ cat asked forced top side run inside. scratch_may cat asked forced top side run inside;
+  spool = λ cat asked forced top side run wide inside. spool_may cat asked forced top side run wide inside;
+  scratch = λ cat asked forced top side run wide inside. scratch_may cat asked forced top side run wide inside;
   reply = λ told calls cat asked forced top side half device table is there. reply_may calls cat asked forced top side half device table told is there;
   own_reply = λ told calls cat asked forced top side half device table is there. own_may calls cat asked forced top side half device table told is there;
   ids = λ told calls cat asked forced top side table index level tree is sought. ids_may orders levels told calls cat asked forced top side tree table index level is sought;

@@ -66,12 +66,14 @@ module _ (cat : Catalog) (page now : ℕ → List ℕ) (kept : HaveSameSlots pag
       record {
         entry = code.entry;
         there = let there = code.there in omega (arith, there, size);
+        stands = ap (may_stand cat directory) entry ∙ code.stands;
         i = code.i;
         within = let within = code.within in omega (arith, within, count);
         last = code.last;
         gets =
             ap (λ b. reading_at now run.first run.count b code.i) begin
             ∙ (sym (reading_of_codes now run own code.i codes) ∙ (readings own code.i ∙ (reading_of_codes page run own code.i codes ∙ code.gets)));
+        kept = code.kept;
         broken =
             ap (λ bytes. code_stands rows (option_map (λ read. (code.last + read.0, read.1)) (option_and_then (gaps.within run.count place) (code_in bytes)))) same
             ∙ code.broken;

@@ -65,6 +65,6 @@ blames_countries asked = may_blame true clinic_catalog asked None 2 0 (run_of_fi
 -- a directory whose second country stands before its first one
 pub record DamageInAnIndex : Type 0 where
   pub means : reading clinic_schema visits_of_spain ≡ Ok spanish
-  pub is_bad : IsBadSlotBy (λ _. directory_page) clinic_catalog spanish None 2 clinic 66 1 0x4553000000020000
+  pub is_bad : IsBadSlotBy (λ _. directory_page) clinic_catalog spanish None 2 clinic 258 1 0x4553000000020000
   pub blamed : blames_countries spanish ≡ true
   pub not_for_another_text : blames_countries for_flu ≡ false

@@ -4,7 +4,7 @@
 use Rattle.std.specs.Prelude.{◌≡◌, ℕ, ◌<◌, ◌≤◌, Bool, true, false, List, Option}
 use Rattle.ghost_model.specs.core.Channel.{Catalog}
 use Rattle.ghost_model.specs.core.Query.{Query}
-use Rattle.ghost_model.specs.forms.Layout.{need, spool_end, File, run_of_file}
+use Rattle.ghost_model.specs.forms.Layout.{scratch_end, spool_end, File, run_of_file}
 use Rattle.ghost_model.specs.forms.Runs.{Run, found_in, page_of, slot_of}
 use Rattle.ghost_model.specs.forms.Slots.{has_file, in_slot}
 use Rattle.edge_traits.specs.Devices.{Device, GaveSince}
@@ -30,11 +30,12 @@ pub record WasFoundInFile (since : ℕ) (device : Device) (cat : Catalog) (read 
   pub read_for : read file
   pub at : WasFoundAt since device (run_of_file cat file) (λ bytes. in_slot (λ _. bytes) cat file) number slot found
 
--- in a slot of a list's run, in a page from one on and below another
+-- in a slot of a run of records, in a page from one on and below another
 pub record WasFoundBetween (since : ℕ) (device : Device) (low high number slot found : ℕ) : Type 0 where
   pub from : low ≤ number
   pub to : number < high
   pub run : Run
+  pub width : 4 ≤ run.width
   pub at : WasFoundAt since device run (λ bytes. bytes_in bytes run) number slot found
 
 -- a slot that is blamed: of such a file, or, where pages are not told, of the half of the spool in which the replies lie, or of scratch
@@ -44,7 +45,7 @@ pub data WasFoundIn (told : Bool) (since : ℕ) (device : Device) (cat : Catalog
       told ≡ false → WasFoundBetween since device (half_begin cat side) (half_end cat side) number slot found
       → WasFoundIn told since device cat read side number slot found
   InScratch :
-      told ≡ false → WasFoundBetween since device (spool_end cat) (need cat) number slot found
+      told ≡ false → WasFoundBetween since device (spool_end cat) (scratch_end cat) number slot found
       → WasFoundIn told since device cat read side number slot found
 
 -- one that is blamed for a query, by the forms that a plan may take

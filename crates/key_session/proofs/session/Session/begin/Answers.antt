@@ -30,6 +30,7 @@ returns-clause-live c = λ told now pool suffices. record {
 
 pub returns-clause-can : goal.returns-clause-can
 returns-clause-can c = λ told device pool suffices idle. record {
+  version = c.requires.version;
   suffices = suffices;
   buffers = record { idle = idle; none = c.new.ensures.running; opened = ap is_closed c.begin.ensures.want };
 }

@@ -45,6 +45,7 @@ make_move-refusal-requires-clause-some g c = record { teller = c.args.self.now.t
 
 pub returns-clause-can : goal.returns-clause-can
 returns-clause-can g c = record {
+  version = c.requires.can.version;
   suffices = still_suffices c.args.self.now.cat.now (g.F.Flash.state c.args.flash.now) (g.F.Flash.state c.make_move-refusal.new.flash) c.make_move-refusal.ensures.writes.page_count c.requires.can.suffices;
   has = record {
     run = subst (λ (lease : ℕ). CanRun c.args.self.now.teller.plan g.F.Flash.told c.args.self.now.cat.now (g.F.Flash.state c.make_move-refusal.new.flash) c.make_move-refusal.new.pool (c.args.self.now.teller.count + 1) lease c.args.self.now.teller.running) (sym c.make_move-refusal.ensures.lease) (c.make_move-refusal.ensures.can c.args.self.now.teller.plan c.args.self.now.teller c.spared.ensures.spared c.requires.some c.requires.can.has.apart c.requires.can.has.run);

@@ -116,3 +116,6 @@ returns-in-Ended-clause-fewer g c = absurd (true_false (sym (c.requires.going (a
   where
     true_false : true ≡ false → ⊥
     true_false e = cc
+
+pub tell-requires-clause-left : goal.tell-requires-clause-left
+tell-requires-clause-left g c = c.due.ensures.left c.in-Slice.is

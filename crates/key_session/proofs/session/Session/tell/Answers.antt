@@ -41,6 +41,7 @@ returns-clause-can g c =
     let framed = c.take_up.ensures.can g.F.Flash.told (g.F.Flash.state c.args.flash.now) c.args.pool.now c.args.self.now.frame c.requires.can.suffices half (record { can = c.requires.can.has.run.can; alone = c.requires.can.has.apart.out }) in
     let keeps = keeps_spool c.args.self.now.teller.plan c.args.self.now.cat.now (g.F.Flash.state c.args.flash.now) (g.F.Flash.state c.go_on.new.flash) (c.go_on.ensures.kept c.args.self.now.teller.plan c.args.self.now.cat.now (lease_of c.args.self.now.replies) run) in
     record {
+      version = c.requires.can.version;
       suffices = still_suffices c.args.self.now.cat.now (g.F.Flash.state c.args.flash.now) (g.F.Flash.state c.go_on.new.flash) keeps.page_count c.requires.can.suffices;
       has = record {
         run = subst (λ (plan : Plan). CanRun plan g.F.Flash.told c.args.self.now.cat.now (g.F.Flash.state c.go_on.new.flash) c.go_on.new.pool (c.go_on.new.self.count + 1) (lease_of c.args.self.now.replies) c.go_on.new.self.running)

@@ -1,6 +1,5 @@
 use Rattle.std.proofs.Common.{◌∙◌, ap, refl, subst, sym, arith}
 use Rattle.ghost_base.specs.declared.runs.Run.{Run}
-use Rattle.spill_pass.specs.Lists.{OutOfRowsIn}
 use Rattle.spill_pass.specs.Places.{DamagesReader}
 use Rattle.spill_pass.proofs.PlaceGiving.{gives_inside, gives_list, gives_sound}
 use Rattle.spill_pass.proofs.ReaderGiving.{place_blamed, reader_known}
@@ -18,8 +17,12 @@ returns-clause-sound g c = λ told right rows lists has.
 
 pub returns-clause-less : goal.returns-clause-less
 returns-clause-less g c = λ page rows number slot found damaged.
-    let P : Run → Type 0 = λ run. OutOfRowsIn page (record { run = run; first = 0; count = run.count }) rows number slot found in
-    subst P c.next.ensures.always.same.lists damaged
+    let same = c.next.ensures.always.same.lists in
+    record {
+      list = damaged.list;
+      lies = record { run_is = damaged.lies.run_is ∙ same; within = omega (arith, damaged.lies.within, ap (λ (run : Run). run.count) same) };
+      out = damaged.out;
+    }
 
 pub returns-clause-blames : goal.returns-clause-blames
 returns-clause-blames g c = λ since rows from given.
