@@ -3,6 +3,7 @@
 ghost use Rattle.std.specs.Prelude.{◌≡◌, ◌≤◌, ◌⊎◌, ℕ, List, [], Some, None, true, false, map, string_bytes};
 ghost use Rattle.ghost_model.specs.core.Causes.{Rose};
 ghost use Rattle.ghost_model.specs.core.Channel.{Catalog};
+ghost use Rattle.ghost_model.specs.forms.Catalog.{current_version};
 ghost use Rattle.ghost_model.specs.core.Host.{host_of};
 ghost use Rattle.ghost_model.specs.core.Split.{Public, SpellsImage};
 ghost use Rattle.edge_traits.specs.Counting.{WentCounting};
@@ -93,7 +94,7 @@ pub fn host_main<D: Depot, L: Link, O: Sink>(
     ensures link { BlamesLink (λ journal. L.went link.old journal link.new) result (L.faults link.old) (L.faults link.new) }
     ensures never_falls { D.faults depot.old ≤ D.faults depot.new }
     ensures complete { (names : Names) → (file : List ℕ) → (catalog : Catalog) → (public : Public) → reading (map string_bytes words.now) ≡ Some names
-        → file_of (D.contents depot.old) names.visible ≡ Some file → SpellsImage catalog public file
+        → file_of (D.contents depot.old) names.visible ≡ Some file → catalog.version ≡ current_version → SpellsImage catalog public file
         → (Rose (D.faults depot.old) (D.faults depot.new) → ⊥) → (Rose (O.faults out.old) (O.faults out.new) → ⊥)
         → Completes (λ journal. L.went link.old journal link.new) (host_of catalog public) result }
     ensures appends { D.append_faults depot.new ≡ D.append_faults depot.old }

@@ -1,14 +1,16 @@
 -- The replies over the bytes of the visible image are those of its public part.
 use Rattle.std.proofs.Common.{◌≡◌, ℕ, suc, ◌+◌, ◌-◌, ◌*◌, ◌<◌, Bool, true, false, ◌&&◌, nat_lt, List, [], ◌∷◌, ◌++◌, length, map, take, drop, flat_map, unwrap_or, Option, Some, None, ap, ap₂, sym, refl, ◌∙◌, arith, length-append, append_assoc, ltb-true}
-use Rattle.std.specs.Prelude.{slice_get, if◌then◌else◌}
+use Rattle.std.specs.Prelude.{slice_get, if◌then◌else◌, not, ◌||◌}
 use Rattle.std.specs.List.{list_all}
 use Rattle.std.specs.Cmp.{first_so, second_so}
 use Rattle.std.proofs.lemmas.List.{length-drop, drop-drop}
 use Rattle.std.proofs.Math.Seq.{take-append_seam, drop-append_seam}
-use Rattle.ghost_model.specs.core.Schema.{Schema, Column, Kind, columns_of, column_at, is_visible, is_shown}
-use Rattle.ghost_model.specs.core.Values.{Value, Text, Row, Rows}
+use Rattle.ghost_model.specs.core.Schema.{Schema, Column, Kind, Integer, Chars, IntegerOrNull, CharsOrNull, columns_of, column_at, is_nullable, is_visible, is_shown}
+use Rattle.ghost_model.specs.core.Values.{Value, Null, Number, Text, is_null, Row, Rows}
+use Rattle.ghost_model.specs.core.Query.{Operator}
+use Rattle.ghost_model.specs.laws.SchemaTrees.{IsTree}
 use Rattle.ghost_model.specs.forms.Cells.{cell_width, encode_cell}
-use Rattle.ghost_model.specs.core.Database.{is_of_kind, meets}
+use Rattle.ghost_model.specs.core.Database.{is_of_kind, meets, holds, order_of}
 use Rattle.ghost_model.specs.core.Channel.{Ask, Test}
 use Rattle.ghost_model.specs.core.Asks.{RowCells, kind_at, kind_or_none, is_proper_ask}
 use Rattle.ghost_model.specs.core.Split.{is_open, kind_of_column, value_at, asked_value, cells, are_of_kinds, meets_tests, visible_places, replies_from, replied}
@@ -36,6 +38,28 @@ shown_of : (schema : Schema) (table column : ℕ) → is_visible schema table co
 shown_of schema table column v =
     shown_by schema table column (column_at schema table column) refl (ltb-true 0 column (first_so (nat_lt 0 column) _ v)) (second_so (nat_lt 0 column) _ v)
 
+-- none of a table's columns may be NULL
+abbrev ArePlain : Schema → (table : ℕ) → Type 0
+ArePlain schema table = (column : ℕ) → is_nullable (kind_at schema table column) ≡ false
+
+plain_or_none : (schema : Schema) → IsTree schema → (table column : ℕ) (o : Option Column) → column_at schema table column ≡ o → is_nullable (kind_or_none o) ≡ false
+plain_or_none schema tree table column None e = refl
+plain_or_none schema tree table column (Some held) e = tree.not_null table column held e
+
+are_plain : (schema : Schema) → IsTree schema → (table : ℕ) → ArePlain schema table
+are_plain schema tree table column = plain_or_none schema tree table column (column_at schema table column) refl
+
+not_null : (kind : Kind) (value : Value) → is_nullable kind ≡ false → is_of_kind kind value ≡ true → is_null value ≡ false
+not_null kind (Number number) plain fits = refl
+not_null kind (Text text) plain fits = refl
+not_null Integer Null plain fits = cc
+not_null (Chars most) Null plain fits = cc
+not_null IntegerOrNull Null plain fits = cc
+not_null (CharsOrNull most) Null plain fits = cc
+
+holds_some : (operator : Operator) (a b : Value) → is_null a ≡ false → is_null b ≡ false → meets operator (order_of a b) ≡ holds operator a b
+holds_some operator a b p q = sym (ap₂ (λ (x y : Bool). not (x || y) && meets operator (order_of a b)) p q)
+
 module _ (schema : Schema) (table : ℕ) where
   -- the cell of a visible column in a row of the image
   record Cell (row : Row) (column : ℕ) : Type 0 where
@@ -59,23 +83,24 @@ module _ (schema : Schema) (table : ℕ) where
             ∙ (c.spelled ∙ ap (λ (q : Kind). encode_cell q c.value) kind);
       }
 
-  -- a condition holds over the bytes exactly where it holds of the values
-  one_test : (row : Row) (test : Test) → are_of_kinds (kinds_in (data_columns schema table)) row ≡ true → is_visible schema table test.column ≡ true
+  -- a condition holds over the bytes exactly where it holds of the values, neither of which is NULL
+  one_test : (row : Row) (test : Test) → ArePlain schema table → are_of_kinds (kinds_in (data_columns schema table)) row ≡ true → is_visible schema table test.column ≡ true
       → is_of_kind (kind_at schema table test.column) test.value ≡ true
       → passes (cells (kinds_in (data_columns schema table)) row) (test_of schema table test) ≡ meets_test test (value_at (visible_places schema table) row test.column)
-  one_test row test k v f =
+  one_test row test plain k v f =
       let c = cell_of row test.column v k in
       ap (λ (bs : List ℕ). meets test.operator (byte_order bs (encode_cell (kind_at schema table test.column) test.value))) c.spelled
       ∙ (ap (meets test.operator) (cell_order (kind_at schema table test.column) c.value test.value c.fits f)
-      ∙ ap (meets_test test) (sym c.has))
+      ∙ (holds_some test.operator c.value test.value (not_null _ c.value (plain test.column) c.fits) (not_null _ test.value (plain test.column) f)
+      ∙ ap (meets_test test) (sym c.has)))
 
-  all_tests : (row : Row) (tests : List Test) → are_of_kinds (kinds_in (data_columns schema table)) row ≡ true
+  all_tests : (row : Row) (tests : List Test) → ArePlain schema table → are_of_kinds (kinds_in (data_columns schema table)) row ≡ true
       → list_all (λ test. is_visible schema table test.column) tests ≡ true → list_all (λ test. is_of_kind (kind_at schema table test.column) test.value) tests ≡ true
       → list_all (passes (cells (kinds_in (data_columns schema table)) row)) (map (test_of schema table) tests) ≡ meets_tests (visible_places schema table) tests row
-  all_tests row [] k v f = refl
-  all_tests row (test ∷ tests) k v f =
-      ap₂ (λ (a b : Bool). a && b) (one_test row test k (first_so (is_visible schema table test.column) _ v) (first_so (is_of_kind (kind_at schema table test.column) test.value) _ f))
-      (all_tests row tests k (second_so (is_visible schema table test.column) _ v) (second_so (is_of_kind (kind_at schema table test.column) test.value) _ f))
+  all_tests row [] plain k v f = refl
+  all_tests row (test ∷ tests) plain k v f =
+      ap₂ (λ (a b : Bool). a && b) (one_test row test plain k (first_so (is_visible schema table test.column) _ v) (first_so (is_of_kind (kind_at schema table test.column) test.value) _ f))
+      (all_tests row tests plain k (second_so (is_visible schema table test.column) _ v) (second_so (is_of_kind (kind_at schema table test.column) test.value) _ f))
 
   all_cells : (row : Row) (columns : List ℕ) → are_of_kinds (kinds_in (data_columns schema table)) row ≡ true → list_all (is_visible schema table) columns ≡ true
       → flat_map (cut (cells (kinds_in (data_columns schema table)) row)) (map (span_of schema table) columns)
@@ -134,13 +159,13 @@ same_branch : (schema : Schema) (ask : Ask) (one : RowCells) (reply : _) (later 
 same_branch schema ask one reply later replies true p q = ap₂ (λ (x : RowCells) (xs : List RowCells). x ∷ xs) p q
 same_branch schema ask one reply later replies false p q = q
 
-pub image_replies : (schema : Schema) (ask : Ask) (file rest : List ℕ) (start place : ℕ) (all : Rows) → is_proper_ask schema ask ≡ true
+pub image_replies : (schema : Schema) (ask : Ask) (file rest : List ℕ) (start place : ℕ) (all : Rows) → IsTree schema → is_proper_ask schema ask ≡ true
     → drop (start + place * row_width schema ask.table) file ≡ flat_map (cells (kinds_in (data_columns schema ask.table))) all ++ rest
     → ((at : ℕ) (row : Row) → slice_get all at ≡ Some row → are_of_kinds (kinds_in (data_columns schema ask.table)) row ≡ true)
     → replies_at (form_of schema ask) file start place (length all) ≡ map (reply_row schema ask) (replies_from (place + 1) (visible_places schema ask.table) ask all)
-image_replies schema ask file rest start place [] p e k =
+image_replies schema ask file rest start place [] tree p e k =
     no_row (form_of schema ask) file start place ∙ sym (ap (map (reply_row schema ask)) (no_reply (place + 1) (visible_places schema ask.table) ask))
-image_replies schema ask file rest start place (row ∷ all) p e k =
+image_replies schema ask file rest start place (row ∷ all) tree p e k =
     let proper = is_ask schema ask p in
     let kinds : List Kind = kinds_in (data_columns schema ask.table) in
     let width : ℕ = row_width schema ask.table in
@@ -154,12 +179,12 @@ image_replies schema ask file rest start place (row ∷ all) p e k =
     ap (λ (n : ℕ). drop n file) (let q : start + (place + 1) * width ≡ start + place * width + width = omega arith in q)
     ∙ (sym (drop-drop width (start + place * width) file)
     ∙ (ap (drop width) here ∙ (ap (λ (n : ℕ). drop n (bytes ++ (flat_map (cells kinds) all ++ rest))) (sym long) ∙ drop-append_seam bytes (flat_map (cells kinds) all ++ rest)))) in
-    let tests = all_tests schema ask.table row ask.tests fits proper.tests proper.kinds in
+    let tests = all_tests schema ask.table row ask.tests (are_plain schema tree ask.table) fits proper.tests proper.kinds in
     let reply : rows.replied (form_of schema ask) (place + 1) bytes ≡ reply_row schema ask (replied (visible_places schema ask.table) ask (place + 1) row) =
     ap (λ (bs : List ℕ). reply_with (place + 1) bs) (all_cells schema ask.table row ask.columns fits proper.columns) in
     next_row (form_of schema ask) file start place (length all) bytes (meets_tests (visible_places schema ask.table) ask.tests row) there tests
     ∙ (same_branch schema ask _ _ _ _ (meets_tests (visible_places schema ask.table) ask.tests row) reply
-    (image_replies schema ask file rest start (place + 1) all p further (λ at r h. k (suc at) r h))
+    (image_replies schema ask file rest start (place + 1) all tree p further (λ at r h. k (suc at) r h))
     ∙ ap (map (reply_row schema ask)) (sym (next_reply (place + 1) (visible_places schema ask.table) ask row all)))
   where
     reply_with : ℕ → List ℕ → RowCells

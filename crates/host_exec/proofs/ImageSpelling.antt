@@ -1,11 +1,11 @@
 -- A file whose rows spell values behind a catalog is the visible image of a public part, and a visible image is such a file.
 use Rattle.std.proofs.Common.{◌≡◌, ℕ, zero, suc, ◌+◌, ◌-◌, ◌*◌, ◌<◌, ◌≤◌, Bool, true, false, List, [], ◌∷◌, ◌++◌, length, map, take, drop, flat_map, slice_index, Some, MatchBool, ap, ap₂, sym, refl, subst, ◌∙◌, arith, length-append, append_assoc}
-use Rattle.std.specs.Prelude.{slice_get}
+use Rattle.std.specs.Prelude.{slice_get, ◌==◌}
 use Rattle.std.proofs.lemmas.List.{take-append-drop, drop-drop, drop_all, length-map}
 use Rattle.std.proofs.Math.Seq.{take-add, take-append_seam, drop-append-add, drop-append_seam}
 use Rattle.ghost_model.specs.core.Schema.{Schema, Table, Column, Kind}
 use Rattle.ghost_model.specs.core.Values.{Row, Rows}
-use Rattle.ghost_model.specs.forms.Catalog.{catalog_bytes, BeginsWithCatalog}
+use Rattle.ghost_model.specs.forms.Catalog.{catalog_bytes, current_version, BeginsWithCatalog}
 use Rattle.ghost_model.specs.laws.CatalogLaws.{CatalogsHaveOneSpelling, NoCatalogIsLong}
 use Rattle.ghost_model.specs.core.Channel.{Catalog}
 use Rattle.ghost_model.specs.laws.ShortWords.{rows_or_none}
@@ -115,9 +115,9 @@ file_begins file cat most b short inside =
     let front : take size file ≡ catalog_bytes cat = sym (window_within file 0 size (omega (arith, inside))) ∙ whole in
     sym (take-append-drop size file) ∙ ap (λ (xs : List ℕ). xs ++ drop size file) front
 
-pub is_image : (cat : Catalog) (file : List ℕ) (most : ℕ) → BeginsWithCatalog (window file 0 most) cat → length (catalog_bytes cat) ≤ most
+pub is_image : (cat : Catalog) (file : List ℕ) (most : ℕ) → cat.version ≡ current_version → BeginsWithCatalog (window file 0 most) cat → length (catalog_bytes cat) ≤ most
     → length file ≡ table_start cat (length cat.schema) → ((table : ℕ) → table < length cat.schema → GoodTable cat file table) → IsImage cat file
-is_image cat file most b short end good =
+is_image cat file most current b short end good =
     let counted : length cat.counts ≡ length cat.schema = b.proper.counted in
     let size : ℕ = length (catalog_bytes cat) in
     let grown = start_grows cat (length cat.schema) in
@@ -127,6 +127,7 @@ is_image cat file most b short end good =
     (start_is cat table counted (omega (arith, inside))) (good table inside))
     (omega (arith, last, end)) in
     record {
+      current = current;
       public = record { visible = tables.visible };
       spells = record {
         catalog = b.proper;
@@ -225,13 +226,23 @@ some_bytes cat table end e =
 
 -- no catalog is longer than the front of the file that is read
 pub front_is_enough : (file : List ℕ) (none : (cat : Catalog) → BeginsWithCatalog (window file 0 16640) cat → ⊥) → NoCatalogIsLong → IsNoImage file
-front_is_enough file none law cat public spells = none cat (image_begins cat public file 16640 spells (law cat spells.catalog))
+front_is_enough file none law cat public current spells = none cat (image_begins cat public file 16640 spells (law cat spells.catalog))
 
 -- the image would have this catalog
 pub other_image : (file : List ℕ) (cat : Catalog) → BeginsWithCatalog (window file 0 16640) cat → NoCatalogIsLong → CatalogsHaveOneSpelling → (IsChecked cat file → ⊥) → IsNoImage file
-other_image file cat b law one bad other public spells =
+other_image file cat b law one bad other public current spells =
     let same : other ≡ cat = (one.one_beginning (window file 0 16640) other cat (image_begins other public file 16640 spells (law other spells.catalog)) b).0 in
     bad (is_checked cat public file (subst (λ (k : Catalog). SpellsImage k public file) same spells))
+
+-- the image would have this catalog, which is of another version
+pub other_version : (file : List ℕ) (cat : Catalog) → BeginsWithCatalog (window file 0 16640) cat → NoCatalogIsLong → CatalogsHaveOneSpelling → (cat.version == current_version) ≡ false → IsNoImage file
+other_version file cat b law one not_current other public current spells =
+    let same : other ≡ cat = (one.one_beginning (window file 0 16640) other cat (image_begins other public file 16640 spells (law other spells.catalog)) b).0 in
+    let version : cat.version ≡ current_version = ap (λ (k : Catalog). k.version) (sym same) ∙ current in
+    not_both (cat.version == current_version) (ap (λ (n : ℕ). n == current_version) version) not_current
+  where
+    not_both : (b : Bool) → b ≡ true → b ≡ false → ⊥
+    not_both b is not = cc
 
 -- what the end of the file and the tests of its tables say
 pub file_checked : (cat : Catalog) (file : List ℕ) (good : Bool) → length file ≡ table_start cat (length cat.schema)

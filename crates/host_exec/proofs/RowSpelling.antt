@@ -5,7 +5,7 @@ use Rattle.std.specs.Cmp.{first_so, second_so}
 use Rattle.std.specs.List.{list_all}
 use Rattle.std.proofs.lemmas.List.{take-append-drop, map-append, append-nil, drop_all, length-drop}
 use Rattle.std.proofs.Math.Seq.{take-append_seam, drop-append_seam}
-use Rattle.ghost_model.specs.core.Schema.{Schema, Column, Kind, columns_of, column_at, is_shown}
+use Rattle.ghost_model.specs.core.Schema.{Schema, Column, Kind, columns_of, column_at, is_shown, plain_of}
 use Rattle.ghost_model.specs.core.Schema as schemas
 use Rattle.ghost_model.specs.core.Values.{Value, Row}
 use Rattle.ghost_model.specs.forms.Cells.{cell_width, encode_cell}
@@ -163,10 +163,10 @@ all_kinds schema table at kinds h some told =
     let end : drop (at - 1) (data_columns schema table) ≡ [] = drop_all (at - 1) (data_columns schema table) (omega (arith, h, length-drop 1 (columns_of schema table))) in
     sym (ap (λ (cs : List Column). map base.kind_of kinds ++ shown_kinds cs) end ∙ append-nil (map base.kind_of kinds)) ∙ told
 
-pub narrow_more : (kinds new : List code.Kind) (kind : code.Kind) → new ≡ kinds ++ kind ∷ [] → list_all is_narrow (map base.kind_of kinds) ≡ true → cell_width (base.kind_of kind) ≤ 64
+pub narrow_more : (kinds new : List code.Kind) (kind : code.Kind) → new ≡ kinds ++ kind ∷ [] → list_all is_narrow (map base.kind_of kinds) ≡ true → cell_width (plain_of (base.kind_of kind)) ≤ 64
     → list_all is_narrow (map base.kind_of new) ≡ true
 narrow_more kinds new kind n h f =
     ap (λ (ks : List code.Kind). list_all is_narrow (map base.kind_of ks)) n
     ∙ (ap (list_all is_narrow) (map-append base.kind_of kinds (kind ∷ []))
     ∙ (list_all-append is_narrow (map base.kind_of kinds) (base.kind_of kind ∷ [])
-    ∙ both_true (list_all is_narrow (map base.kind_of kinds)) (is_narrow (base.kind_of kind) && true) h (both_true (is_narrow (base.kind_of kind)) true (le-leb (cell_width (base.kind_of kind)) 64 f) refl)))
+    ∙ both_true (list_all is_narrow (map base.kind_of kinds)) (is_narrow (base.kind_of kind) && true) h (both_true (is_narrow (base.kind_of kind)) true (le-leb (cell_width (plain_of (base.kind_of kind))) 64 f) refl)))

@@ -50,7 +50,8 @@ fn check_file<D: Depot>(
     check_tables(catalog, &places.starts, depot, name)
 }
 
-/// The catalog of a visible file and where its tables stand; `None` exactly where its bytes are no visible image.
+/// The catalog of a visible file and where its tables stand; `None` exactly where its bytes are no visible image of the version
+/// that is served.
 pub fn open<D: Depot>(depot: &mut D, name: &str) -> Result<Option<Opened>, Failed>
     ensures cause { HasCause (D.faults depot.old) (D.faults depot.new) result }
     ensures appends { D.append_faults depot.new ≡ D.append_faults depot.old }
@@ -69,6 +70,9 @@ pub fn open<D: Depot>(depot: &mut D, name: &str) -> Result<Option<Opened>, Faile
     match read_catalog(&head) {
         None => Ok(None),
         Some(catalog) => {
+            if !catalog.is_current() {
+                return Ok(None);
+            }
             let places = places_of(&catalog);
             if check_file(depot, name, &catalog, &places)? {
                 Ok(Some(Opened { catalog, places }))

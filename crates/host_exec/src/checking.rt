@@ -96,7 +96,7 @@ fn check_piece<D: Depot>(
     requires kinds { list_all is_narrow (map kind_of kinds.now) ≡ true }
     requires next { next < rows }
     requires few { rows ≤ 1_000_000 }
-    requires narrow { width ≤ 1536 }
+    requires narrow { width ≤ 1560 }
     requires start { start < 2 ^ 63 }
     ensures cause { HasCause (D.faults depot.old) (D.faults depot.new) result }
     ensures appends { D.append_faults depot.new ≡ D.append_faults depot.old }
@@ -130,7 +130,7 @@ fn check_rows<D: Depot>(
 ) -> Result<bool, Failed>
     requires kinds { list_all is_narrow (map kind_of kinds.now) ≡ true }
     requires few { rows ≤ 1_000_000 }
-    requires narrow { width ≤ 1536 }
+    requires narrow { width ≤ 1560 }
     requires start { start < 2 ^ 63 }
     ensures cause { HasCause (D.faults depot.old) (D.faults depot.new) result }
     ensures appends { D.append_faults depot.new ≡ D.append_faults depot.old }

@@ -11,7 +11,7 @@ ghost use Rattle.host_exec.specs.FormViews.{span_view, check_view, form_view};
 
 use arrayvec::ArrayVec;
 use channel_codec::ask::{Ask, Test, kind_at};
-use ghost_base::limits::{MAX_CHARS, MAX_COLUMNS, MAX_CONDITIONS};
+use ghost_base::limits::{MAX_CELL, MAX_COLUMNS, MAX_CONDITIONS};
 use ghost_base::{Operator, cell_width, encode_cell};
 use tree_schema::Schema;
 use tree_schema::schema::schemas_are_trees;
@@ -36,7 +36,7 @@ pub struct Check {
     pub span: Span,
 
     /// The literal's cell, as many bytes as the column's.
-    pub literal: [u8; MAX_CHARS],
+    pub literal: [u8; MAX_CELL],
 }
 
 impl Default for Check {
@@ -48,7 +48,7 @@ impl Default for Check {
         Check {
             operator: Operator::Equal,
             span: Span { at: 0, size: 0 },
-            literal: [0; MAX_CHARS],
+            literal: [0; MAX_CELL],
         }
     }
 }
@@ -69,7 +69,7 @@ pub struct Form {
 /// How many bytes a column has in a row of the file.
 fn shown_width(schema: &Schema, table: usize, column: usize) -> usize
     ensures width { result ≡ rows.width_or_none (schemas.column_at schema.now table column) }
-    ensures narrow { result ≤ MAX_CHARS }
+    ensures narrow { result ≤ MAX_CELL }
 {
     let _ = schema.tables();
     schemas_are_trees();
@@ -89,7 +89,7 @@ fn shown_width(schema: &Schema, table: usize, column: usize) -> usize
 fn width_before(schema: &Schema, table: usize, column: usize) -> usize
     requires few { column ≤ 256 }
     ensures width { result ≡ rows.width_before (rows.data_columns schema.now table) (column - 1) }
-    ensures narrow { result ≤ 64 * column }
+    ensures narrow { result ≤ 65 * column }
 {
     let mut width = 0;
     for at in 1..column {
@@ -101,7 +101,7 @@ fn width_before(schema: &Schema, table: usize, column: usize) -> usize
 /// Where the cell of a visible column stands in a row of the file.
 fn span_of(schema: &Schema, table: usize, column: u8) -> Span
     ensures span { span_view result ≡ rows.span_of schema.now table column }
-    ensures narrow { result.size ≤ MAX_CHARS }
+    ensures narrow { result.size ≤ MAX_CELL }
 {
     let at = width_before(schema, table, column as usize);
     let size = cell_width(kind_at(schema, table, column as usize));
@@ -115,7 +115,7 @@ fn check_of(schema: &Schema, table: usize, test: &Test) -> Check
 {
     let kind = kind_at(schema, table, test.column as usize);
     let span = span_of(schema, table, test.column);
-    let mut literal = [0; MAX_CHARS];
+    let mut literal = [0; MAX_CELL];
     encode_cell(kind, &test.value, &mut literal[..span.size]);
     Check {
         operator: test.operator,
@@ -157,7 +157,7 @@ fn checks_of(schema: &Schema, table: usize, tests: &[Test]) -> ArrayVec<Check, M
 /// How many bytes a row of a table has in the file.
 pub fn row_width(schema: &Schema, table: usize) -> usize
     ensures width { result ≡ rows.row_width schema.now table }
-    ensures narrow { result ≤ 1536 }
+    ensures narrow { result ≤ 1560 }
 {
     let _ = schema.tables();
     schemas_are_trees();
@@ -168,7 +168,7 @@ pub fn row_width(schema: &Schema, table: usize) -> usize
 pub fn form_of(schema: &Schema, ask: &Ask) -> Form
     requires { asks.is_proper_ask schema.now (ask_view ask.now) ≡ true }
     ensures form { form_view result ≡ rows.form_of schema.now (ask_view ask.now) }
-    ensures narrow { result.width ≤ 1536 }
+    ensures narrow { result.width ≤ 1560 }
 {
     let table = ask.table as usize;
     Form {

@@ -143,7 +143,7 @@ fn gather_piece<D: Depot>(
 ) -> Result<u32, Failed>
     requires next { next < rows }
     requires few { rows ≤ 1_000_000 }
-    requires narrow { form.now.width ≤ 1536 }
+    requires narrow { form.now.width ≤ 1560 }
     requires start { start < 2 ^ 63 }
     requires room { HasRoom (form_view form.now) most batch.old }
     requires more { batch.old.rows < most }
@@ -189,7 +189,7 @@ pub fn gather<D: Depot>(
 ) -> Result<u32, Failed>
     requires place { place + piece.old.rows ≤ rows }
     requires few { rows ≤ 1_000_000 }
-    requires narrow { form.now.width ≤ 1536 }
+    requires narrow { form.now.width ≤ 1560 }
     requires start { start < 2 ^ 63 }
     requires room { HasRoom (form_view form.now) most batch.old }
     requires fits { HasFit form.now.width piece.old }

@@ -15,7 +15,7 @@ pub(crate) const PIECE_BYTES: usize = 4096;
 
 /// How many rows of a width are read at once, of those that are left: as many as a piece has room for.
 pub(crate) fn rows_of_piece(width: usize, left: u32) -> u32
-    requires { width ≤ 1536 }
+    requires { width ≤ 1560 }
     ensures within { result ≤ left }
     ensures some { 0 < left → 0 < result }
     ensures fits { result * width ≤ PIECE_BYTES }
@@ -71,7 +71,7 @@ impl Piece {
         place: u32,
         later: u32,
     ) -> Result<(), Failed>
-        requires narrow { width ≤ 1536 }
+        requires narrow { width ≤ 1560 }
         requires start { start < 2 ^ 63 }
         requires few { place ≤ 1_000_000 }
         requires some { 0 < later }

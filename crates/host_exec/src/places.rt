@@ -21,7 +21,7 @@ pub struct Places {
 /// The bytes of the rows of a table.
 fn table_bytes(catalog: &Catalog, table: usize) -> u64
     ensures bytes { result ≡ slice_index catalog.now.counts table * bytes.row_width catalog.now.schema table }
-    ensures most { result ≤ 1_536_000_000 }
+    ensures most { result ≤ 1_560_000_000 }
 {
     let rows = rows_of(catalog, table);
     let width = row_width(catalog.schema(), table);

@@ -24,7 +24,7 @@ pub struct Reply {
     pub most: u32,
     pub piece: Piece,
     pub ghost few: { rows ≤ 1_000_000 },
-    pub ghost narrow: { form.width ≤ 1536 },
+    pub ghost narrow: { form.width ≤ 1560 },
     pub ghost within: { start < 2 ^ 63 },
     pub ghost full: { most ≡ 2040 / reply_width (form_view form) },
     pub ghost some: { 0 < most },

@@ -26,7 +26,7 @@ use std::alloc::{AllocError, Global};
 pub enum BeginFault {
     /// The depot failed, which its count of faults shows.
     Depot,
-    /// The bytes of the file are no visible image.
+    /// The bytes of the file are no visible image of the version that is served.
     BadVisibleFile,
     /// There was no memory for the name of the file.
     NoMemory,

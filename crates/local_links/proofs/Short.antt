@@ -6,7 +6,7 @@ use Rattle.std.proofs.lemmas.Bool.{le-leb, leb-true}
 use Rattle.std.proofs.lemmas.Bool.Decides.{nat_tests}
 use Rattle.std.proofs.lemmas.List.Folds.{list_all-append}
 use Rattle.ghost_model.specs.core.Channel.{Catalog, Frame, Move, Dial, Listen, Accept, Send, Take, Close, Journal}
-use Rattle.ghost_model.specs.forms.Frames.{IsFrame, frame_bytes, frame_kind, payload_of, kind_in, serial_in, size_in, version_in}
+use Rattle.ghost_model.specs.forms.Frames.{IsFrame, frame_bytes, frame_kind, payload_of, kind_in, serial_in, size_in, version_in, frame_version}
 use Rattle.ghost_model.specs.core.Asks.{NumberedAsk, asked_of, row_width}
 use Rattle.ghost_model.specs.core.Moves.{sent, sent_by, piece_of}
 use Rattle.ghost_model.specs.forms.Catalog.{canonical_text}
@@ -46,10 +46,10 @@ sends_few (Take _) e = omega arith
 sends_few Close e = omega arith
 
 -- a header or payload lacks no more bytes than a payload has
-greeting_size : (version kind serial size missing : ℕ) → (version == 1 && kind == 17 && serial == 0 && nat_le 2 size && nat_le size 2040 && nat_le size (missing + 1)) ≡ true → size ≤ 2040
+greeting_size : (version kind serial size missing : ℕ) → (version == frame_version && kind == 17 && serial == 0 && nat_le 2 size && nat_le size 2040 && nat_le size (missing + 1)) ≡ true → size ≤ 2040
 greeting_size version kind serial size missing e = grind (arith, nat_tests)
 
-reply_size : (version serial number kind size : ℕ) (divides : Bool) → (version == 1 && serial == number && (if kind == 18 then nat_lt 0 size && divides && nat_le size 2040 else if kind == 19 then size == 4 else kind == 20 && size == 1)) ≡ true → size ≤ 2040
+reply_size : (version serial number kind size : ℕ) (divides : Bool) → (version == frame_version && serial == number && (if kind == 18 then nat_lt 0 size && divides && nat_le size 2040 else if kind == 19 then size == 4 else kind == 20 && size == 1)) ≡ true → size ≤ 2040
 reply_size version serial number kind size divides e = grind (arith, nat_tests)
 
 header_size : (catalog : Catalog) (awaits : Awaits) (part : List ℕ) → header_fits catalog awaits part ≡ true → size_in part ≤ 2040

@@ -16,10 +16,10 @@ pub returns-in-Ok-begin-clause-no_image : goal.returns-in-Ok-begin-clause-no_ima
 returns-in-Ok-begin-clause-no_image g c names file read is none calm =
     let image = c.in-Ok-begin.ensures.image file
     (subst (λ (one : Names). file_of (g.D.Depot.contents c.args.depot.now) one.visible ≡ Some file) (sym (one_reading (names_of c.in-Ok.said) names c.in-Ok.ensures.read read)) is) in
-    absurd (none _ image.public image.spells)
+    absurd (none _ image.public image.current image.spells)
 
 pub returns-in-Ok-begin-clause-complete : goal.returns-in-Ok-begin-clause-complete
-returns-in-Ok-begin-clause-complete g c names file catalog public read is spells calm no_sink =
+returns-in-Ok-begin-clause-complete g c names file catalog public read is current spells calm no_sink =
     completes_plain _ _ _ _ _ (image_well _ (names_of c.in-Ok.said).at c.host_one.result _ _ _ _ (g.D.Depot.contents c.args.depot.now) (names_of c.in-Ok.said).visible file catalog public
     (over_file _ c.host_one.result _ _ _ _ _ c.in-Ok-begin.host (names_of c.in-Ok.said) (g.D.Depot.contents c.args.depot.now) _ c.catalogs_have_one_spelling.ensures
     c.images_are_held.ensures c.in-Ok-begin.ensures.same c.in-Ok-begin.ensures.name c.in-Ok-begin.ensures.starts c.in-Ok-begin.ensures.image

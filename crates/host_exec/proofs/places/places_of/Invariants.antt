@@ -8,7 +8,7 @@ invariant-tables l = record {
   within : l.table ≤ l.tables;
   count : array_vec_len l.starts ≡ l.table;
   end : l.end ≡ table_start l.catalog l.table;
-  most : l.end ≤ 16640 + 1536000000 * l.table;
+  most : l.end ≤ 16640 + 1560000000 * l.table;
   starts : (table : ℕ) → table < l.table → slice_index l.starts.items table ≡ table_start l.catalog table;
   near : All (λ start. start < 2 ^ 63) l.starts.items;
 }

@@ -13,4 +13,4 @@ returns-in-Ok-clause-image g c file is =
 pub returns-in-Err-from_str-clause-memory : goal.returns-in-Err-from_str-clause-memory
 returns-in-Err-from_str-clause-memory g c e file is none =
     let image = subst (λ o. MatchOption o (IsNoImage file) (λ opened. IsImage opened.catalog file)) c.in-Ok-Some.field-0-is (c.in-Ok-Some.ensures.opened file is) in
-    none c.in-Ok-Some.opened.catalog image.public image.spells
+    none c.in-Ok-Some.opened.catalog image.public image.current image.spells
