@@ -114,8 +114,8 @@ fn length_at(schema: &Schema, at: &Place) -> u8 {
         column: usize::from(at.column),
     };
     match kind_of(schema, field) {
-        Kind::Chars(most) => most,
-        Kind::Integer => 0,
+        Kind::Chars(most) | Kind::CharsOrNull(most) => most,
+        Kind::Integer | Kind::IntegerOrNull => 0,
     }
 }
 

@@ -16,6 +16,7 @@ use Rattle.key_plain.specs.declared.faults.PlainFault.{PlainFault}
 use Rattle.key_plain.specs.declared.faults.PlainFault.TheVariants as plain_fault
 use Rattle.key_load.specs.Results as loads
 use Rattle.key_load.specs.declared.failures.LoadFailure.{LoadFailure}
+use Rattle.key_commands.specs.Devices.{KeepsOthers}
 use Rattle.key_commands.specs.local.Openings.{local_opening}
 use Rattle.key_commands.specs.local.Sessions as locals
 use Rattle.key_commands.specs.local.Results as locally
@@ -68,6 +69,7 @@ pub record LoadDid (told : Bool) (outcome : Result (Unit {0}) LoadFailure) (befo
       → (after.device ≡ before.device) ⊎ loads.HasBlankPage0 after.device
   pub unsealed : (after.device ≡ before.device) ⊎ loads.IsUnsealed told after.device
   pub others : SameBut words.visible before.files after.files
+  pub other_flashes : KeepsOthers told words.flash before.device after.device
   pub causes : HasCauses (loads.told_by outcome) before after
 
 -- the headline of `local` stands in `ends` and `ran`
@@ -85,6 +87,7 @@ pub record LocalDid (told : Bool) (outcome : Result LocalRun LocalFailure) (befo
   pub never_other : (after.device ≡ before.device) ⊎ ((other : List ℕ) → after.device.name ≡ Some other → other ≡ words.flash)
   pub files_left : locally.leaves_files outcome ≡ true → after.files ≡ before.files
   pub others : locals.SameBesides words.journal before.files after.files
+  pub other_flashes : KeepsOthers told words.flash before.device after.device
   pub causes : HasCauses (locally.told_by outcome) before after
 
 -- the headline of `query` stands in `ran`; `goes` tells by which moves the link went
@@ -99,6 +102,7 @@ pub record QueryDid (goes : Journal → Type 0) (link_before link_after : ℕ) (
   pub causes : HasCauses (queries.told_by outcome) before after
   pub flash_faults : min before.device.faults last_count ≤ after.device.faults
   pub link_faults : link_before ≤ link_after
+  pub other_flashes : KeepsOthers told words.flash before.device after.device
   pub attached : IfErr outcome (λ fault. queries.is_of_opened_flash fault ≡ true → Rose before.device.calls after.device.calls)
   pub flash_left : IfErr outcome (λ fault. queries.is_of_script fault ≡ true → after.device ≡ before.device)
   pub files : after.files ≡ before.files
@@ -110,5 +114,6 @@ pub record GenDid (told : Bool) (outcome : Result GenRun GenFailure) (before aft
       → generated.is_faultless told outcome ≡ true
   pub nothing_written : generated.is_failure outcome ≡ true → after.written ≡ before.written
   pub never_other : (after.device ≡ before.device) ⊎ ((other : List ℕ) → after.device.name ≡ Some other → other ≡ words.flash)
+  pub other_flashes : KeepsOthers told words.flash before.device after.device
   pub files : after.files ≡ before.files
   pub causes : HasCauses (generated.told_by outcome) before after

@@ -1,3 +1,4 @@
+pub mod Devices
 pub mod query
 pub mod local
 pub mod generate

@@ -120,7 +120,7 @@ pub(crate) fn query_failure_line(
         }
         QueryFailure::NotAKey => {
             format!(in alloc;
-                "{flash} is no loaded flash, and stays as it is: give the file that key_program load made, or load the tables under another name"
+                "{flash} is no loaded flash, or was loaded by an earlier version of this program, and stays as it is: give the file that key_program load made, or load the tables again under another name"
             )
         }
         QueryFailure::TooSmall { need, have } => {

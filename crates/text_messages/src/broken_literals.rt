@@ -83,7 +83,10 @@ fn other_kind(
 ) -> Result<Option<String>, AllocError> {
     let schema = text.schema;
     let kind = KindOf { schema, field };
-    let told = match (kind_of(schema, field), literal.token.mark == Mark::Quoted) {
+    let told = match (
+        kind_of(schema, field).plain(),
+        literal.token.mark == Mark::Quoted,
+    ) {
         (Kind::Integer, true) => {
             format!(in text.alloc;
                 "{column} is {kind}, and {literal} a text: write a whole number without quotes"
@@ -106,7 +109,7 @@ fn too_large(
 ) -> Result<Option<String>, AllocError> {
     let schema = text.schema;
     let kind = KindOf { schema, field };
-    let told = match kind_of(schema, field) {
+    let told = match kind_of(schema, field).plain() {
         Kind::Integer if !is_within(literal) => {
             format!(in text.alloc;
                 "{literal} is outside 64 bits: write a number from -9223372036854775808 to 9223372036854775807"

@@ -4,7 +4,7 @@ use Rattle.ghost_model.specs.core.Causes.{Rose}
 use Rattle.ghost_model.specs.core.Channel.{Catalog}
 use Rattle.ghost_model.specs.core.Split.{Hidden, hidden_of}
 use Rattle.ghost_model.specs.forms.Flash.{Holds}
-use Rattle.ghost_model.specs.forms.Layout.{need, static_end}
+use Rattle.ghost_model.specs.forms.Layout.{need, static_end, scratch_end}
 use Rattle.ghost_model.specs.laws.FlashLaws.{HoldingsAreKept}
 use Rattle.ghost_model.specs.laws.LayoutLaws.{LieInOrder}
 use Rattle.ghost_model.specs.laws.SchemaTrees.{IsTree}
@@ -43,7 +43,7 @@ pub record IsFilled (told : Bool) (words : Gen) (catalog : Catalog) (before midd
   pub built : Counts (load_calls catalog (hidden_of clinic_schema (drawn_database words))) before.calls middle.calls
   pub holds : told ≡ true → Holds middle.page catalog (hidden_of clinic_schema (drawn_database words))
   pub pages : middle.page_count ≡ need catalog
-  pub kept : ChangesOnly (static_end catalog) (need catalog) middle after
+  pub kept : ChangesOnly (static_end catalog) (scratch_end catalog) middle after
 
 module _ (told : Bool) (words : Gen) (held : Held) where
   abbrev the_catalog : Catalog

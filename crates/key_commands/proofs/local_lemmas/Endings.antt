@@ -8,7 +8,7 @@ use Rattle.ghost_model.specs.core.Channel.{Catalog, Journal}
 use Rattle.ghost_model.specs.core.Lines.{Reason}
 use Rattle.ghost_model.specs.core.Database.{IsDatabase}
 use Rattle.ghost_model.specs.forms.Flash.{Holds}
-use Rattle.ghost_model.specs.forms.Layout.{need, static_end}
+use Rattle.ghost_model.specs.forms.Layout.{need, static_end, scratch_end}
 use Rattle.ghost_model.specs.laws.FlashLaws.{HoldingsAreKept}
 use Rattle.ghost_model.specs.laws.LayoutLaws.{LieInOrder}
 use Rattle.ghost_model.specs.laws.SchemaTrees.{IsTree}
@@ -64,11 +64,12 @@ pub part_stands : (page : ℕ → List ℕ) (catalog : Catalog) (schema : Schema
 part_stands page catalog schema database hidden same is holds =
     subst (Holds page catalog) (is ∙ sym (ap (λ (c : Catalog). hidden_of c.schema database) same)) holds
 
--- the catalog and the static files stay where only pages behind them change
-pub still_holds : HoldingsAreKept → (catalog : Catalog) (hidden : Hidden) → IsTree catalog.schema → LieInOrder catalog → (before after : Device) → ChangesOnly (static_end catalog) (need catalog) before after
+-- the public pages and the static files stay where only pages behind them change
+pub still_holds : HoldingsAreKept → (catalog : Catalog) (hidden : Hidden) → IsTree catalog.schema → LieInOrder catalog → (before after : Device) → ChangesOnly (static_end catalog) (scratch_end catalog) before after
     → Holds before.page catalog hidden → Holds after.page catalog hidden
 still_holds laws catalog hidden tree order before after changes holds = record {
-  catalog = laws.catalog before.page after.page catalog (λ number from to. (changes.below number (omega (arith, to, order.some, order.static))).bytes) holds.catalog;
+  catalog = laws.catalog before.page after.page catalog (λ number from to. (changes.below number (omega (arith, to, order.catalog, order.some, order.static))).bytes) holds.catalog;
+  fresh = λ current. laws.fresh before.page after.page catalog current (λ number from to. (changes.below number (omega (arith, to, order.some, order.static))).bytes) (holds.fresh current);
   files = laws.files before.page after.page catalog hidden tree (λ number from to. (changes.below number (omega (arith, to, order.static))).bytes) holds.files;
 }
 
@@ -157,7 +158,7 @@ pub ran_of : (told : Bool) (schema : Schema) (database : Database) (texts : List
     → HasLines middle.files words.journal []
     → middle.device.name ≡ Some words.flash → Counts (load_calls catalog (hidden_of schema database)) before.device.calls middle.device.calls
     → (told ≡ true → Holds middle.device.page catalog (hidden_of schema database))
-    → middle.device.page_count ≡ need catalog → ChangesOnly (static_end catalog) (need catalog) middle.device after.device
+    → middle.device.page_count ≡ need catalog → ChangesOnly (static_end catalog) (scratch_end catalog) middle.device after.device
     → HoldingsAreKept → IsTree catalog.schema → LieInOrder catalog
     → Ran told (subject schema database texts words) end before after entries
 ran_of told schema database texts words end entries catalog before middle after same ran faults appends sink written empty named counts there pages kept laws tree order =

@@ -8,7 +8,7 @@ use Rattle.ghost_model.specs.core.Channel.{Catalog, Journal}
 use Rattle.ghost_model.specs.core.NextMove.{Standing, standing_after, IsFinished}
 use Rattle.ghost_model.specs.core.Schema.{Schema}
 use Rattle.ghost_model.specs.core.Values.{Database}
-use Rattle.ghost_model.specs.forms.Layout.{static_end, need}
+use Rattle.ghost_model.specs.forms.Layout.{static_end, scratch_end}
 use Rattle.ghost_model.specs.laws.SchemaTrees.{IsTree}
 use Rattle.edge_traits.specs.Devices.{Device, ChangesOnly}
 use Rattle.edge_traits.specs.Files.{Files}
@@ -84,7 +84,7 @@ unfoldable pub ran_over : (by : Plan) (told : Bool) (catalog : Catalog) (databas
     → (lines : HaveLines catalog texts journal reasons.reasons (handed false before.sink_faults before.written) (handed (wrote_none tally.status) after.sink_faults after.written))
     → AreTold catalog.schema texts lines.lines (told_in tally.told) → ((t : told ≡ true) → (answered t).answers.lines ≡ lines.lines)
     → ((damage : Damage) → tally.status ≡ status.Damaged damage → IsFirstSlot by told before.device.page catalog texts reasons.reasons damage)
-    → ((damage : Damage) → tally.status ≡ status.Damaged damage → WasRead by told before.device.calls after.device catalog texts reasons.reasons damage) → ChangesOnly (static_end catalog) (need catalog) before.device after.device
+    → ((damage : Damage) → tally.status ≡ status.Damaged damage → WasRead by told before.device.calls after.device catalog texts reasons.reasons damage) → ChangesOnly (static_end catalog) (scratch_end catalog) before.device after.device
     → is_sink end ≡ wrote_none tally.status → (end ≡ ends.Ok → tally.status ≡ status.Ok) → (end ≡ ends.Flash → blames_flash tally.status ≡ true)
     → (blames_flash tally.status ≡ true → Rose before.device.calls after.device.calls) → (is_damage tally.status ≡ true → Rose before.device.calls after.device.calls)
     → ((damage : Damage) → end ≡ ends.Damaged damage → tally.status ≡ status.Damaged damage)

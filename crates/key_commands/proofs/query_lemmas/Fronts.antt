@@ -6,9 +6,9 @@ use Rattle.std.proofs.lemmas.List.{length-append, length-take-le}
 use Rattle.std.proofs.lemmas.List.Concat.{flat_map-append}
 use Rattle.std.proofs.Math.Seq.{take-append_seam, take-append-add}
 use Rattle.ghost_model.specs.core.Channel.{Catalog}
-use Rattle.ghost_model.specs.forms.Catalog.{BeginsWithCatalog, catalog_bytes}
+use Rattle.ghost_model.specs.forms.Catalog.{BeginsWithCatalog, catalog_bytes, current_version}
 use Rattle.ghost_model.specs.laws.CatalogLaws.{NoCatalogIsLong}
-use Rattle.ghost_model.specs.forms.Layout.{below, public_pages}
+use Rattle.ghost_model.specs.forms.Layout.{below, catalog_pages}
 use Rattle.edge_traits.specs.Devices.{Device}
 use Rattle.flash_build.specs.Sealing.{public_bytes}
 use Rattle.key_commands.specs.query.PublicPages.{HasCatalog, HasNoCatalog, bytes_before, front_bytes}
@@ -86,17 +86,17 @@ begins_front short page bytes cat are size begins =
 
 -- what was read of the catalog
 pub catalog_there :
-    (found : Option Catalog) (device : Device) (bytes : List ℕ) (told : Bool) → public_pages ≤ device.page_count
+    (found : Option Catalog) (device : Device) (bytes : List ℕ) (told : Bool) → catalog_pages ≤ device.page_count
     → (told ≡ true → bytes ≡ front_bytes device.page) → IfSome found (λ cat. BeginsWithCatalog bytes cat)
-    → IfSome found (λ cat. told ≡ true → HasCatalog device cat)
-catalog_there None device bytes told enough are begins = tt
-catalog_there (Some cat) device bytes told enough are begins =
-    λ is. record { pages = enough; begins = begins_all device.page bytes cat (are is) begins }
+    → IfSome found (λ cat. cat.version ≡ current_version) → IfSome found (λ cat. told ≡ true → HasCatalog device cat)
+catalog_there None device bytes told enough are begins current = tt
+catalog_there (Some cat) device bytes told enough are begins current =
+    λ is. record { pages = enough; begins = begins_all device.page bytes cat (are is) begins; current = current }
 
 pub none_there :
     NoCatalogIsLong → (found : Option Catalog) (device : Device) (bytes : List ℕ) (told : Bool) → length bytes ≡ 18432
-    → (told ≡ true → bytes ≡ front_bytes device.page) → IfNone found ((cat : Catalog) → BeginsWithCatalog bytes cat → ⊥)
+    → (told ≡ true → bytes ≡ front_bytes device.page) → IfNone found ((cat : Catalog) → BeginsWithCatalog bytes cat → cat.version ≡ current_version → ⊥)
     → IfNone found (told ≡ true → HasNoCatalog device)
 none_there short (Some cat) device bytes told size are none = tt
 none_there short None device bytes told size are none =
-    λ is cat has. none cat (begins_front short device.page bytes cat (are is) size has.begins)
+    λ is cat has. none cat (begins_front short device.page bytes cat (are is) size has.begins) has.current

@@ -5,6 +5,7 @@ use Rattle.std.specs.List.{list_any}
 use Rattle.ghost_model.specs.core.Causes.{Rose}
 use Rattle.ghost_model.specs.core.Channel.{Catalog, Journal}
 use Rattle.ghost_model.specs.core.Database.{row_counts}
+use Rattle.ghost_model.specs.forms.Catalog.{current_version}
 use Rattle.ghost_model.specs.forms.Flash.{Holds}
 use Rattle.ghost_model.specs.forms.Layout.{need}
 use Rattle.ghost_model.specs.core.Moves.{lines}
@@ -47,9 +48,9 @@ abbrev pub subject : Schema → Database → (texts : List (List ℕ)) → Local
 subject schema database texts words =
     record { schema = schema; database = database; texts = texts; words = words }
 
--- the catalog of the first generation
+-- the catalog of the first generation, of the version that is made
 abbrev pub catalog_for : Schema → Database → Catalog
-catalog_for schema database = record { schema = schema; counts = row_counts database; generation = 1; version = 1 }
+catalog_for schema database = record { schema = schema; counts = row_counts database; generation = 1; version = current_version }
 
 abbrev pub catalog_in : Subject → Catalog
 catalog_in one = catalog_for one.schema one.database

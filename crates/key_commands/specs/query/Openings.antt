@@ -1,6 +1,7 @@
 -- What a session is opened over: a script, a catalog whose pages the flash has, and page buffers.
 use Rattle.std.specs.Prelude.{◌≡◌, ℕ, ◌≤◌, Bool, true, List, length, Option, Some}
 use Rattle.ghost_model.specs.core.Texts.{most_texts, texts_of}
+use Rattle.ghost_model.specs.forms.Catalog.{current_version}
 use Rattle.edge_traits.specs.Devices.{Device}
 use Rattle.edge_traits.specs.Files.{Files}
 use Rattle.key_words.specs.Words.{Query}
@@ -20,6 +21,7 @@ pub record IsOpened (told : Bool) (words : Query) (contents : Option Files) (dev
   pub script : IsScript contents words.script opened.script.items
   pub name : device.name ≡ Some words.flash
   pub catalog : told ≡ true → HasCatalog device opened.cat
+  pub current : opened.cat.version ≡ current_version
   pub suffices : Suffices opened.cat device
   -- so many page buffers as the words say, of which none is out
   pub buffers : length opened.pool.pages ≡ words.buffers

@@ -1,15 +1,16 @@
--- The catalog with which the public pages of a device begin. A device without pages has none. What follows the catalog's
--- bytes there is left alone.
-use Rattle.std.specs.Prelude.{ℕ, ◌≤◌, List, flat_map}
+-- The catalog with which the public pages of a device begin, where it is of the version that is made. A device without
+-- pages has none. What follows the catalog's bytes there is left alone.
+use Rattle.std.specs.Prelude.{◌≡◌, ℕ, ◌≤◌, List, flat_map}
 use Rattle.ghost_model.specs.core.Channel.{Catalog}
-use Rattle.ghost_model.specs.forms.Catalog.{BeginsWithCatalog}
-use Rattle.ghost_model.specs.forms.Layout.{below, public_pages}
+use Rattle.ghost_model.specs.forms.Catalog.{BeginsWithCatalog, current_version}
+use Rattle.ghost_model.specs.forms.Layout.{below, catalog_pages}
 use Rattle.edge_traits.specs.Devices.{Device}
 use Rattle.flash_build.specs.Sealing.{public_bytes}
 
 pub record HasCatalog (device : Device) (cat : Catalog) : Type 0 where
-  pub pages : public_pages ≤ device.page_count
+  pub pages : catalog_pages ≤ device.page_count
   pub begins : BeginsWithCatalog (public_bytes device.page) cat
+  pub current : cat.version ≡ current_version
 
 abbrev pub HasNoCatalog : Device → Type 0
 HasNoCatalog device = (cat : Catalog) → HasCatalog device cat → ⊥

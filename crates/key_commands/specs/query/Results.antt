@@ -2,10 +2,10 @@
 use Rattle.std.specs.Prelude.{◌≡◌, ℕ, ◌≤◌, ◌<◌, Bool, true, false, List, [], length, Option, Some, Result, Ok, Err, ⊤}
 use Rattle.ghost_model.specs.core.Causes.{Rose}
 use Rattle.ghost_model.specs.core.Channel.{Catalog, Journal}
-use Rattle.ghost_model.specs.forms.Catalog.{IsCatalog}
-use Rattle.ghost_model.specs.forms.Layout.{static_end, need}
+use Rattle.ghost_model.specs.forms.Catalog.{IsCurrent}
+use Rattle.ghost_model.specs.forms.Layout.{static_end, scratch_end, need}
 use Rattle.ghost_model.specs.core.Texts.{texts_of}
-use Rattle.edge_traits.specs.Devices.{Device, ChangesOnly}
+use Rattle.edge_traits.specs.Devices.{Device, pages_under, ChangesOnly}
 use Rattle.edge_traits.specs.Files.{Files}
 use Rattle.key_words.specs.Words.{Query}
 use Rattle.key_inputs.specs.Openings.{Spelled, Broken}
@@ -19,16 +19,18 @@ use Rattle.key_session.specs.Telling.{SessionSide, session_side}
 use Rattle.key_session.specs.declared.tally.SessionStatus.{SessionStatus}
 use Rattle.key_session.specs.declared.tally.SessionStatus.TheVariants as status
 use Rattle.key_session.specs.declared.tally.Tally.{Tally}
+use Rattle.key_commands.specs.Devices.{KeepsNamed}
 use Rattle.key_commands.specs.query.Openings.{IsScript}
 use Rattle.key_commands.specs.query.PublicPages.{HasCatalog, HasNoCatalog}
 use Rattle.key_commands.specs.declared.query.failures.QueryFailure.{QueryFailure}
 use Rattle.key_commands.specs.declared.query.failures.QueryFailure.TheVariants as failure
 
--- the flash as it was opened under that name, before the first move: no fault was met, and no page past the public ones was
--- read
+-- the flash as it was opened under that name, before the first move: its pages are those that were under the name, and the devices of
+-- all other names have theirs; no fault was met, and no deep page was read
 pub record Opens (told : Bool) (flash : List ℕ) (before opened : Device) : Type 0 where
   pub name : opened.name ≡ Some flash
-  pub page : told ≡ true → opened.page ≡ before.page
+  pub page : told ≡ true → opened.page ≡ pages_under before flash
+  pub kept : KeepsNamed told before opened
   pub faults : opened.faults ≡ before.faults
   pub deep_reads : opened.deep_reads ≡ before.deep_reads
 
@@ -45,7 +47,7 @@ pub record Runs (goes : Journal → Type 0) (link_before link_now : ℕ) (told :
   pub opened : Device
   pub opens : Opens told words.flash before.device opened
   pub cat : Catalog
-  pub proper : IsCatalog cat
+  pub current : IsCurrent cat
   pub catalog : told ≡ true → HasCatalog opened cat
   pub enough : need cat ≤ opened.page_count
   pub script : List ℕ
@@ -55,23 +57,23 @@ pub record Runs (goes : Journal → Type 0) (link_before link_now : ℕ) (told :
   pub answered : AnswersWhereSound words.plan told cat (texts_of script) ran.journal (side_since before opened) (side_now tally after) tally
   pub texts : tally.texts ≡ length (texts_of script)
   pub prints : PrintsSome (side_since before opened).sink (side_now tally after).sink
-  -- only pages behind the static ones changed, to which the replies are written
-  pub kept : ChangesOnly (static_end cat) (need cat) opened after.device
+  -- only pages of the spool and of scratch changed, behind the static ones
+  pub kept : ChangesOnly (static_end cat) (scratch_end cat) opened after.device
   -- the flash is blamed only for a call of the session, and so is a slot of it
   pub called : blames_flash tally.status ≡ true → Rose opened.calls after.device.calls
   pub damage_called : is_damaged tally.status ≡ true → Rose opened.calls after.device.calls
 
--- no session ran: no move was made, nothing was printed, and no page changed or was read past the public ones
+-- no session ran: no move was made, nothing was printed, no page changed, and no deep one was read
 pub record IsUnbegun (goes : Journal → Type 0) (link_before link_now : ℕ) (told : Bool) (before after : Outside) : Type 0 where
   pub no_move : goes []
   pub link_left : link_now ≡ link_before
   pub nothing_written : after.written ≡ before.written
   pub no_deep_read : after.device.deep_reads ≡ before.device.deep_reads
-  pub page : told ≡ true → after.device.page ≡ before.device.page
+  pub kept : KeepsNamed told before.device after.device
 
--- what the flash was opened for changed no page, and read none past the public ones; its count of faults did not fall
+-- what the flash was opened for changed no page, and read no deep one; its count of faults did not fall
 pub record KeepsDeep (told : Bool) (before after : Device) : Type 0 where
-  pub page : told ≡ true → after.page ≡ before.page
+  pub kept : KeepsNamed told before after
   pub deep_reads : after.deep_reads ≡ before.deep_reads
   pub never_falls : before.faults ≤ after.faults
 
@@ -118,7 +120,7 @@ TellsScript contents name failure.Flash = HasScript contents name
 TellsScript contents name failure.NotAKey = HasScript contents name
 TellsScript contents name (failure.TooSmall needed had) = HasScript contents name
 
--- the flash was opened under that name, and its pages begin with no catalog
+-- the flash was opened under that name, and its pages begin with no catalog of the version that is made
 pub record IsNoKey (told : Bool) (flash : List ℕ) (device : Device) : Type 0 where
   pub name : device.name ≡ Some flash
   pub none : told ≡ true → HasNoCatalog device
@@ -127,7 +129,7 @@ pub record IsNoKey (told : Bool) (flash : List ℕ) (device : Device) : Type 0 w
 pub record IsTooSmall (told : Bool) (flash : List ℕ) (device : Device) (needed had : ℕ) : Type 0 where
   pub name : device.name ≡ Some flash
   pub cat : Catalog
-  pub proper : IsCatalog cat
+  pub current : IsCurrent cat
   pub catalog : told ≡ true → HasCatalog device cat
   pub needs : needed ≡ need cat
   pub has : had ≡ device.page_count

@@ -5,6 +5,7 @@ ghost use Rattle.ghost_model.specs.core.Causes.{Rose};
 ghost use Rattle.edge_traits.specs.Files.{Files};
 ghost use Rattle.key_words.specs.Views.{gen_view};
 ghost use Rattle.key_inputs.specs.Outside.{HasCauses, outside};
+ghost use Rattle.key_commands.specs.Devices.{KeepsOthers};
 ghost use Rattle.key_commands.specs.generate.Results.{EndsGen, is_failure, is_faultless, told_by};
 
 use crate::generate::ends::{GenFailure, GenRun, end_of, failure_of};
@@ -27,7 +28,7 @@ use std::alloc::Global;
 /// prints for each text its number, the rows that the session gave and those of its plain answer, and then how many moves the session
 /// made, and the bytes that it sent and took.
 ///
-/// No input is refused, and all memory is taken before the first move. A text that the flash ended has its line too, with the rows given
+/// No input is refused, the devices of other names keep their pages, and all memory is taken before the first move. A text that the flash ended has its line too, with the rows given
 /// before. After a failed write no other is made.
 pub fn generate<F: Flash, O: Sink>(
     alloc: Global,
@@ -42,6 +43,7 @@ pub fn generate<F: Flash, O: Sink>(
         → is_faultless F.told result ≡ true }
     ensures nothing_written { is_failure result ≡ true → O.written out.new ≡ O.written out.old }
     ensures never_other { (F.state flash.new ≡ F.state flash.old) ⊎ ((other : List ℕ) → (F.state flash.new).name ≡ Some other → other ≡ words.now.flash.now) }
+    ensures other_flashes { KeepsOthers F.told words.now.flash.now (F.state flash.old) (F.state flash.new) }
     ensures causes { (files : Option Files) → (faults appends : ℕ) → HasCauses (told_by result)
         (outside files faults appends (F.state flash.old) (O.written out.old) (O.faults out.old))
         (outside files faults appends (F.state flash.new) (O.written out.new) (O.faults out.new)) }

@@ -4,6 +4,7 @@ ghost use Rattle.std.specs.Prelude.{◌≡◌, ◌≤◌, true, length, ℕ, Opt
 ghost use Rattle.ghost_model.specs.core.Honest.{IsCatalogOf};
 ghost use Rattle.ghost_model.specs.core.Texts.{texts_of};
 ghost use Rattle.ghost_model.specs.core.Values.{Database};
+ghost use Rattle.ghost_model.specs.forms.Catalog.{current_version};
 ghost use Rattle.ghost_model.specs.forms.Layout as layout;
 ghost use Rattle.session_laws.specs.Local.{holding_of};
 ghost use Rattle.edge_traits.specs.Devices.{ChangesOnly};
@@ -56,6 +57,7 @@ pub(crate) fn hold<F: Flash>(
     pool: &mut PagePool,
     flash: &mut F,
 ) -> Held
+    requires version { cat.now.version ≡ current_version }
     requires few { length (texts_of script.now) ≤ 64 }
     requires suffices { Suffices cat.now (F.state flash.old) }
     requires idle { IsIdle pool.old }
@@ -66,7 +68,7 @@ pub(crate) fn hold<F: Flash>(
         → (F.told ≡ true → KnowsBy words.now.plan F.told (F.state flash.old).page cat.now database)
         → (files : Option Files) → (faults appends : ℕ) → RanCounted words.now.plan F.told cat.now database (texts_of script.now) result
         (outside files faults appends (F.state flash.old) None 0) (outside files faults appends (F.state flash.new) None 0) }
-    ensures pages { ChangesOnly (layout.static_end cat.now) (layout.need cat.now) (F.state flash.old) (F.state flash.new) }
+    ensures pages { ChangesOnly (layout.static_end cat.now) (layout.scratch_end cat.now) (F.state flash.old) (F.state flash.new) }
     ensures causes { (files : Option Files) → (faults appends : ℕ) → HasCauses (told_by_end result.session.end)
         (outside files faults appends (F.state flash.old) None 0) (outside files faults appends (F.state flash.new) None 0) }
 {

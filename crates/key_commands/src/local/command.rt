@@ -7,6 +7,7 @@ ghost use Rattle.key_words.specs.Views.{local_view};
 ghost use Rattle.key_inputs.specs.Openings.{InputFault, Spelled, Broken};
 ghost use Rattle.key_inputs.specs.Outside.{HasCauses, outside};
 ghost use Rattle.key_inputs.specs.Whole.{WholeInput};
+ghost use Rattle.key_commands.specs.Devices.{KeepsOthers};
 ghost use Rattle.key_commands.specs.local.Openings.{local_opening};
 ghost use Rattle.key_commands.specs.local.Sessions.{SameBesides};
 ghost use Rattle.key_commands.specs.local.Results.{EndsLocalCall, EndsSomeLocal, is_failure, is_faultless, leaves_files, leaves_flash, ShowsNames, told_by};
@@ -31,7 +32,7 @@ use std::alloc::Global;
 /// is named, its file begins anew when all else is ready, and each move of the session has a line in it.
 ///
 /// The first broken rule of the files is told before anything is made or printed: the flash is made, under its own name, where
-/// all was read. After a failed write no further line is printed, and after a failed append no further line of the journal is
+/// all was read. The devices of other names keep their pages. After a failed write no further line is printed, and after a failed append no further line of the journal is
 /// written; the session goes on to its end.
 pub fn local<D: Depot, F: Flash, O: Sink>(
     alloc: Global,
@@ -55,6 +56,7 @@ pub fn local<D: Depot, F: Flash, O: Sink>(
     ensures flash_left { leaves_flash result ≡ true → F.state flash.new ≡ F.state flash.old }
     ensures never_other { (F.state flash.new ≡ F.state flash.old) ⊎ ((other : List ℕ) → (F.state flash.new).name ≡ Some other → other ≡ words.now.flash.now) }
     ensures files_left { leaves_files result ≡ true → D.contents depot.new ≡ D.contents depot.old }
+    ensures other_flashes { KeepsOthers F.told words.now.flash.now (F.state flash.old) (F.state flash.new) }
     ensures others { SameBesides (local_view words.now).journal (D.contents depot.old) (D.contents depot.new) }
     ensures causes { HasCauses (told_by result)
         (outside (D.contents depot.old) (D.faults depot.old) (D.append_faults depot.old) (F.state flash.old) (O.written out.old) (O.faults out.old))

@@ -6,6 +6,7 @@ ghost use Rattle.ghost_model.specs.forms.Flash.{Holds, IsHidden};
 ghost use Rattle.ghost_model.specs.forms.Layout as layout;
 ghost use Rattle.flash_build.specs.Building.{load_calls};
 ghost use Rattle.edge_traits.specs.Devices.{Counts};
+ghost use Rattle.key_commands.specs.Devices.{KeepsOthers};
 ghost use Rattle.key_commands.specs.local.Making.{IsOfMaking};
 ghost use Rattle.key_commands.specs.local.Sessions.{HasLines, SameBesides};
 ghost use Rattle.key_commands.specs.declared.local.ends.LocalFailure.TheVariants as failure;
@@ -33,6 +34,7 @@ pub(crate) fn make_flash<F: Flash>(
     ensures pages { OnOk result ((F.state flash.new).page_count ≡ layout.need cat.now) }
     ensures named { OnOk result ((F.state flash.new).name ≡ Some name.now) }
     ensures never_other { (other : List ℕ) → (F.state flash.new).name ≡ Some other → other ≡ name.now }
+    ensures others { KeepsOthers F.told name.now (F.state flash.old) (F.state flash.new) }
     ensures exact { OnOk result (Counts (load_calls cat.now hidden) (F.state flash.old).calls (F.state flash.new).calls) }
     ensures small { layout.need cat.now < 2 ^ 32 }
     ensures few_calls { (F.state flash.new).calls ≤ (F.state flash.old).calls + load_calls cat.now hidden }

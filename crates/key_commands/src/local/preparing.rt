@@ -8,6 +8,7 @@ ghost use Rattle.ghost_model.specs.core.Honest.{IsCatalogOf};
 ghost use Rattle.ghost_model.specs.core.Split as divided;
 ghost use Rattle.session_laws.specs.Local.{holding_of};
 ghost use Rattle.edge_traits.specs.Files.{file_of};
+ghost use Rattle.ghost_model.specs.forms.Catalog.{current_version};
 ghost use Rattle.ghost_model.specs.forms.Flash.{IsHidden};
 ghost use Rattle.page_pool.specs.Pools.{IsIdle};
 ghost use Rattle.key_words.specs.Blocks.{AreBuffers};
@@ -54,6 +55,7 @@ pub(crate) struct Prepared {
 fn parts_of(alloc: Global, input: Input) -> Result<Parts, AllocError>
     requires database { IsDatabase input.schema input.tables }
     ensures cat { IfOk result (λ made. made.cat ≡ catalog_for input.schema input.tables) }
+    ensures current { IfOk result (λ made. made.cat.version ≡ current_version) }
     ensures stored { IfOk result (λ made. IsCatalogOf made.cat input.tables) }
     ensures hidden { IfOk result (λ made. made.hidden ≡ divided.hidden_of input.schema input.tables) }
     ensures part { IfOk result (λ made. IsHidden made.cat made.hidden) }

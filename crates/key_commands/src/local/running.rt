@@ -5,6 +5,7 @@ ghost use Rattle.ghost_model.specs.core.Honest.{IsCatalogOf};
 ghost use Rattle.ghost_model.specs.core.Texts.{texts_of};
 ghost use Rattle.ghost_model.specs.core.Values.{Database};
 ghost use Rattle.session_laws.specs.Local.{holding_of};
+ghost use Rattle.ghost_model.specs.forms.Catalog.{current_version};
 ghost use Rattle.ghost_model.specs.forms.Layout as layout;
 ghost use Rattle.edge_traits.specs.Devices.{ChangesOnly};
 ghost use Rattle.flash_layout.specs.Ranges.{Suffices};
@@ -78,6 +79,7 @@ fn hold<D: Depot, F: Flash, O: Sink>(
     link: &mut Journaled<'_, HostLink<MemDepot>, D>,
     out: &mut O,
 ) -> LocalRun
+    requires version { cat.now.version ≡ current_version }
     requires few { length (texts_of script.now) ≤ 64 }
     requires suffices { Suffices cat.now (F.state flash.old) }
     requires idle { IsIdle pool.old }
@@ -91,7 +93,7 @@ fn hold<D: Depot, F: Flash, O: Sink>(
         → RanOver words.now.plan F.told cat.now database (texts_of script.now) (named link.old) result.end
         (outside (D.contents link.old.depot.now) (D.faults link.old.depot.now) (D.append_faults link.old.depot.now) (F.state flash.old) (O.written out.old) (O.faults out.old))
         (outside (D.contents link.new.depot.now) (D.faults link.new.depot.now) (D.append_faults link.new.depot.now) (F.state flash.new) (O.written out.new) (O.faults out.new)) (told_in result.told) }
-    ensures pages { ChangesOnly (layout.static_end cat.now) (layout.need cat.now) (F.state flash.old) (F.state flash.new) }
+    ensures pages { ChangesOnly (layout.static_end cat.now) (layout.scratch_end cat.now) (F.state flash.old) (F.state flash.new) }
     ensures others { SameBesides (named link.old) (D.contents link.old.depot.now) (D.contents link.new.depot.now) }
     ensures causes { HasCauses (told_by_end result.end)
         (outside (D.contents link.old.depot.now) (D.faults link.old.depot.now) (D.append_faults link.old.depot.now) (F.state flash.old) (O.written out.old) (O.faults out.old))
@@ -129,6 +131,7 @@ pub(crate) fn run<D: Depot, F: Flash, O: Sink>(
     flash: &mut F,
     out: &mut O,
 ) -> LocalRun
+    requires version { cat.now.version ≡ current_version }
     requires few { length (texts_of script.now) ≤ 64 }
     requires suffices { Suffices cat.now (F.state flash.old) }
     requires idle { IsIdle pool.old }
@@ -139,7 +142,7 @@ pub(crate) fn run<D: Depot, F: Flash, O: Sink>(
         → RanOver words.now.plan F.told cat.now database (texts_of script.now) (local_view words.now).journal result.end
         (outside (D.contents depot.old) (D.faults depot.old) (D.append_faults depot.old) (F.state flash.old) (O.written out.old) (O.faults out.old))
         (outside (D.contents depot.new) (D.faults depot.new) (D.append_faults depot.new) (F.state flash.new) (O.written out.new) (O.faults out.new)) (told_in result.told) }
-    ensures pages { ChangesOnly (layout.static_end cat.now) (layout.need cat.now) (F.state flash.old) (F.state flash.new) }
+    ensures pages { ChangesOnly (layout.static_end cat.now) (layout.scratch_end cat.now) (F.state flash.old) (F.state flash.new) }
     ensures others { SameBesides (local_view words.now).journal (D.contents depot.old) (D.contents depot.new) }
     ensures causes { HasCauses (told_by_end result.end)
         (outside (D.contents depot.old) (D.faults depot.old) (D.append_faults depot.old) (F.state flash.old) (O.written out.old) (O.faults out.old))

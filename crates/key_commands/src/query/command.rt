@@ -8,6 +8,7 @@ ghost use Rattle.key_words.specs.Views.{query_view};
 ghost use Rattle.key_inputs.specs.Openings.{Spelled, Missing};
 ghost use Rattle.key_inputs.specs.Outside.{HasCauses, outside};
 ghost use Rattle.key_inputs.specs.Scripts.{script_opening};
+ghost use Rattle.key_commands.specs.Devices.{KeepsOthers};
 ghost use Rattle.key_commands.specs.query.PublicPages.{HasCatalog};
 ghost use Rattle.key_commands.specs.query.Results.{Runs, IsUnbegun, TellsScript, TellsFlash, is_faultless, is_of_opened_flash, is_of_script, told_by};
 ghost use Rattle.key_commands.specs.declared.query.failures.QueryFailure.TheVariants as failure;
@@ -23,12 +24,12 @@ use key_words::QueryWords;
 use std::alloc::Global;
 use tree_schema::catalog_bytes::a_catalog_is_short;
 
-/// Does the command `query`: reads the script, attaches the flash, reads the catalog on its public pages, and takes the
-/// memory for the page buffers of `--buffers`. Then it runs the session of the script with the host at the address of `--to`,
+/// Does the command `query`: reads the script, attaches the flash, reads the catalog on its public pages, which is to be of the
+/// version that is made, and takes the memory for the page buffers of `--buffers`. Then it runs the session of the script with the host at the address of `--to`,
 /// which writes the replies to the flash's spool, and prints the lines of each text.
 ///
-/// After an error no move was made on the link, nothing was printed, and no page past the public ones was read. Once the
-/// session is begun no memory is taken, and no file is read.
+/// After an error no move was made on the link, nothing was printed, no page changed, and no deep one was read. The devices of other
+/// names keep their pages. Once the session is begun no memory is taken, and no file is read.
 pub fn query<D: Depot, F: Flash, L: Link, O: Sink>(
     alloc: Global,
     words: &QueryWords<'_>,
@@ -53,6 +54,7 @@ pub fn query<D: Depot, F: Flash, L: Link, O: Sink>(
         (outside (D.contents depot.new) (D.faults depot.new) (D.append_faults depot.new) (F.state flash.new) (O.written out.new) (O.faults out.new)) }
     ensures flash_faults { min (F.state flash.old).faults last_count ≤ (F.state flash.new).faults }
     ensures link_faults { L.faults link.old ≤ L.faults link.new }
+    ensures other_flashes { KeepsOthers F.told words.now.flash.now (F.state flash.old) (F.state flash.new) }
     ensures attached { IfErr result (λ fault. is_of_opened_flash fault ≡ true → Rose (F.state flash.old).calls (F.state flash.new).calls) }
     ensures flash_left { IfErr result (λ fault. is_of_script fault ≡ true → F.state flash.new ≡ F.state flash.old) }
     ensures same { D.contents depot.new ≡ D.contents depot.old }

@@ -25,8 +25,8 @@ pub enum QueryFailure {
     #[error("the flash failed")]
     Flash,
 
-    /// The public pages of the flash begin with no catalog.
-    #[error("the flash has no catalog: load makes one")]
+    /// The public pages of the flash begin with no catalog of the version that is made.
+    #[error("the flash has no catalog of this version: load makes one")]
     NotAKey,
 
     /// The flash has fewer pages than its catalog needs.

@@ -3,6 +3,8 @@
 ghost use Rattle.std.specs.Prelude.{◌≡◌, ◌≤◌, ℕ, List, true, min, Some, Err, IfOk, IfErr};
 ghost use Rattle.ghost_model.specs.core.Causes.{Rose, last_count};
 ghost use Rattle.ghost_model.specs.core.Channel as channel;
+ghost use Rattle.ghost_model.specs.forms.Catalog.{current_version};
+ghost use Rattle.edge_traits.specs.Devices.{KeepsPages};
 ghost use Rattle.edge_traits.specs.Files.{Files, AreSure};
 ghost use Rattle.key_words.specs.Views.{query_view};
 ghost use Rattle.key_inputs.specs.Openings.{Spelled, Missing};
@@ -37,14 +39,16 @@ pub(crate) struct Opened {
     pub(crate) pool: PagePool,
 }
 
-/// The catalog of a flash that has as many pages as it needs.
+/// The catalog of a flash that has as many pages as it needs, where it is of the version that is made.
 fn catalog_of<F: Flash>(flash: &mut F) -> Result<Catalog, QueryFailure>
     ensures catalog { IfOk result (λ cat. F.told ≡ true → HasCatalog (F.state flash.new) cat) }
+    ensures current { IfOk result (λ cat. cat.version ≡ current_version) }
     ensures suffices { IfOk result (λ cat. Suffices cat (F.state flash.new)) }
     ensures device { (name : List ℕ) → (F.state flash.old).name ≡ Some name → IfErr result (λ fault. TellsFlash F.told name (F.state flash.new) fault) }
-    ensures named { (F.state flash.new).name ≡ (F.state flash.old).name }
     ensures kinds { IfErr result (λ fault. IsOfFlash fault) }
-    ensures kept { KeepsDeep F.told (F.state flash.old) (F.state flash.new) }
+    ensures kept { KeepsPages (F.state flash.old) (F.state flash.new) }
+    ensures deep_reads { (F.state flash.new).deep_reads ≡ (F.state flash.old).deep_reads }
+    ensures never_falls { (F.state flash.old).faults ≤ (F.state flash.new).faults }
     ensures flash { IsTold (told_by_opening result).flash (F.state flash.old).faults (F.state flash.new).faults }
     ensures calls_stay { min (F.state flash.old).calls last_count ≤ (F.state flash.new).calls }
     ensures memory { result ≡ Err failure.NoMemory → ⊥ }
@@ -67,6 +71,7 @@ fn catalog_of<F: Flash>(flash: &mut F) -> Result<Catalog, QueryFailure>
 /// Attaches the flash of a name, and reads its catalog.
 fn open_flash<F: Flash>(alloc: Global, name: &str, flash: &mut F) -> Result<Catalog, QueryFailure>
     ensures catalog { IfOk result (λ cat. F.told ≡ true → HasCatalog (F.state flash.new) cat) }
+    ensures current { IfOk result (λ cat. cat.version ≡ current_version) }
     ensures suffices { IfOk result (λ cat. Suffices cat (F.state flash.new)) }
     ensures named { IfOk result (λ cat. (F.state flash.new).name ≡ Some name.now) }
     ensures device { IfErr result (λ fault. TellsFlash F.told name.now (F.state flash.new) fault) }

@@ -2,6 +2,8 @@
 
 ghost use Rattle.std.specs.Prelude.{◌≡◌, ◌<◌, ◌≤◌, ◌+◌, ◌*◌, ◌++◌, true, min, take, drop, IfOk, IfSome, IfNone, OnOk};
 ghost use Rattle.ghost_model.specs.core.Causes.{HasCause, last_count};
+ghost use Rattle.ghost_model.specs.core.Channel as channel;
+ghost use Rattle.ghost_model.specs.forms.Catalog.{BeginsWithCatalog, current_version};
 ghost use Rattle.edge_traits.specs.Devices.{KeepsPages};
 ghost use Rattle.key_commands.specs.query.PublicPages.{HasCatalog, HasNoCatalog, front_bytes};
 
@@ -41,10 +43,24 @@ fn read_front<F: Flash>(flash: &mut F, bytes: &mut [u8; 18_432]) -> Result<(), F
     Ok(())
 }
 
-/// Reads the catalog with which the public pages of a flash begin, and answers `None` where they begin with none, or where
-/// the flash has no page. No later page is read.
+/// The catalog with which bytes begin, where they begin with one and it is of the version that is made.
+fn current_catalog(bytes: &[u8]) -> Option<Catalog>
+    ensures begins { IfSome result (λ cat. BeginsWithCatalog bytes.now cat) }
+    ensures current { IfSome result (λ cat. cat.version ≡ current_version) }
+    ensures none { IfNone result ((cat : channel.Catalog) → BeginsWithCatalog bytes.now cat → cat.version ≡ current_version → ⊥) }
+{
+    ghost_model::catalogs::catalogs_have_one_spelling();
+    let Some(cat) = read_catalog(bytes) else {
+        return None;
+    };
+    if cat.is_current() { Some(cat) } else { None }
+}
+
+/// Reads the catalog with which the public pages of a flash begin, and answers `None` where they begin with none of the version
+/// that is made, or where the flash has no page. No later page is read.
 pub(crate) fn read_public_pages<F: Flash>(flash: &mut F) -> Result<Option<Catalog>, Failed>
     ensures catalog { IfOk result (λ found. IfSome found (λ cat. F.told ≡ true → HasCatalog (F.state flash.new) cat)) }
+    ensures current { IfOk result (λ found. IfSome found (λ cat. cat.version ≡ current_version)) }
     ensures none { IfOk result (λ found. IfNone found (F.told ≡ true → HasNoCatalog (F.state flash.new))) }
     ensures kept { KeepsPages (F.state flash.old) (F.state flash.new) }
     ensures deep_reads { (F.state flash.new).deep_reads ≡ (F.state flash.old).deep_reads }
@@ -57,5 +73,5 @@ pub(crate) fn read_public_pages<F: Flash>(flash: &mut F) -> Result<Option<Catalo
     }
     let mut bytes = [0; FRONT_BYTES];
     read_front(flash, &mut bytes)?;
-    Ok(read_catalog(&bytes))
+    Ok(current_catalog(&bytes))
 }

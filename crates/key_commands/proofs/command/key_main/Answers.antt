@@ -80,6 +80,7 @@ returns-in-Ok-Gen-clause-generated g c =
         complete = did.complete;
         nothing_written = did.nothing_written;
         never_other = did.never_other;
+        other_flashes = did.other_flashes;
         files = refl;
         causes = did.causes files faults appends;
       };

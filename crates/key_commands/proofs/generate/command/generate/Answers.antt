@@ -1,5 +1,6 @@
 use Rattle.std.proofs.Common.{◌≡◌, ◌++◌, Bool, false, List, ℕ, None, Err, length, refl, sym, ap, ◌∙◌, subst}
 use Rattle.std.proofs.lemmas.List.{length-map}
+use Rattle.ghost_model.specs.core.Channel.{Catalog}
 use Rattle.ghost_model.specs.core.Split.{Hidden}
 use Rattle.ghost_model.specs.core.Texts.{texts_of}
 use Rattle.ghost_model.specs.examples.Clinic.{clinic_schema}
@@ -15,11 +16,15 @@ use Rattle.key_commands.specs.generate.Counting.{moves_line, rows_given, rows_me
 use Rattle.key_commands.specs.generate.Drawing.{drawn_database, drawn_texts}
 use Rattle.key_commands.specs.generate.Ends.{is_sink}
 use Rattle.key_commands.specs.generate.Running.{RanCounted}
+use Rattle.key_commands.proofs.NamedDevices.{others_stay, others_on}
 use Rattle.key_commands.proofs.local_lemmas.Endings.{part_stands}
 use Rattle.key_commands.proofs.generate_lemmas.Drawn.{wants_memory, unmade, unmade_causes, unmade_faultless, ran_drawn, drawn_causes, drawn_faultless}
 use Rattle.key_commands.proofs.generate_lemmas.RowsGiven.{all_told}
 use Rattle.key_commands.proofs.generate_lemmas.RowsMeant.{texts_mean}
 use Rattle.key_commands.proofs.generate.command.generate.Goals as goal
+
+pub hold-held-requires-clause-version : goal.hold-held-requires-clause-version
+hold-held-requires-clause-version g c = ap (λ (cat : Catalog). cat.version) c.in-Ok.ensures.ready.cat
 
 pub returns-in-Err-clause-ends : goal.returns-in-Err-clause-ends
 returns-in-Err-clause-ends g c = λ files faults appends.
@@ -124,3 +129,10 @@ returns-clause-complete g c = λ calm written.
     (outside None 0 0 (g.F.Flash.state c.args.flash.now) (g.O.Sink.written c.args.out.now) (g.O.Sink.faults c.args.out.now))
     (outside None 0 0 (g.F.Flash.state c.hold-held.new.flash) (g.O.Sink.written c.print_counts-failed.new.out) (g.O.Sink.faults c.print_counts-failed.new.out))
     c.end_of.ensures.session counts.ran.undamaged (returns-clause-causes g c None 0 0) calm written
+
+pub returns-clause-other_flashes : goal.returns-clause-other_flashes
+returns-clause-other_flashes g c =
+    let flash = c.args.words.now.flash.now in
+    let made = g.F.Flash.state c.make_flash.new.flash in
+    others_on g.F.Flash.told flash (g.F.Flash.state c.args.flash.now) made (g.F.Flash.state c.hold-held.new.flash) c.make_flash.ensures.others
+    (others_stay g.F.Flash.told _ _ made (g.F.Flash.state c.hold-held.new.flash) flash c.hold-held.ensures.pages c.in_default-make_flash.ensures.named)

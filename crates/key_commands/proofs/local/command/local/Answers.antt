@@ -1,6 +1,7 @@
 use Rattle.std.proofs.Common.{◌≡◌, inr, refl, sym, ap, ◌∙◌, ℕ, List, Option, Ok, Err, subst}
 use Rattle.std.proofs.lemmas.Result.{err_from_is_err_and}
 use Rattle.ghost_model.specs.core.Causes.{Rose}
+use Rattle.ghost_model.specs.core.Channel.{Catalog}
 use Rattle.ghost_model.specs.core.Split.{Hidden}
 use Rattle.ghost_model.specs.core.Texts.{texts_of}
 use Rattle.ghost_model.specs.forms.Flash.{Holds}
@@ -15,11 +16,15 @@ use Rattle.key_commands.specs.local.Openings.{local_opening}
 use Rattle.key_commands.specs.local.Results.{EndsLocal, told_by}
 use Rattle.key_commands.specs.local.Sessions.{SameBesides, subject, told_by_end}
 use Rattle.key_commands.specs.declared.local.ends.LocalFailure.TheVariants as failure
+use Rattle.key_commands.proofs.NamedDevices.{others_stay, others_on}
 use Rattle.key_commands.proofs.local_lemmas.Causing.{same_fault, unmade_causes}
 use Rattle.key_commands.proofs.local_lemmas.Endings.{part_stands, made_of, ran_of, unmade, ends_spelled, ends_some, faultless}
 use Rattle.key_commands.proofs.local_lemmas.Keeping.{besides_joined}
 use Rattle.key_commands.proofs.local_lemmas.Renamed.{unread, unread_some, names_shown}
 use Rattle.key_commands.proofs.local.command.local.Goals as goal
+
+pub run-requires-clause-version : goal.run-requires-clause-version
+run-requires-clause-version g c = ap (λ (cat : Catalog). cat.version) c.in-Ok-prepare.ensures.cat
 
 pub returns-in-Err-clause-ends : goal.returns-in-Err-clause-ends
 returns-in-Err-clause-ends g c = λ files held.
@@ -229,6 +234,13 @@ returns-clause-causes g c =
 
 pub returns-clause-never_other : goal.returns-clause-never_other
 returns-clause-never_other g c = inr (λ other e. c.make_flash.ensures.never_other other (sym c.run.ensures.pages.name ∙ e))
+
+pub returns-clause-other_flashes : goal.returns-clause-other_flashes
+returns-clause-other_flashes g c =
+    let flash = c.args.words.now.flash.now in
+    let made = g.F.Flash.state c.make_flash.new.flash in
+    others_on g.F.Flash.told flash (g.F.Flash.state c.args.flash.now) made (g.F.Flash.state c.run.new.flash) c.make_flash.ensures.others
+    (others_stay g.F.Flash.told _ _ made (g.F.Flash.state c.run.new.flash) flash c.run.ensures.pages c.in_ok-make_flash.ensures.named)
 
 pub returns-clause-others : goal.returns-clause-others
 returns-clause-others g c =

@@ -4,6 +4,7 @@ use Rattle.key_inputs.specs.Outside.{outside}
 use Rattle.key_commands.specs.query.Openings.{IsScript}
 use Rattle.key_commands.specs.query.Results.{side_since, side_now}
 use Rattle.key_commands.proofs.query_lemmas.Endings.{session_causes, unopened_causes}
+use Rattle.key_commands.proofs.NamedDevices.{own_pages, others_stay, others_since, none_but_named}
 use Rattle.key_commands.proofs.query.command.query.Goals as goal
 
 pub returns-in-Ok-clause-ran : goal.returns-in-Ok-clause-ran
@@ -20,12 +21,13 @@ returns-in-Ok-clause-ran g c =
       opened = device;
       opens = record {
         name = opened.name;
-        page = c.in-Ok.ensures.kept.page;
+        page = λ told. sym (own_pages device c.args.words.now.flash.now opened.name) ∙ c.in-Ok.ensures.kept.kept told c.args.words.now.flash.now;
+        kept = c.in-Ok.ensures.kept.kept;
         faults = c.in-Ok.ensures.flash.same refl;
         deep_reads = c.in-Ok.ensures.kept.deep_reads;
       };
       cat = c.in-Ok.opened.cat;
-      proper = c.a_catalog_is_short.ensures.catalog;
+      current = record { proper = c.a_catalog_is_short.ensures.catalog; version = opened.current };
       catalog = opened.catalog;
       enough = opened.suffices.pages;
       script = c.deref.result.now;
@@ -53,3 +55,13 @@ returns-in-Err-clause-causes g c =
     let before = outside (g.D.Depot.contents c.args.depot.now) (g.D.Depot.faults c.args.depot.now) (g.D.Depot.append_faults c.args.depot.now) (g.F.Flash.state c.args.flash.now) (g.O.Sink.written c.args.out.now) (g.O.Sink.faults c.args.out.now) in
     let after = outside (g.D.Depot.contents c.open.new.depot) (g.D.Depot.faults c.open.new.depot) (g.D.Depot.append_faults c.open.new.depot) (g.F.Flash.state c.open.new.flash) (g.O.Sink.written c.args.out.now) (g.O.Sink.faults c.args.out.now) in
     unopened_causes c.in-Err.failure before after refl c.in-Err.ensures.depot c.in-Err.ensures.appends c.in-Err.ensures.flash
+
+pub returns-in-Ok-clause-other_flashes : goal.returns-in-Ok-clause-other_flashes
+returns-in-Ok-clause-other_flashes g c =
+    let device = g.F.Flash.state c.open.new.flash in
+    let flash = c.args.words.now.flash.now in
+    others_since g.F.Flash.told flash (g.F.Flash.state c.args.flash.now) device (g.F.Flash.state c.run_session.new.flash) c.in-Ok.ensures.kept.kept
+    (others_stay g.F.Flash.told _ _ device (g.F.Flash.state c.run_session.new.flash) flash c.run_session.ensures.pages c.in-Ok.ensures.opened.name)
+
+pub returns-in-Err-clause-other_flashes : goal.returns-in-Err-clause-other_flashes
+returns-in-Err-clause-other_flashes g c = none_but_named g.F.Flash.told c.args.words.now.flash.now (g.F.Flash.state c.args.flash.now) (g.F.Flash.state c.open.new.flash) c.in-Err.ensures.kept.kept

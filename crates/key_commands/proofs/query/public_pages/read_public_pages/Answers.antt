@@ -5,11 +5,11 @@ use Rattle.key_commands.proofs.query.public_pages.read_public_pages.Goals as goa
 pub returns-clause-catalog : goal.returns-clause-catalog
 returns-clause-catalog g c =
     let read = c.in_ok-read_front.ensures in
-    catalog_there c.read_catalog.result (g.F.Flash.state c.read_front.new.flash) c.read_front.new.bytes g.F.Flash.told
-    (omega (arith, c.if-pages-lt-BLOCK_PAGES.false, c.pages.ensures, read.kept.page_count)) read.bytes c.read_catalog.ensures.begins
+    catalog_there c.current_catalog.result (g.F.Flash.state c.read_front.new.flash) c.read_front.new.bytes g.F.Flash.told
+    (omega (arith, c.if-pages-lt-BLOCK_PAGES.false, c.pages.ensures, read.kept.page_count)) read.bytes c.current_catalog.ensures.begins c.current_catalog.ensures.current
 
 pub returns-clause-none : goal.returns-clause-none
 returns-clause-none g c =
     let read = c.in_ok-read_front.ensures in
-    none_there c.no_catalog_is_long.ensures c.read_catalog.result (g.F.Flash.state c.read_front.new.flash) c.read_front.new.bytes g.F.Flash.told
-    c.read_front.array_long read.bytes c.read_catalog.ensures.none
+    none_there c.no_catalog_is_long.ensures c.current_catalog.result (g.F.Flash.state c.read_front.new.flash) c.read_front.new.bytes g.F.Flash.told
+    c.read_front.array_long read.bytes c.current_catalog.ensures.none
