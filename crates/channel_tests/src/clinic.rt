@@ -5,7 +5,7 @@ use itoa::Buffer;
 
 /// The bytes of the catalog after a load.
 pub(crate) const CATALOG: &[u8] =
-    b"GHOSTDB\x01\0\0\0\x01\0\0\x01\x51CREATE TABLE doctor (id INTEGER PRIMARY KEY, specialty CHAR(8), country CHAR(2) HIDDEN);\nCREATE TABLE patient (id INTEGER PRIMARY KEY, age INTEGER, name CHAR(8) HIDDEN);\nCREATE TABLE visit (id INTEGER PRIMARY KEY, day INTEGER, purpose CHAR(8) HIDDEN, doc INTEGER REFERENCES doctor(id) HIDDEN, pat INTEGER REFERENCES patient(id) HIDDEN);\n\0\0\0\x03\0\0\0\x02\0\0\0\x04";
+    b"GHOSTDB\x02\0\0\0\x01\0\0\x01\x51CREATE TABLE doctor (id INTEGER PRIMARY KEY, specialty CHAR(8), country CHAR(2) HIDDEN);\nCREATE TABLE patient (id INTEGER PRIMARY KEY, age INTEGER, name CHAR(8) HIDDEN);\nCREATE TABLE visit (id INTEGER PRIMARY KEY, day INTEGER, purpose CHAR(8) HIDDEN, doc INTEGER REFERENCES doctor(id) HIDDEN, pat INTEGER REFERENCES patient(id) HIDDEN);\n\0\0\0\x03\0\0\0\x02\0\0\0\x04";
 
 /// The visible cells of 3 doctors, 2 patients and 4 visits, which stand behind the catalog in the host's file.
 pub(crate) const CELLS: &[u8] =
@@ -16,37 +16,37 @@ pub(crate) const CELLS: &[u8] =
 fn names() -> [(&'static str, &'static [u8]); 16] {
     let (_first, rest) = CATALOG.split_at(1);
     [
-        ("HELLO", b"\x01\x01\0\x04\0\0\0\0\0\0\0\x01"),
-        ("HEAD", b"\x11\x01\x01\x6E\0\0\0\0\x01"),
+        ("HELLO", b"\x01\x02\0\x04\0\0\0\0\0\0\0\x01"),
+        ("HEAD", b"\x11\x02\x01\x6E\0\0\0\0\x01"),
         ("CATALOG", CATALOG),
         ("REST", rest),
-        ("BYE", b"\x04\x01\0\0\0\0\0\0"),
+        ("BYE", b"\x04\x02\0\0\0\0\0\0"),
         (
             "ASK",
-            b"\x02\x01\0\x0E\0\0\0\x01\0\x01\x01\x01\x01\x01cardio\0\0",
+            b"\x02\x02\0\x0E\0\0\0\x01\0\x01\x01\x01\x01\x01cardio\0\0",
         ),
         (
             "ROWS",
-            b"\x12\x01\0\x18\0\0\0\x01\0\0\0\x01cardio\0\0\0\0\0\x03cardio\0\0",
+            b"\x12\x02\0\x18\0\0\0\x01\0\0\0\x01cardio\0\0\0\0\0\x03cardio\0\0",
         ),
-        ("MORE", b"\x03\x01\0\0\0\0\0\x01"),
-        ("DONE", b"\x13\x01\0\x04\0\0\0\x01\0\0\0\x02"),
-        ("SORRY", b"\x14\x01\0\x01\0\0\0\x01\x01"),
-        ("ALL_ASK", b"\x02\x01\0\x04\0\0\0\x01\0\x01\x01\0"),
+        ("MORE", b"\x03\x02\0\0\0\0\0\x01"),
+        ("DONE", b"\x13\x02\0\x04\0\0\0\x01\0\0\0\x02"),
+        ("SORRY", b"\x14\x02\0\x01\0\0\0\x01\x01"),
+        ("ALL_ASK", b"\x02\x02\0\x04\0\0\0\x01\0\x01\x01\0"),
         (
             "AGE_ASK",
-            b"\x02\x01\0\x0D\0\0\0\x02\x01\0\x01\x01\x01\x80\0\0\0\0\0\0\x1E",
+            b"\x02\x02\0\x0D\0\0\0\x02\x01\0\x01\x01\x01\x80\0\0\0\0\0\0\x1E",
         ),
         (
             "DAY_ASK",
-            b"\x02\x01\0\x0E\0\0\0\x02\x02\x01\x01\x01\x01\x06\x80\0\0\0\0\0\0\x02",
+            b"\x02\x02\0\x0E\0\0\0\x02\x02\x01\x01\x01\x01\x06\x80\0\0\0\0\0\0\x02",
         ),
         (
             "DAY_ROWS",
-            b"\x12\x01\0\x30\0\0\0\x02\0\0\0\x01\x80\0\0\0\0\0\0\x05\0\0\0\x02\x80\0\0\0\0\0\0\x05\0\0\0\x03\x80\0\0\0\0\0\0\x09\0\0\0\x04\x80\0\0\0\0\0\0\x02",
+            b"\x12\x02\0\x30\0\0\0\x02\0\0\0\x01\x80\0\0\0\0\0\0\x05\0\0\0\x02\x80\0\0\0\0\0\0\x05\0\0\0\x03\x80\0\0\0\0\0\0\x09\0\0\0\x04\x80\0\0\0\0\0\0\x02",
         ),
-        ("DAY_MORE", b"\x03\x01\0\0\0\0\0\x02"),
-        ("DAY_DONE", b"\x13\x01\0\x04\0\0\0\x02\0\0\0\x04"),
+        ("DAY_MORE", b"\x03\x02\0\0\0\0\0\x02"),
+        ("DAY_DONE", b"\x13\x02\0\x04\0\0\0\x02\0\0\0\x04"),
     ]
 }
 

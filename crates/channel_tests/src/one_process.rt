@@ -57,10 +57,10 @@ fn a_session_in_one_process_is_written_down(rt: HostRuntime) -> Result<(), Begin
     let _ = hex::encode_to_slice(CATALOG, &mut catalog);
     let mut wanted = Bytes::new();
     for piece in [
-        b"kept\ndial ok\nsend 010100040000000000000001 ok\ntake 8 1101016e00000000\ntake 366 01".as_slice(),
+        b"kept\ndial ok\nsend 010200040000000000000001 ok\ntake 8 1102016e00000000\ntake 366 01".as_slice(),
         &catalog,
-        b"\nsend 0201000e0000000100010101010163617264696f0000 ok\ntake 2048 12010018000000010000000163617264696f00000000000363617264696f0000\ntake 8 end\n",
-        b"send 0301000000000001 ok\ntake 1 13\ntake 11 0100040000000100000002\nsend 0401000000000000 ok\ntake 8 end\ntake 8 end\nclose\n",
+        b"\nsend 0202000e0000000100010101010163617264696f0000 ok\ntake 2048 12020018000000010000000163617264696f00000000000363617264696f0000\ntake 8 end\n",
+        b"send 0302000000000001 ok\ntake 1 13\ntake 11 0200040000000100000002\nsend 0402000000000000 ok\ntake 8 end\ntake 8 end\nclose\n",
     ] {
         add(&mut wanted, piece);
     }

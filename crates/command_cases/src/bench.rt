@@ -32,7 +32,7 @@ const NO_ROOM: LinkRoom = LinkRoom { moves: 0, bytes: 0 };
 const OUT_ROOM: usize = 400_000;
 
 /// How many blocks a blank flash has room for.
-const BLOCKS: u32 = 14;
+const BLOCKS: u32 = 21;
 
 /// What came of a call.
 #[derive(Drop)]

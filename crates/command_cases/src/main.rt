@@ -9,7 +9,7 @@
 //! | `set NAME` | begins a named group of lines, up to a line `end`, which are not done now |
 //! | `with NAME` | does the lines of a group |
 //! | `each FIRST LAST NAME` | does the lines of a group once for each number from one to another, with the number for `{}` and as in `rows`; prints `-- FIRST to LAST` for the numbers in a row that came to the same, and what they came to |
-//! | `case NAME` | begins anew: no file, a blank flash with room for 14 blocks, a host that says nothing; prints `== NAME` |
+//! | `case NAME` | begins anew: no file, a blank flash with room for 21 blocks, a host that says nothing; prints `== NAME` |
 //! | `file NAME` | the file of the lines below that begin with a bar, without it |
 //! | `bytes NAME TEXT` | the file of these bytes |
 //! | `repeat NAME N TEXT` | puts a text so many times behind what a file has |

@@ -95,12 +95,12 @@ fn other_of(alloc: Global, cases: &[Damage<'_>]) -> Line {
 #[test]
 fn damaged_slots_of_rows_are_told(rt: HostRuntime) {
     let cases = [
-        (64u32, 0usize, b'A', 0usize, " A B A C"),
-        (64, 16, 1u8, 0, " A B!64.2=72057594037927936 C"),
-        (73, 31, 5, 3, " 2 1 3!73.3=9223372036854775813"),
-        (74, 3, 5, 4, "#!74.0=21474836480# 1# 3# 1"),
-        (81, 7, 0, 7, "!81.0=9223372036854775808 3 1 4 2"),
-        (82, 39, 0, 8, "# 1 4# 3 3# 2 1# 1 4#!82.4=4294967296"),
+        (256u32, 0usize, b'A', 0usize, " A B A C"),
+        (256, 16, 1u8, 0, " A B!256.2=72057594037927936 C"),
+        (265, 31, 5, 3, " 2 1 3!265.3=9223372036854775813"),
+        (266, 3, 5, 4, "#!266.0=21474836480# 1# 3# 1"),
+        (273, 7, 0, 7, "!273.0=9223372036854775808 3 1 4 2"),
+        (274, 39, 0, 8, "# 1 4# 3 3# 2 1# 1 4#!274.4=4294967296"),
     ];
     let line = other_of(rt.alloc(), &cases);
     assert_eq!(rt; line.as_str(), "");
@@ -109,32 +109,32 @@ fn damaged_slots_of_rows_are_told(rt: HostRuntime) {
 #[test]
 fn damaged_slots_of_a_climbing_index_are_told(rt: HostRuntime) {
     let cases = [
-        (65u32, 0usize, 1u8, 1usize, "!65.0=72057606922829824"),
-        (75, 3, 0, 5, "!75.0=0"),
+        (257u32, 0usize, 1u8, 1usize, "!257.0=72057606922829824"),
+        (267, 3, 0, 5, "!267.0=0"),
         (
-            66,
+            258,
             32,
             1,
             1,
-            "#0/ 1 3/ 2 3 4/ 1 2 4 5#1/!66.1=72057594037927936",
+            "#0/ 1 3/ 2 3 4/ 1 2 4 5#1/!258.1=72057594037927936",
         ),
         (
-            66,
+            258,
             88,
             1,
             1,
-            "#0/ 1 3/ 2 3 4/ 1 2 4 5#1/ 2/ 1/ 3#2/!66.2=4827858800541171712",
+            "#0/ 1 3/ 2 3 4/ 1 2 4 5#1/ 2/ 1/ 3#2/!258.2=4827858800541171712",
         ),
-        (67, 0, 0, 1, "#0/!67.0=565170451513343"),
-        (68, 1, 9, 1, "#0/ 1 3/ 2!68.1=648802020341317631"),
+        (259, 0, 0, 1, "#0/!259.0=565170451513343"),
+        (260, 1, 9, 1, "#0/ 1 3/ 2!260.1=648802020341317631"),
         (
-            69,
+            261,
             4,
             6,
             1,
-            "#0/ 1 3/ 2 3 4/ 1 2 4 5#1/ 2/ 1/!69.4=504403158265495551",
+            "#0/ 1 3/ 2 3 4/ 1 2 4 5#1/ 2/ 1/!261.4=504403158265495551",
         ),
-        (85, 1, 6, 9, "#0/ 3#1/!85.1=432909630872485887"),
+        (277, 1, 6, 9, "#0/ 3#1/!277.1=432909630872485887"),
     ];
     let line = other_of(rt.alloc(), &cases);
     assert_eq!(rt; line.as_str(), "");
@@ -144,22 +144,41 @@ fn damaged_slots_of_a_climbing_index_are_told(rt: HostRuntime) {
 fn damaged_slots_of_an_id_index_are_told(rt: HostRuntime) {
     let cases = [
         (
-            70u32,
+            262u32,
             52usize,
             1u8,
             2usize,
-            "#0/ 2 4/ 1 4 5#1/ 1/ 3#2/ 3/ 2#3/!70.3=17196646400",
+            "#0/ 2 4/ 1 4 5#1/ 1/ 3#2/ 3/ 2#3/!262.3=17196646400",
         ),
-        (72, 0, 9, 2, "#0/ 2 4/!72.0=649363883718344703"),
-        (79, 0, 1, 6, "#0/!79.0=72057594037927937"),
+        (264, 0, 9, 2, "#0/ 2 4/!264.0=649363883718344703"),
+        (271, 0, 1, 6, "#0/!271.0=72057594037927937"),
         (
-            80,
+            272,
             4,
             128,
             6,
-            "#0/ 3#1/ 5#2/ 2#3/ 1!80.4=9295429630892703743",
+            "#0/ 3#1/ 5#2/ 2#3/ 1!272.4=9295429630892703743",
         ),
     ];
     let line = other_of(rt.alloc(), &cases);
     assert_eq!(rt; line.as_str(), "");
+}
+
+/// The list of the third name stands at the last byte but one of its file, where it is whole, and then at the last one, which is
+/// never the end of a code.
+#[test]
+fn a_list_that_runs_to_the_end_of_its_file_is_damaged(rt: HostRuntime) {
+    let Some(mut loaded) = load(rt.alloc(), THREE, &THREE_FILES) else {
+        assert!(rt; false);
+        return;
+    };
+    let whole = "#0/ 1 3/ 2 3 4/ 1 2 4 5#1/ 2/ 1/ 3#2/ 4//";
+    let broken = "#0/ 1 3/ 2 3 4/ 1 2 4 5#1/ 2/ 1/ 3#2/!259.2047=288230376151711744";
+    for (low, at, wanted) in [(0xFEu8, 2046usize, whole), (0xFF, 2047, broken)] {
+        swap(&mut loaded.flash, 258, 74, 7);
+        swap(&mut loaded.flash, 258, 75, low);
+        swap(&mut loaded.flash, 259, at, 4);
+        let line = told(rt.alloc(), &mut loaded, 1);
+        assert_eq!(rt; line.as_str(), wanted);
+    }
 }

@@ -12,6 +12,8 @@ mod found;
 #[cfg(test)]
 mod ids;
 #[cfg(test)]
+mod level_files;
+#[cfg(test)]
 mod lines;
 #[cfg(test)]
 mod rows;

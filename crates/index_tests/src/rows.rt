@@ -74,6 +74,7 @@ fn file_on(flash: &MemFlash, cat: &Catalog, place: Place) -> Option<ColumnFile>
 fn put_value(line: &mut Line, value: &Value) {
     put(line, " ");
     match value {
+        Value::Null => put(line, "NULL"),
         Value::Int(number) => {
             let mut buffer = Buffer::new();
             put(line, buffer.format(*number));

@@ -21,8 +21,8 @@ fn value_spelled(kind: Kind, word: &str) -> Option<Value>
     ensures kind { IfSome result (λ value. fits_kind (Some kind) (value_of value) ≡ true) }
 {
     let value = match kind {
-        Kind::Integer => Value::Int(word.parse().ok()?),
-        Kind::Chars(_) => Value::Chars(text_of(word)?),
+        Kind::Integer | Kind::IntegerOrNull => Value::Int(word.parse().ok()?),
+        Kind::Chars(_) | Kind::CharsOrNull(_) => Value::Chars(text_of(word)?),
     };
     if is_of_kind(kind, &value) {
         return Some(value);

@@ -7,9 +7,9 @@ use std::alloc::{AllocError, Global};
 /// The rows.
 pub const ROWS: u32 = 1_900_000;
 
-/// How many numbers fill 64 pages. The lists lie behind so many, so that each read is one of page 64 or a later one, which a flash
+/// How many numbers fill 256 pages. The lists lie behind so many, so that each read is one of page 256 or a later one, which a flash
 /// in memory counts.
-pub const BEFORE: u32 = 64 * 512;
+pub const BEFORE: u32 = 256 * 512;
 
 /// The widest step between identifiers of a list of so many, so that it spreads over the rows.
 fn step_of(count: u32) -> u32 {
@@ -27,7 +27,7 @@ pub fn drawn(alloc: Global, lists: u32, ids: u32) -> Result<Lists, AllocError> {
     Ok(drawn)
 }
 
-/// Numbers, behind those that fill 64 pages.
+/// Numbers, behind those that fill 256 pages.
 pub fn behind(alloc: Global, numbers: &[u32]) -> Result<Vec<u32>, AllocError> {
     let mut all = Vec::new(alloc);
     for _at in 0..BEFORE {

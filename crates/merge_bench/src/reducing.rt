@@ -37,7 +37,7 @@ fn came(alloc: Global, room: u32, drawn: &Lists) -> Result<Option<Counted>, Atta
     let mut laid = lay_out(alloc, &places, &drawn.ids, areas.div_ceil(64), &[])?;
     let mut pool = PagePool::new(alloc, 64)?;
     let listed = Run {
-        first: laid.one.first + 64,
+        first: laid.one.first + 256,
         width: 8,
         count: count as u32,
     };

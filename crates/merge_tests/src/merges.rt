@@ -226,6 +226,65 @@ fn codes_of_one_two_and_three_bytes_are_merged(rt: HostRuntime) -> Result<(), At
     Ok(())
 }
 
+/// Adds a list of identifiers, and answers where its codes begin.
+fn add_list(drawn: &mut Drawn, codes: &mut Codes, ids: &[u32]) -> Result<u32, AllocError> {
+    let first = u32::try_from(drawn.ids.len()).unwrap_or(0);
+    for id in ids {
+        let Ok(()) = drawn.ids.push(*id) else {
+            return Err(AllocError);
+        };
+    }
+    drawn.add(Piece::List(first, u32::try_from(ids.len()).unwrap_or(0)))?;
+    codes.put_list(ids)
+}
+
+/// The identifiers from 1 to another.
+fn all_to(alloc: Global, last: u32) -> Result<Vec<u32>, AllocError> {
+    let mut ids = Vec::new(alloc);
+    for id in 1..=last {
+        let Ok(()) = ids.push(id) else {
+            return Err(AllocError);
+        };
+    }
+    Ok(ids)
+}
+
+/// After a first list from 1 to so many two lists come; each is given with where it begins.
+type Behind<'a> = (u32, &'a [u32], u32, &'a [u32], u32);
+
+/// A code of two bytes where one is left of the page, one of three bytes where two are left, and one of two bytes where two are left;
+/// and the least and the greatest codes of one, two and three bytes.
+const BEHIND: [Behind<'static>; 4] = [
+    (2047, &[], 2047, &[300], 2048),
+    (2046, &[20_000], 2048, &[], 2051),
+    (2046, &[300], 2046, &[], 2048),
+    (1, &[1, 128, 256, 16_639, 33_023, 1_033_023], 1, &[], 13),
+];
+
+#[test]
+fn lists_begin_where_their_codes_have_room(rt: HostRuntime) -> Result<(), AttachFault> {
+    let rows = 1_900_000;
+    for (last, second, second_at, third, third_at) in BEHIND {
+        let mut drawn = Drawn::nothing(rt.alloc())?;
+        let mut codes = Codes::none(rt.alloc());
+        let first = all_to(rt.alloc(), last)?;
+        assert!(rt; add_list(&mut drawn, &mut codes, &first)? == 0);
+        assert!(rt;
+            add_list(&mut drawn, &mut codes, second)? == second_at,
+            "{last}"
+        );
+        assert!(rt;
+            add_list(&mut drawn, &mut codes, third)? == third_at,
+            "{last}"
+        );
+        let mut wanted = none_of(rt.alloc(), rows)?;
+        note(&mut wanted, &drawn.ids);
+        let (agreed, left) = coded(rt.alloc(), &drawn.ids, &drawn.pieces, rows, &wanted)?;
+        assert!(rt; matches!(agreed, Ok(true)) && left == 64, "{last}");
+    }
+    Ok(())
+}
+
 #[test]
 fn each_call_of_a_merge_may_fail(rt: HostRuntime) -> Result<(), AttachFault> {
     let case = (13, 2, 6, 1, 0, 4);

@@ -70,7 +70,7 @@ pub struct Came {
     pub calls: u64,
     /// How many it counted.
     pub spent: u64,
-    /// How many of them read page 64 or a later one.
+    /// How many of them read page 256 or a later one.
     pub reads: u64,
     /// How many leases were left.
     pub left: u32,

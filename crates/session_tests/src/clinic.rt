@@ -6,19 +6,19 @@ use std::alloc::Global;
 
 /// The bytes of the catalog of three doctors, two patients and four visits.
 pub(crate) const CATALOG: &[u8] =
-    b"GHOSTDB\x01\0\0\0\x01\0\0\x01\x51CREATE TABLE doctor (id INTEGER PRIMARY KEY, specialty CHAR(8), country CHAR(2) HIDDEN);\nCREATE TABLE patient (id INTEGER PRIMARY KEY, age INTEGER, name CHAR(8) HIDDEN);\nCREATE TABLE visit (id INTEGER PRIMARY KEY, day INTEGER, purpose CHAR(8) HIDDEN, doc INTEGER REFERENCES doctor(id) HIDDEN, pat INTEGER REFERENCES patient(id) HIDDEN);\n\0\0\0\x03\0\0\0\x02\0\0\0\x04";
+    b"GHOSTDB\x02\0\0\0\x01\0\0\x01\x51CREATE TABLE doctor (id INTEGER PRIMARY KEY, specialty CHAR(8), country CHAR(2) HIDDEN);\nCREATE TABLE patient (id INTEGER PRIMARY KEY, age INTEGER, name CHAR(8) HIDDEN);\nCREATE TABLE visit (id INTEGER PRIMARY KEY, day INTEGER, purpose CHAR(8) HIDDEN, doc INTEGER REFERENCES doctor(id) HIDDEN, pat INTEGER REFERENCES patient(id) HIDDEN);\n\0\0\0\x03\0\0\0\x02\0\0\0\x04";
 
 /// The pages of the hidden columns: doctor.country, patient.name, visit.purpose, visit.doc and visit.pat.
 const COLUMNS: [(u32, &[u8]); 5] = [
-    (64, b"FRESES"),
-    (71, b"Ann\0\0\0\0\0Bob\0\0\0\0\0"),
-    (78, b"flu\0\0\0\0\0check\0\0\0flu\0\0\0\0\0flu\0\0\0\0\0"),
+    (256, b"FRESES"),
+    (263, b"Ann\0\0\0\0\0Bob\0\0\0\0\0"),
+    (270, b"flu\0\0\0\0\0check\0\0\0flu\0\0\0\0\0flu\0\0\0\0\0"),
     (
-        79,
+        271,
         b"\x80\0\0\0\0\0\0\x01\x80\0\0\0\0\0\0\x03\x80\0\0\0\0\0\0\x03\x80\0\0\0\0\0\0\x02",
     ),
     (
-        80,
+        272,
         b"\x80\0\0\0\0\0\0\x01\x80\0\0\0\0\0\0\x02\x80\0\0\0\0\0\0\x01\x80\0\0\0\0\0\0\x02",
     ),
 ];
@@ -39,8 +39,8 @@ pub(crate) fn device(alloc: Global) -> Result<MemFlash, AttachFault> {
 
 /// One that fails at the calls numbered in `fails`, from 1.
 pub(crate) fn failing_device(alloc: Global, fails: &[u64]) -> Result<MemFlash, AttachFault> {
-    let mut flash = MemFlash::new(alloc, 14, fails)?;
-    flash.make(alloc, "key", 14)?;
+    let mut flash = MemFlash::new(alloc, 21, fails)?;
+    flash.make(alloc, "key", 21)?;
     for (page, front) in COLUMNS.as_slice() {
         flash.put_page(*page, &page_of(front));
     }

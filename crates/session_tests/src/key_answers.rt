@@ -1,5 +1,7 @@
 //! The key's answer of a query over the hidden columns of the clinic.
 
+ghost use Rattle.std.specs.Prelude.{◌≡◌};
+ghost use Rattle.ghost_model.specs.forms.Catalog.{current_version};
 ghost use Rattle.flash_layout.specs.Ranges.{Suffices};
 ghost use Rattle.page_pool.specs.Pools.{IsIdle};
 
@@ -34,6 +36,7 @@ fn tell<F: Flash, O: Sink>(
     pool: &mut PagePool,
     flash: &mut F,
 ) -> Told
+    requires version { cat.now.version ≡ current_version }
     requires suffices { Suffices cat.now (F.state flash.old) }
     requires idle { IsIdle pool.old }
     ensures idle { IsIdle pool.new }
@@ -52,6 +55,7 @@ fn tell<F: Flash, O: Sink>(
 #[test]
 fn an_answer_is_printed_through_eight_buffers(rt: HostRuntime) -> Result<(), AttachFault> {
     let cat = read_catalog(CATALOG).expect(&rt, "the catalog");
+    assert!(rt; cat.is_current());
     let mut flash = device(rt.alloc())?;
     assert!(rt; need(&cat) <= flash.pages());
     let mut out = MemSink::new(rt.alloc(), 99, 99, &[])?;
@@ -71,6 +75,7 @@ fn an_answer_is_printed_through_eight_buffers(rt: HostRuntime) -> Result<(), Att
 #[test]
 fn each_call_that_fails_gives_all_buffers_back(rt: HostRuntime) -> Result<(), AttachFault> {
     let cat = read_catalog(CATALOG).expect(&rt, "the catalog");
+    assert!(rt; cat.is_current());
     for call in 2..6u64 {
         let mut flash = failing_device(rt.alloc(), &[call])?;
         assert!(rt; need(&cat) <= flash.pages());

@@ -16,7 +16,7 @@ const LOCAL: &str =
 const NO_MEMORY: &str = "out of memory: free some, or give smaller files";
 
 const DAMAGED: &str =
-    "flash is damaged, and the texts that met it have the word damaged: slot 1 of page 79 begins with 4; ask again over a device of another name";
+    "flash is damaged, and the texts that met it have the word damaged: slot 1 of page 271 begins with 4; ask again over a device of another name";
 
 #[test]
 fn want_of_memory_and_damage_of_local_are_told(rt: HostRuntime) -> Result<(), AllocError> {
@@ -26,7 +26,7 @@ fn want_of_memory_and_damage_of_local_are_told(rt: HostRuntime) -> Result<(), Al
     }
     let told = ToldTexts::none();
     let end = LocalEnd::Damaged(Damage {
-        page: 79,
+        page: 271,
         slot: 1,
         found: 4,
     });

@@ -25,15 +25,15 @@ const LINES: &[u8] = b"> 1\tcardio\n> 3\tcardio\n= 1 2\n> 1\t5\n> 2\t5\n> 3\t9\n
 
 /// What the host says: the catalog, the reply of the first text, and that of the second, one row a frame.
 const SAID: [&[u8]; 9] = [
-    b"\x11\x01\x01\x6e\0\0\0\0\x01",
+    b"\x11\x02\x01\x6e\0\0\0\0\x01",
     CATALOG,
-    b"\x12\x01\0\x18\0\0\0\x01\0\0\0\x01cardio\0\0\0\0\0\x03cardio\0\0",
-    b"\x13\x01\0\x04\0\0\0\x01\0\0\0\x02",
-    b"\x12\x01\0\x0c\0\0\0\x02\0\0\0\x01\x80\0\0\0\0\0\0\x05",
-    b"\x12\x01\0\x0c\0\0\0\x02\0\0\0\x02\x80\0\0\0\0\0\0\x05",
-    b"\x12\x01\0\x0c\0\0\0\x02\0\0\0\x03\x80\0\0\0\0\0\0\x09",
-    b"\x12\x01\0\x0c\0\0\0\x02\0\0\0\x04\x80\0\0\0\0\0\0\x02",
-    b"\x13\x01\0\x04\0\0\0\x02\0\0\0\x04",
+    b"\x12\x02\0\x18\0\0\0\x01\0\0\0\x01cardio\0\0\0\0\0\x03cardio\0\0",
+    b"\x13\x02\0\x04\0\0\0\x01\0\0\0\x02",
+    b"\x12\x02\0\x0c\0\0\0\x02\0\0\0\x01\x80\0\0\0\0\0\0\x05",
+    b"\x12\x02\0\x0c\0\0\0\x02\0\0\0\x02\x80\0\0\0\0\0\0\x05",
+    b"\x12\x02\0\x0c\0\0\0\x02\0\0\0\x03\x80\0\0\0\0\0\0\x09",
+    b"\x12\x02\0\x0c\0\0\0\x02\0\0\0\x04\x80\0\0\0\0\0\0\x02",
+    b"\x13\x02\0\x04\0\0\0\x02\0\0\0\x04",
 ];
 
 /// The next number of a count that link and output share.
@@ -117,6 +117,7 @@ impl<'a, O: Sink> Sink for NumberedSink<'a, O> {
 #[test]
 fn pace_is_kept(rt: HostRuntime) -> Result<(), AttachFault> {
     let cat = read_catalog(CATALOG).expect(&rt, "the catalog");
+    assert!(rt; cat.is_current());
     assert!(rt; text_count(SCRIPT) <= 64);
     let mut said = Vec::new(rt.alloc());
     for piece in SAID.as_slice() {

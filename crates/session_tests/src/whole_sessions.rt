@@ -20,30 +20,30 @@ const SCRIPT: &[u8] =
 /// The address, and then all that goes either way, each with whether the host says it.
 const WIRE: [(bool, &[u8]); 13] = [
     (false, b"h"),
-    (false, b"\x01\x01\0\x04\0\0\0\0\0\0\0\x01"),
-    (true, b"\x11\x01\x01\x6e\0\0\0\0\x01"),
+    (false, b"\x01\x02\0\x04\0\0\0\0\0\0\0\x01"),
+    (true, b"\x11\x02\x01\x6e\0\0\0\0\x01"),
     (true, CATALOG),
     (
         false,
-        b"\x02\x01\0\x0e\0\0\0\x01\0\x01\x01\x01\x01\x01cardio\0\0",
+        b"\x02\x02\0\x0e\0\0\0\x01\0\x01\x01\x01\x01\x01cardio\0\0",
     ),
     (
         true,
-        b"\x12\x01\0\x18\0\0\0\x01\0\0\0\x01cardio\0\0\0\0\0\x03cardio\0\0",
+        b"\x12\x02\0\x18\0\0\0\x01\0\0\0\x01cardio\0\0\0\0\0\x03cardio\0\0",
     ),
-    (false, b"\x03\x01\0\0\0\0\0\x01"),
-    (true, b"\x13\x01\0\x04\0\0\0\x01\0\0\0\x02"),
+    (false, b"\x03\x02\0\0\0\0\0\x01"),
+    (true, b"\x13\x02\0\x04\0\0\0\x01\0\0\0\x02"),
     (
         false,
-        b"\x02\x01\0\x0e\0\0\0\x02\x02\x01\x01\x01\x01\x06\x80\0\0\0\0\0\0\x02",
+        b"\x02\x02\0\x0e\0\0\0\x02\x02\x01\x01\x01\x01\x06\x80\0\0\0\0\0\0\x02",
     ),
     (
         true,
-        b"\x12\x01\0\x30\0\0\0\x02\0\0\0\x01\x80\0\0\0\0\0\0\x05\0\0\0\x02\x80\0\0\0\0\0\0\x05\0\0\0\x03\x80\0\0\0\0\0\0\x09\0\0\0\x04\x80\0\0\0\0\0\0\x02",
+        b"\x12\x02\0\x30\0\0\0\x02\0\0\0\x01\x80\0\0\0\0\0\0\x05\0\0\0\x02\x80\0\0\0\0\0\0\x05\0\0\0\x03\x80\0\0\0\0\0\0\x09\0\0\0\x04\x80\0\0\0\0\0\0\x02",
     ),
-    (false, b"\x03\x01\0\0\0\0\0\x02"),
-    (true, b"\x13\x01\0\x04\0\0\0\x02\0\0\0\x04"),
-    (false, b"\x04\x01\0\0\0\0\0\0"),
+    (false, b"\x03\x02\0\0\0\0\0\x02"),
+    (true, b"\x13\x02\0\x04\0\0\0\x02\0\0\0\x04"),
+    (false, b"\x04\x02\0\0\0\0\0\0"),
 ];
 
 /// The pieces in which the stream comes: each as long as the key asks, some, or byte by byte.
@@ -66,6 +66,7 @@ fn wire(alloc: Global, all: bool) -> Result<Vec<u8>, AllocError> {
 #[test]
 fn a_session_is_told_alike_however_its_stream_is_cut(rt: HostRuntime) -> Result<(), AttachFault> {
     let cat = read_catalog(CATALOG).expect(&rt, "the catalog");
+    assert!(rt; cat.is_current());
     let mut flash = device(rt.alloc())?;
     assert!(rt; text_count(SCRIPT) <= 64);
     let said = wire(rt.alloc(), false)?;
@@ -106,6 +107,7 @@ fn a_session_is_told_alike_however_its_stream_is_cut(rt: HostRuntime) -> Result<
 #[test]
 fn each_call_that_fails_is_told(rt: HostRuntime) -> Result<(), AttachFault> {
     let cat = read_catalog(CATALOG).expect(&rt, "the catalog");
+    assert!(rt; cat.is_current());
     assert!(rt; text_count(SCRIPT) <= 64);
     let said = wire(rt.alloc(), false)?;
     let pace = [0u16];

@@ -1,22 +1,23 @@
 //! The clinic's flash: what stands on which page, and what the files of its hidden columns read.
 
-ghost use Rattle.std.specs.Prelude.{IfSome};
-ghost use Rattle.ghost_model.specs.core.Database.{IsDatabase};
+ghost use Rattle.std.specs.Prelude.{◌≡◌, ◌<◌, IfSome};
+ghost use Rattle.ghost_model.specs.core.Database.{IsDatabase, row_counts};
 ghost use Rattle.ghost_model.specs.forms.Flash.{IsHidden};
 ghost use Rattle.hidden_columns.specs.Files.{IsReadable};
 
-use crate::places::{CLINIC, catalog_bytes};
+use crate::places::{CLINIC, HEAD, OLDER_HEAD, catalog_bytes};
 use csv_split::{Hidden, Tables, read_tables, split};
 use edge_traits::flash::Flash;
 use edge_traits::mem_flash::MemFlash;
-use flash_build::{catalog_of, load_flash};
+use flash_build::catalogs::counts_of;
+use flash_build::load_flash;
 use flash_layout::{is_hidden, need};
 use flash_pages::fault::PageFault;
 use ghost_base::Value;
 use hidden_columns::ColumnFile;
 use page_pool::PagePool;
 use std::alloc::{AllocError, Global};
-use tree_schema::{Catalog, Schema, read_schema};
+use tree_schema::{Catalog, Schema, Version, read_catalog, read_schema};
 
 /// The clinic's files.
 const FILES: [&[u8]; 3] = [
@@ -44,18 +45,39 @@ fn in_memory(alloc: Global, texts: &[&[u8]]) -> Result<Vec<Vec<u8>>, AllocError>
     Ok(files)
 }
 
+/// What of a catalog does not follow from its tables.
+#[derive(Clone, Copy)]
+struct Made {
+    version: Version,
+    generation: u32,
+}
+
+/// The catalog of the tables of a schema.
+fn catalog_at(schema: Schema, tables: &Tables, version: Version, generation: u32) -> Catalog
+    requires database { IsDatabase schema tables.now }
+    requires generation { 0 < generation }
+    ensures schema { result.schema ≡ schema }
+    ensures counts { row_counts tables.now ≡ result.counts }
+{
+    let counts = counts_of(&schema, tables);
+    Catalog::of_version(version, schema, counts, generation)
+}
+
 /// The catalog and the hidden part of the tables of a schema.
-fn parts_of(alloc: Global, schema: Schema, tables: Tables) -> Option<Parts>
+fn parts_of(alloc: Global, schema: Schema, tables: Tables, made: Made) -> Option<Parts>
     requires database { IsDatabase schema tables }
     ensures part { IfSome result (λ parts. IsHidden parts.cat parts.hidden) }
 {
-    let cat = catalog_of(schema, &tables);
+    if made.generation == 0 {
+        return None;
+    }
+    let cat = catalog_at(schema, &tables, made.version, made.generation);
     let (_public, hidden) = split(alloc, cat.schema(), tables).ok()?;
     Some(Parts { cat, hidden })
 }
 
 /// Those of the files of a schema's tables.
-fn read_parts(alloc: Global, schema: &str, texts: &[&[u8]]) -> Option<Parts>
+fn read_parts(alloc: Global, schema: &str, texts: &[&[u8]], made: Made) -> Option<Parts>
     ensures part { IfSome result (λ parts. IsHidden parts.cat parts.hidden) }
 {
     let schema = read_schema(schema.as_bytes()).ok()?;
@@ -64,7 +86,7 @@ fn read_parts(alloc: Global, schema: &str, texts: &[&[u8]]) -> Option<Parts>
         return None;
     }
     let tables = read_tables(alloc, &schema, &files).ok()?;
-    parts_of(alloc, schema, tables)
+    parts_of(alloc, schema, tables, made)
 }
 
 /// A catalog, a device, and page buffers.
@@ -78,21 +100,20 @@ pub(crate) struct Loaded {
     pub pool: PagePool,
 }
 
-/// The files of a schema's tables on a device that was loaded with them.
-pub(crate) fn load_tables(alloc: Global, schema: &str, texts: &[&[u8]]) -> Option<Loaded> {
-    let parts = read_parts(alloc, schema, texts)?;
-    let mut flash = MemFlash::new(alloc, 14, &[]).ok()?;
-    load_flash(alloc, &parts.cat, &parts.hidden, &mut flash, "key", 14).ok()?;
+/// The clinic on a device that was built and sealed by a catalog of this version and generation.
+fn load(alloc: Global, version: Version, generation: u32) -> Option<Loaded> {
+    let made = Made {
+        version,
+        generation,
+    };
+    let parts = read_parts(alloc, CLINIC, &FILES, made)?;
+    let mut flash = MemFlash::new(alloc, 21, &[]).ok()?;
+    load_flash(alloc, &parts.cat, &parts.hidden, &mut flash, "key", 21).ok()?;
     Some(Loaded {
         cat: parts.cat,
         flash,
         pool: PagePool::new(alloc, 8).ok()?,
     })
-}
-
-/// The clinic on a device that was loaded with it.
-fn load(alloc: Global) -> Option<Loaded> {
-    load_tables(alloc, CLINIC, &FILES)
 }
 
 /// Whether a page has these bytes, and 0xFF after them.
@@ -104,48 +125,94 @@ fn has(flash: &MemFlash, page: u32, front: &[u8]) -> bool {
     }
 }
 
+/// What stands on pages of the clinic's files, counted from the first one.
+const FILES_HAVE: [(u32, &[u8]); 12] = [
+    (0, b"FRESES"),
+    (1, b"\0\0\0\x02"),
+    (
+        2,
+        b"ES\0\0\0\0\0\0\0\x02\0\0\0\0\0\0\0\x03FR\0\0\0\x02\0\0\0\x01\0\0\0\x03\0\0\0\x01",
+    ),
+    (3, b"\x02\x01\x01"),
+    (4, b"\x02\x01\x01\x01"),
+    (6, b"\x01\x04\x02\x01"),
+    (7, b"Ann\0\0\0\0\0Bob\0\0\0\0\0"),
+    (14, b"flu\0\0\0\0\0check\0\0\0flu\0\0\0\0\0flu\0\0\0\0\0"),
+    (
+        15,
+        b"\x80\0\0\0\0\0\0\x01\x80\0\0\0\0\0\0\x03\x80\0\0\0\0\0\0\x03\x80\0\0\0\0\0\0\x02",
+    ),
+    (
+        16,
+        b"\x80\0\0\0\0\0\0\x01\x80\0\0\0\0\0\0\x02\x80\0\0\0\0\0\0\x01\x80\0\0\0\0\0\0\x02",
+    ),
+    (
+        17,
+        b"\0\0\0\x01\0\0\0\x01\0\0\0\x03\0\0\0\x02\0\0\0\x03\0\0\0\x01\0\0\0\x02\0\0\0\x02",
+    ),
+    (
+        19,
+        b"check\0\0\0\0\0\0\0\0\0\0\x01flu\0\0\0\0\0\0\0\0\x01\0\0\0\x03",
+    ),
+];
+
+/// How many pages up to the last of the clinic's files are blank.
+fn blank_pages(flash: &MemFlash, first: u32) -> usize {
+    (0..first.saturating_add(27))
+        .filter(|page| has(flash, *page, b""))
+        .count()
+}
+
+/// At version 2 the gate and a header stand beside the catalog and the 27 pages of files, at version 1 none.
 #[test]
 fn the_clinic_stands_on_its_pages(rt: HostRuntime) {
-    let Some(loaded) = load(rt.alloc()) else {
-        assert!(rt; false);
-        return;
-    };
-    assert!(rt; has(&loaded.flash, 0, &catalog_bytes(CLINIC, &[3, 2, 4])));
-    for (page, front) in [
-        (64u32, b"FRESES".as_slice()),
-        (65, b"\0\0\0\x02"),
-        (
-            66,
-            b"ES\0\0\0\0\0\0\0\x02\0\0\0\0\0\0\0\x03FR\0\0\0\x02\0\0\0\x01\0\0\0\x03\0\0\0\x01",
-        ),
-        (67, b"\x02\x01\x01"),
-        (68, b"\x02\x01\x01\x01"),
-        (70, b"\x01\x04\x02\x01"),
-        (71, b"Ann\0\0\0\0\0Bob\0\0\0\0\0"),
-        (78, b"flu\0\0\0\0\0check\0\0\0flu\0\0\0\0\0flu\0\0\0\0\0"),
-        (
-            79,
-            b"\x80\0\0\0\0\0\0\x01\x80\0\0\0\0\0\0\x03\x80\0\0\0\0\0\0\x03\x80\0\0\0\0\0\0\x02",
-        ),
-        (
-            80,
-            b"\x80\0\0\0\0\0\0\x01\x80\0\0\0\0\0\0\x02\x80\0\0\0\0\0\0\x01\x80\0\0\0\0\0\0\x02",
-        ),
-        (
-            81,
-            b"\0\0\0\x01\0\0\0\x01\0\0\0\x03\0\0\0\x02\0\0\0\x03\0\0\0\x01\0\0\0\x02\0\0\0\x02",
-        ),
-        (
-            83,
-            b"check\0\0\0\0\0\0\0\0\0\0\x01flu\0\0\0\0\0\0\0\0\x01\0\0\0\x03",
-        ),
+    for (version, head, first, blank, calls) in [
+        (Version::Two, HEAD, 256u32, 253usize, 31u64),
+        (Version::One, OLDER_HEAD, 64, 63, 29),
     ] {
-        assert!(rt; has(&loaded.flash, page, front), "page {page}");
+        let Some(loaded) = load(rt.alloc(), version, 1) else {
+            assert!(rt; false);
+            return;
+        };
+        assert!(rt; has(&loaded.flash, 0, &catalog_bytes(head, CLINIC, &[3, 2, 4])));
+        for (page, front) in FILES_HAVE {
+            assert!(rt;
+                has(&loaded.flash, first.saturating_add(page), front),
+                "page {page} from {first} on"
+            );
+        }
+        assert!(rt; blank_pages(&loaded.flash, first) == blank);
+        assert!(rt; loaded.flash.script.calls == calls);
     }
-    let blank = (0..128)
-        .filter(|page| has(&loaded.flash, *page, b""))
-        .count();
-    assert!(rt; blank == 100 && loaded.flash.script.calls == 29);
+}
+
+/// The gate names one of two headers, by whether the generation is odd, and that one has the generation and no row.
+#[test]
+fn a_fresh_device_has_its_gate_and_one_header(rt: HostRuntime) {
+    for (generation, head, gate, header, other) in [
+        (1u32, HEAD, b"\x01".as_slice(), 192u32, 128u32),
+        (6, b"GHOSTDB\x02\0\0\0\x06", b"\0", 128, 192),
+    ] {
+        let Some(loaded) = load(rt.alloc(), Version::Two, generation) else {
+            assert!(rt; false);
+            return;
+        };
+        let flash = &loaded.flash;
+        let front = [0, 0, 0, generation as u8, 0, 0, 0, 0];
+        assert!(rt; has(flash, 0, &catalog_bytes(head, CLINIC, &[3, 2, 4])));
+        assert!(rt; has(flash, 64, gate) && has(flash, header, &front) && has(flash, other, b""));
+    }
+}
+
+/// The public pages of a device of version 1 spell a catalog, and it is not of the version that is made.
+#[test]
+fn a_device_of_version_1_is_told_by_its_catalog(rt: HostRuntime) {
+    for (version, current) in [(Version::Two, true), (Version::One, false)] {
+        let loaded = load(rt.alloc(), version, 1).expect(&rt, "the clinic");
+        let page = loaded.flash.page(0).expect(&rt, "page 0");
+        let cat = read_catalog(page).expect(&rt, "its catalog");
+        assert!(rt; cat.is_current() == current && loaded.cat.is_current() == current);
+    }
 }
 
 /// The file of a column, where it is hidden and the device has the catalog's pages.
@@ -178,6 +245,7 @@ pub(crate) fn value(
 /// Whether a value is spelled so.
 fn is_spelled(value: &Value, word: &str) -> bool {
     match value {
+        Value::Null => word == "NULL",
         Value::Int(number) => word.parse::<i64>().is_ok_and(|read| read == *number),
         Value::Chars(text) => text.as_bytes() == word.as_bytes(),
     }
@@ -198,17 +266,19 @@ fn has_values(loaded: &mut Loaded, table: usize, column: usize, words: &str) -> 
 
 #[test]
 fn each_slot_has_the_value_of_its_row(rt: HostRuntime) {
-    let Some(mut loaded) = load(rt.alloc()) else {
-        assert!(rt; false);
-        return;
-    };
-    for (table, column, words) in [
-        (0usize, 2usize, "FR ES ES"),
-        (1, 2, "Ann Bob"),
-        (2, 2, "flu check flu flu"),
-        (2, 3, "1 3 3 2"),
-        (2, 4, "1 2 1 2"),
-    ] {
-        assert!(rt; has_values(&mut loaded, table, column, words), "{words}");
+    for version in [Version::Two, Version::One] {
+        let Some(mut loaded) = load(rt.alloc(), version, 1) else {
+            assert!(rt; false);
+            return;
+        };
+        for (table, column, words) in [
+            (0usize, 2usize, "FR ES ES"),
+            (1, 2, "Ann Bob"),
+            (2, 2, "flu check flu flu"),
+            (2, 3, "1 3 3 2"),
+            (2, 4, "1 2 1 2"),
+        ] {
+            assert!(rt; has_values(&mut loaded, table, column, words), "{words}");
+        }
     }
 }

@@ -49,6 +49,56 @@ fn a_device_keeps_its_pages(rt: HostRuntime) -> Result<(), AttachFault> {
     Ok(())
 }
 
+/// Whether a device that was made, and written on, has no page of another name's, and that one stays as it was.
+fn has_others_apart<F: Flash>(alloc: Global, flash: &mut F) -> Result<bool, AttachFault> {
+    write(alloc, flash)?;
+    flash.make(alloc, "other", 1)?;
+    flash.write_page(63, &[5; 2048])?;
+    if !has_what_was_written(alloc, flash)? {
+        return Ok(false);
+    }
+    let pages = flash.attach(alloc, "other")?;
+    let mut page = [0; 2048];
+    let mut well = pages == 64;
+    for (number, byte) in [(0u32, 0xFFu8), (63, 5)] {
+        if number < flash.pages() {
+            flash.read_page(number, &mut page)?;
+        }
+        well = well && page.iter().all(|b| *b == byte);
+    }
+    Ok(well)
+}
+
+#[test]
+fn devices_are_told_apart_by_their_names(rt: HostRuntime) -> Result<(), AttachFault> {
+    for name in ["key", "other"] {
+        let _gone = fs::remove_file(&rt, name);
+    }
+    let mut flash = MemFlash::new(rt.alloc(), 2, &[])?;
+    assert!(rt; has_others_apart(rt.alloc(), &mut flash)?);
+    assert!(rt; flash.attach(rt.alloc(), "none")? == 0);
+    assert!(rt; has_what_was_written(rt.alloc(), &mut flash)?);
+    flash.make(rt.alloc(), "other", 2)?;
+    assert!(rt; flash.pages() == 128 && has_what_was_written(rt.alloc(), &mut flash)?);
+    let mut flash = FileFlash::new(rt.alloc(), &rt);
+    assert!(rt; has_others_apart(rt.alloc(), &mut flash)?);
+    Ok(())
+}
+
+#[test]
+fn reads_are_deep_from_page_256_on(rt: HostRuntime) -> Result<(), AttachFault> {
+    let mut flash = MemFlash::new(rt.alloc(), 5, &[])?;
+    flash.make(rt.alloc(), "key", 5)?;
+    let mut page = [0; 2048];
+    for (number, deep) in [(0u32, 0u64), (64, 0), (255, 0), (256, 1), (319, 2)] {
+        if number < flash.pages() {
+            flash.read_page(number, &mut page)?;
+        }
+        assert!(rt; flash.deep_reads() == deep, "{number}");
+    }
+    Ok(())
+}
+
 /// Whether this is what is told of the first call that failed.
 fn tells(alloc: Global, fault: Option<FileFault>, line: &str) -> Result<bool, AllocError> {
     match fault {

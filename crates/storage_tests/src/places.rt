@@ -4,7 +4,7 @@ ghost use Rattle.std.specs.Prelude.{◌≡◌, ◌<◌, length, true};
 ghost use Rattle.ghost_model.specs.forms.Layout as layout;
 
 use arrayvec::ArrayVec;
-use flash_layout::{Layout, column_file, is_hidden, need, pages};
+use flash_layout::{Layout, column_file, is_hidden, need, pages, public_pages, scratch_count};
 use ghost_base::Kind;
 use ghost_base::runs::Run;
 use std::alloc::{AllocError, Global};
@@ -18,13 +18,29 @@ pub(crate) const CLINIC: &str =
 const LEAF: &str =
     "CREATE TABLE leaf (id INTEGER PRIMARY KEY, tag INTEGER, mark INTEGER HIDDEN);\nCREATE TABLE top (id INTEGER PRIMARY KEY, num INTEGER, val INTEGER HIDDEN, lf INTEGER REFERENCES leaf(id) HIDDEN);\n";
 
+/// That of one table.
+const NOTE: &str =
+    "CREATE TABLE note (id INTEGER PRIMARY KEY, topic CHAR(4), body CHAR(8) HIDDEN);\n";
+
 /// That of a table without a visible column.
 const SECRET: &str = "CREATE TABLE secret (id INTEGER PRIMARY KEY, value INTEGER HIDDEN);\n";
 
-/// How many records the files of the clinic have, and of how many bytes, page after page from 64 on. A level file has the bytes
-/// of its room.
+/// What stands in front of the text's length in a catalog of generation 1: of version 2, and of version 1.
+pub(crate) const HEAD: &[u8] = b"GHOSTDB\x02\0\0\0\x01";
+
+pub(crate) const OLDER_HEAD: &[u8] = b"GHOSTDB\x01\0\0\0\x01";
+
+/// How many records the files of the clinic have, and of how many bytes, page after page behind the public ones. A level file has
+/// the bytes of its room.
 const CLINIC_FILES: &str =
     "3x2 1x4 3x18 2048x1 2048x1 3x8 2048x1 2x8 1x4 2x24 2048x1 2048x1 2x8 2048x1 4x8 4x8 4x8 4x8 1x4 4x16 2048x1 1x4 4x16 2048x1 1x4 4x16 2048x1";
+
+/// How many records the areas of the clinic have, and of how many bytes, block after block: those of the spool, of scratch, and of
+/// appended rows. At version 1 there is room for the rows at hand alone.
+const CLINIC_AREAS: &str =
+    "3x12 2x12 4100x12 3x12 2x12 4100x12 4100x4 4100x4 4100x4 4100x4 4100x4 4100x4 4100x4 4100x4 4096x32 4096x32";
+
+const OLDER_AREAS: &str = "3x12 2x12 4x12 3x12 2x12 4x12 4x4 4x4 4x4 4x4 4x4 4x4";
 
 /// Some files: the first page of each, how many records it has, and of how many bytes.
 type Files = ArrayVec<(u32, u32, u32), 40>;
@@ -34,10 +50,10 @@ fn put(found: &mut Files, run: Run) {
     let _ = found.try_push((run.first, run.count, run.width));
 }
 
-/// The bytes of the catalog of a canonical text and so many rows for each table.
-pub(crate) fn catalog_bytes(text: &str, counts: &[u32]) -> ArrayVec<u8, 600> {
+/// The bytes of the catalog of a canonical text and so many rows for each table, behind these.
+pub(crate) fn catalog_bytes(head: &[u8], text: &str, counts: &[u32]) -> ArrayVec<u8, 600> {
     let mut bytes: ArrayVec<u8, 600> = ArrayVec::new();
-    let _ = bytes.try_extend_from_slice(b"GHOSTDB\x01\0\0\0\x01");
+    let _ = bytes.try_extend_from_slice(head);
     let _ = bytes.try_extend_from_slice(&u32::try_from(text.len()).unwrap_or(0).to_be_bytes());
     let _ = bytes.try_extend_from_slice(text.as_bytes());
     for count in counts {
@@ -107,7 +123,7 @@ fn files_of(lain: &Layout<'_>) -> Files {
     found
 }
 
-/// The areas of both halves of the spool and of scratch.
+/// The areas of both halves of the spool, of scratch, and of appended rows where there are some.
 fn areas_of(lain: &Layout<'_>) -> Files {
     let mut found = ArrayVec::new();
     for half in 0..2 {
@@ -115,50 +131,59 @@ fn areas_of(lain: &Layout<'_>) -> Files {
             put(&mut found, lain.spool_area(half, table));
         }
     }
-    for area in 0..6 {
+    for area in 0..scratch_count(lain.catalog()) {
         put(&mut found, lain.scratch_area(area));
+    }
+    if lain.appended_pages() > 0 {
+        for which in 0..2 {
+            put(&mut found, lain.appended_area(which));
+        }
     }
     found
 }
 
-/// Whether files begin on page after page, each with so many records of so many bytes.
-fn lie_so(alloc: Global, files: &Files, wanted: &str) -> Result<bool, AllocError> {
-    let mut page = 64u32;
+/// Whether files begin so many pages one behind another, each with so many records of so many bytes.
+fn lie_so(
+    alloc: Global,
+    files: &Files,
+    first: u32,
+    step: u32,
+    wanted: &str,
+) -> Result<bool, AllocError> {
+    let mut page = first;
     for (file, word) in files.iter().zip(wanted.split(' ')) {
         let told = format!(in alloc; "{}x{}", file.1, file.2)?;
         if file.0 != page || told.as_str() != word {
             return Ok(false);
         }
-        page = page.saturating_add(1);
+        page = page.saturating_add(step);
     }
-    Ok(page == 91 && files.len() == 27)
+    Ok(files.len() == wanted.split(' ').count())
 }
 
 #[test]
 fn the_files_and_areas_of_the_clinic_lie_where_they_should(
     rt: HostRuntime,
 ) -> Result<(), AllocError> {
-    let Some(cat) = read_catalog(&catalog_bytes(CLINIC, &[3, 2, 4])) else {
-        assert!(rt; false);
-        return Ok(());
-    };
-    let lain = Layout::of(&cat);
-    assert!(rt; lie_so(rt.alloc(), &files_of(&lain), CLINIC_FILES)?);
-    let areas = areas_of(&lain);
-    assert!(rt; areas.len() == 12);
-    for (at, (first, _count, width)) in areas.iter().enumerate() {
-        let wide = if at < 6 { 12 } else { 4 };
-        assert!(rt;
-            *first == 128 + 64 * at as u32 && *width == wide,
-            "area {at}"
-        );
+    for (head, first, behind, areas) in [
+        (HEAD, 256u32, 320u32, CLINIC_AREAS),
+        (OLDER_HEAD, 64, 128, OLDER_AREAS),
+    ] {
+        let Some(cat) = read_catalog(&catalog_bytes(head, CLINIC, &[3, 2, 4])) else {
+            assert!(rt; false);
+            return Ok(());
+        };
+        let lain = Layout::of(&cat);
+        assert!(rt; public_pages(&cat) == first);
+        assert!(rt; lie_so(rt.alloc(), &files_of(&lain), first, 1, CLINIC_FILES)?);
+        assert!(rt; lie_so(rt.alloc(), &areas_of(&lain), behind, 64, areas)?);
     }
     Ok(())
 }
 
 #[test]
 fn a_layout_tells_what_readers_ask(rt: HostRuntime) {
-    let Some(cat) = read_catalog(&catalog_bytes(CLINIC, &[3, 2, 4])) else {
+    let Some(cat) = read_catalog(&catalog_bytes(HEAD, CLINIC, &[3, 2, 4])) else {
         assert!(rt; false);
         return;
     };
@@ -176,6 +201,11 @@ fn a_layout_tells_what_readers_ask(rt: HostRuntime) {
     ] {
         assert!(rt; lain.rows(table) == rows, "rows of {table}");
         if table < cat.schema().tables() {
+            let more = if table == 2 { 4096 } else { 0 };
+            assert!(rt;
+                lain.room(table) == rows.saturating_add(more),
+                "room of {table}"
+            );
             assert!(rt; lain.levels(table) == levels, "levels of {table}");
             assert!(rt; lain.above(table) == above, "above {table}");
             assert!(rt; lain.below(table) == below, "below {table}");
@@ -192,7 +222,7 @@ fn a_layout_tells_what_readers_ask(rt: HostRuntime) {
 
 #[test]
 fn the_schema_tells_its_foreign_keys(rt: HostRuntime) {
-    let Some(cat) = read_catalog(&catalog_bytes(CLINIC, &[3, 2, 4])) else {
+    let Some(cat) = read_catalog(&catalog_bytes(HEAD, CLINIC, &[3, 2, 4])) else {
         assert!(rt; false);
         return;
     };
@@ -205,14 +235,21 @@ fn the_schema_tells_its_foreign_keys(rt: HostRuntime) {
 
 #[test]
 fn a_device_has_whole_blocks(rt: HostRuntime) {
-    for (text, counts, end, most) in [
-        (CLINIC, [3u32, 2, 4].as_slice(), 128u32, 896u32),
-        (LEAF, &[50, 12_000], 512, 1280),
-        (LEAF, &[41_000, 100], 1024, 2432),
-        (SECRET, &[1], 128, 512),
-        (SECRET, &[1_000_000], 13_760, 25_664),
+    for (head, text, counts, end, most) in [
+        (HEAD, CLINIC, [3u32, 2, 4].as_slice(), 320u32, 1344u32),
+        (HEAD, LEAF, &[50, 12_000], 704, 1728),
+        (HEAD, LEAF, &[41_000, 100], 1216, 3008),
+        (HEAD, NOTE, &[4], 320, 1088),
+        (HEAD, SECRET, &[1], 320, 960),
+        (HEAD, SECRET, &[0], 320, 960),
+        (HEAD, SECRET, &[1_000_000], 13_952, 29_952),
+        (OLDER_HEAD, CLINIC, &[3, 2, 4], 128, 896),
+        (OLDER_HEAD, LEAF, &[50, 12_000], 512, 1280),
+        (OLDER_HEAD, LEAF, &[41_000, 100], 1024, 2432),
+        (OLDER_HEAD, SECRET, &[1], 128, 512),
+        (OLDER_HEAD, SECRET, &[1_000_000], 13_760, 25_664),
     ] {
-        match read_catalog(&catalog_bytes(text, counts)) {
+        match read_catalog(&catalog_bytes(head, text, counts)) {
             None => assert!(rt; false),
             Some(cat) => {
                 let lain = Layout::of(&cat);
@@ -225,12 +262,12 @@ fn a_device_has_whole_blocks(rt: HostRuntime) {
 
 #[test]
 fn pages_take_whole_records(rt: HostRuntime) {
-    let counts = [0u32, 512, 513, 3, 2, 1, 1_000_000];
-    let widths = [4u32, 4, 4, 1540, 1024, 2048, 4];
-    let wanted = [0u32, 1, 2, 3, 1, 1, 1954];
-    for at in 0..7 {
+    let counts = [0u32, 512, 513, 3, 2, 1, 1_000_000, 1_004_096];
+    let widths = [4u32, 4, 4, 1564, 1024, 2048, 4, 4];
+    let wanted = [0u32, 1, 2, 3, 1, 1, 1954, 1962];
+    for at in 0..8 {
         let (count, width) = (counts[at], widths[at]);
-        let fits = 0 < width && width <= 2048 && count <= 1_000_000;
+        let fits = 0 < width && width <= 2048 && count <= 1_004_096;
         assert!(rt; fits && pages(count, width) == wanted[at], "row {at}");
     }
 }

@@ -6,7 +6,10 @@ use std::test::Fail;
 use tree_schema::{Catalog, catalog_len, catalog_part, is_catalog_part, read_catalog};
 
 /// What stands in front of the text's length in a catalog of generation 1.
-const FIRST: &[u8; 12] = b"GHOSTDB\x01\0\0\0\x01";
+const FIRST: &[u8; 12] = b"GHOSTDB\x02\0\0\0\x01";
+
+/// The same at version 1.
+const OLDER: &[u8; 12] = b"GHOSTDB\x01\0\0\0\x01";
 
 #[test]
 fn the_clinic_has_its_bytes(rt: HostRuntime) -> Result<(), Fail> {
@@ -36,6 +39,19 @@ fn the_clinic_has_its_bytes(rt: HostRuntime) -> Result<(), Fail> {
     Ok(())
 }
 
+#[test]
+fn a_catalog_has_the_version_that_its_bytes_tell(rt: HostRuntime) -> Result<(), Fail> {
+    for (head, number, current) in [(FIRST, 2u8, true), (OLDER, 1, false)] {
+        let bytes = catalog_bytes(rt.alloc(), head, SCHEMA, &[3, 2, 4])?;
+        let cat = read_catalog(&bytes).ok_or("no catalog")?;
+        assert!(rt; cat.version().number() == number && cat.is_current() == current);
+        let mut page = [0xEE; 400];
+        let count = catalog_part(&cat, 0, &mut page);
+        assert!(rt; page.get(..count) == Some(bytes.as_slice()), "{number}");
+    }
+    Ok(())
+}
+
 /// A canonical text of one table.
 const NOTE: &str =
     "CREATE TABLE note (id INTEGER PRIMARY KEY, topic CHAR(4), body CHAR(8) HIDDEN);\n";
@@ -57,12 +73,13 @@ fn begin_with_one(alloc: Global, head: &[u8], text: &str, count: u32) -> Result<
 fn bytes_begin_with_a_catalog_or_with_none(rt: HostRuntime) -> Result<(), Fail> {
     for (head, text, count, begins) in [
         (FIRST, NOTE, 0, true),
-        (b"GHOSTDB\x01\xFF\xFF\xFF\xFF", NOTE, 1_000_000, true),
+        (b"GHOSTDB\x02\xFF\xFF\xFF\xFF", NOTE, 1_000_000, true),
+        (OLDER, NOTE, 1, true),
         (FIRST, NOTE, 1_000_001, false),
-        (b"HHOSTDB\x01\0\0\0\x01", NOTE, 1, false),
-        (b"GHOSTDB\x02\0\0\0\x01", NOTE, 1, false),
+        (b"HHOSTDB\x02\0\0\0\x01", NOTE, 1, false),
+        (b"GHOSTDB\x03\0\0\0\x01", NOTE, 1, false),
         (b"GHOSTDB\0\0\0\0\x01", NOTE, 1, false),
-        (b"GHOSTDB\x01\0\0\0\0", NOTE, 1, false),
+        (b"GHOSTDB\x02\0\0\0\0", NOTE, 1, false),
         (FIRST, "CREATE TABLE t (id INTEGER PRIMARY KEY);\n", 1, true),
         (
             FIRST,

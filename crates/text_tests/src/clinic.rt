@@ -56,9 +56,10 @@ pub(crate) fn chars(text: &str) -> Value {
     Value::Chars(Text64::of(text.as_bytes()))
 }
 
-/// Writes a value: a number, or a text between quotes.
+/// Writes a value: a number, a text between quotes, or NULL.
 pub(crate) fn put_value(out: &mut String, value: &Value) -> Result<(), AllocError> {
     match value {
+        Value::Null => write!(out, "NULL"),
         Value::Int(number) => write!(out, "{number}"),
         Value::Chars(text) => match std::str::from_utf8(text.as_bytes()) {
             Ok(chars) => write!(out, "'{chars}'"),

@@ -47,7 +47,7 @@ fn is_split(
 
 #[test]
 fn hidden_values_come_again_and_change_no_byte_of_the_image(rt: HostRuntime) -> Result<(), Fail> {
-    let mut bytes = catalog_bytes(rt.alloc(), b"GHOSTDB\x01\0\0\0\x01", SCHEMA, &[3, 2, 4])?;
+    let mut bytes = catalog_bytes(rt.alloc(), b"GHOSTDB\x02\0\0\0\x01", SCHEMA, &[3, 2, 4])?;
     let cat = read_catalog(&bytes).ok_or("no catalog")?;
     bytes.extend_from_slice(CELLS)?;
     assert!(rt; bytes.len() == 437);
