@@ -9,6 +9,8 @@ from clinic import SCHEMA, text, write_clinic, write_table
 from clinic_pages import Clinic
 from running import BLOCK_PAGES, PAGE, Place, lines_of, rows_of, say, table, title, write
 
+# The pages before the static files, and for how many rows more of the root there is room, as docs/FLASH.md has them.
+PUBLIC_PAGES, APPENDED_ROOM = 256, 4096
 PLANS = ['auto', 'scan', 'pre', 'post', 'cross-pre', 'cross-post']
 BOUNDED = 'pre'
 SELECTIVE = [
@@ -28,7 +30,7 @@ def spool_end(rows):
     """The first page behind the spool of a clinic with so many rows: behind the static files, as docs/FLASH.md has them."""
     sized = lambda count, width: -(-(-(-count // (PAGE // width))) // BLOCK_PAGES) * BLOCK_PAGES
     pages = lambda count, width: -(-count // (PAGE // width)) if count else 0
-    static = BLOCK_PAGES
+    static = PUBLIC_PAGES
     for name, hidden, above, below in (('doctor', [2], ['visit'], 0), ('patient', [8], ['visit'], 0), ('visit', [8, 8, 8], [], 2)):
         count = rows[name]
         static += sum(pages(count, width) for width in hidden)
@@ -37,13 +39,13 @@ def spool_end(rows):
             static += 1 + pages(count, width + 8 * (1 + len(above))) + sum(pages(rows[it], 4) for it in [name, *above])
         static += pages(count, 8) + pages(rows['visit'], 4) if above else 0
     static = -(-static // BLOCK_PAGES) * BLOCK_PAGES
-    return static + 2 * sum(sized(count, 12) for count in rows.values())
+    return static + 2 * sum(sized(count + (APPENDED_ROOM if name == 'visit' else 0), 12) for name, count in rows.items())
 
 
 def job_calls(place, one, plan, spool):
     """How often the job of a text called the flash."""
     write(place.folder, 'one.sql', one + '\n')
-    return sum(page >= BLOCK_PAGES if kind == 'pread64' else page >= spool for kind, _, page in place.calls('one.sql', plan))
+    return sum(page >= PUBLIC_PAGES if kind == 'pread64' else page >= spool for kind, _, page in place.calls('one.sql', plan))
 
 
 def by_plans(bench, place, one, spool):

@@ -7,6 +7,7 @@ import collections
 import io
 import re
 
+VERSION = 2
 KINDS = {1: 'HELLO', 2: 'ASK', 3: 'MORE', 4: 'BYE', 17: 'WELCOME', 18: 'ROWS', 19: 'DONE', 20: 'SORRY'}
 OPERATORS = {1: '=', 2: '<>', 3: '<', 4: '<=', 5: '>', 6: '>='}
 WANTED = {'hello': ('HELLO',), 'turn': ('ASK', 'BYE'), 'more': ('MORE',)}
@@ -54,7 +55,7 @@ def read_catalog(data):
     lines = data[16:16 + length].decode('latin-1').split('\n')
     tables = [read_table(line) for line in lines[:-1]]
     counts = data[16 + length:]
-    whole = data[:8] == b'GHOSTDB\x01' and tables and not lines[-1] and len(counts) == 4 * len(tables)
+    whole = data[:8] == b'GHOSTDB%c' % VERSION and tables and not lines[-1] and len(counts) == 4 * len(tables)
     if not whole or None in tables or data[8:12] == bytes(4):
         return None
     rows = [int.from_bytes(counts[4 * place:4 * place + 4], 'big') for place in range(len(tables))]
@@ -156,7 +157,7 @@ class Wire:
 
     def send(self, data, is_done):
         kind, version, length, serial = read_header(data)
-        if kind not in WANTED.get(self.awaits, ()) or version != 1 or len(data) != 8 + length:
+        if kind not in WANTED.get(self.awaits, ()) or version != VERSION or len(data) != 8 + length:
             raise Refused('a send that cannot stand here: it is no whole frame of the kind that is due')
         words = self.frame_words(kind, serial, data[8:])
         self.moves.append(Move('key', len(data), words if is_done else words + ', and the sending failed'))
@@ -221,7 +222,7 @@ class Wire:
             lengths = {'ROWS': length, 'DONE': 4, 'SORRY': 1}
             is_good = serial == len(self.asks) and lengths.get(kind) == length and 0 < length <= 2040
             is_good = is_good and (kind != 'ROWS' or length % width == 0)
-        if version != 1 or not is_good:
+        if version != VERSION or not is_good:
             raise ValueError
 
     def welcomed(self, payload):
