@@ -2,21 +2,23 @@
 use Rattle.std.specs.Prelude.{ℕ, ◌&&◌, ◌||◌, Bool, false, not, nat_eq}
 use Rattle.std.specs.List.{list_any}
 use Rattle.ghost_model.specs.core.Schema.{Schema, is_visible}
+use Rattle.ghost_model.specs.core.Groups.{some_of}
 use Rattle.ghost_model.specs.core.Query as query
 
--- whether a table is asked for: a visible column of it is selected or compared with a literal
+-- whether a table is asked for: a visible column of it is selected or stands in a group
 abbrev pub is_shown_of : Schema → (table : ℕ) → query.Field → Bool
 is_shown_of schema table field = nat_eq field.table table && is_visible schema field.table field.column
 
 abbrev pub is_compared_of : Schema → (table : ℕ) → query.Condition → Bool
-is_compared_of schema table (query.Compare field operator literal) = is_shown_of schema table field
+is_compared_of schema table (query.OneOf first others) = some_of (λ one. is_shown_of schema table one.field) first others
 is_compared_of schema table (query.Join one other) = false
 
 abbrev pub is_asked : Schema → query.Query → (table : ℕ) → Bool
 is_asked schema asked table =
     list_any (is_shown_of schema table) asked.select || list_any (is_compared_of schema table) asked.conditions
 
--- whether a condition is the key's to test: a comparison of an identifier or a hidden column
+-- whether a condition is the key's to test: a group with an identifier or a hidden column
 abbrev pub is_tested : Schema → query.Condition → Bool
-is_tested schema (query.Compare field operator literal) = not (is_visible schema field.table field.column)
+is_tested schema (query.OneOf first others) =
+    some_of (λ one. not (is_visible schema one.field.table one.field.column)) first others
 is_tested schema (query.Join one other) = false

@@ -15,11 +15,11 @@ use Rattle.std.proofs.lemmas.Slice.Eq.{bytes_eq-Decides}
 use Rattle.ghost_model.specs.core.Schema as schema
 use Rattle.ghost_model.specs.core.Schema.{Schema, Column, Chars, places_from, places_of}
 use Rattle.ghost_model.specs.core.Query.{Field}
-use Rattle.ghost_model.specs.refusals.Tokens.{number_of, is_between, Keyword, Symbol, Word, Reserved, Name, Digits, Open, Closing, Comma, Semicolon, EndOfText, CharWord, CreateWord, HiddenWord, IntegerWord, PrimaryKeyWord, PrimaryWord, ReferencesWord, TableWord, Read, read, symbol_of, symbols, tokens_from, token_at, word_at, digits_at, symbol_of_word, keyword_of, other_reserved, in_lower_case, begins_name, is_space, is_digit, is_name_byte}
+use Rattle.ghost_model.specs.refusals.Tokens.{number_of, is_between, Keyword, Symbol, Word, Reserved, Name, Digits, Open, Closing, Comma, Semicolon, EndOfText, CharWord, CreateWord, HiddenWord, IntegerWord, NullWord, PrimaryKeyWord, PrimaryWord, ReferencesWord, TableWord, Read, read, symbol_of, symbols, tokens_from, token_at, word_at, digits_at, symbol_of_word, keyword_of, other_reserved, in_lower_case, begins_name, is_space, is_digit, is_name_byte}
 use Rattle.ghost_model.specs.laws.Spelled.{is_spelled, is_reserved, is_name}
-use Rattle.ghost_model.specs.refusals.SchemaGrammar.{To, ColumnDeclaration, CharColumn, IntegerColumn, TableText, SchemaText, spell_if, spell_declaration, spell_heading, spell_declared_table}
+use Rattle.ghost_model.specs.refusals.SchemaGrammar.{To, ColumnDeclaration, CharColumn, IntegerColumn, NullableColumn, TableText, SchemaText, spell_if, spell_declaration, spell_heading, spell_declared_table}
 use Rattle.ghost_model.specs.readings.SchemaPlaces.{schema_syntax_of}
-use Rattle.ghost_model.specs.refusals.SchemaMeaning.{declared_table, columns_written, column_of, table_of, schema_of}
+use Rattle.ghost_model.specs.refusals.SchemaMeaning.{text_kind, declared_table, columns_written, column_of, table_of, schema_of}
 use Rattle.ghost_model.specs.refusals.SchemaFaults.{OverLimit, NoId, TwoParents, Cycle, is_long, is_over, is_table_over, is_column_over, declared_name, columns_at, repeats, is_duplicate, fields_from, fields, is_identifier, is_primary, table_lacks_id, refers_nowhere, references_naming, returns, roots_of, rules_of_schemas as schema_rules, MeansSchema}
 use Rattle.ghost_model.specs.laws.ShortWords.{is_unknown, table_repeats, column_repeats, lacks_id, is_shared, duplicate_at, unknown_at, wrong_roots}
 use Rattle.ghost_model.specs.readings.SchemaReading.{schema_or, schema_judged, schema_reading}
@@ -147,6 +147,22 @@ integer_last true rest (closing later) = ap (λ (xs : List Symbol). Word Integer
 integer_last false rest (comma later) = ap (λ (xs : List Symbol). Word IntegerWord ∷ Comma ∷ xs) (kinds_anywhere 0 9 1 later)
 integer_last false rest (closing later) = ap (λ (xs : List Symbol). Word IntegerWord ∷ Closing ∷ xs) (kinds_anywhere 0 9 1 later)
 
+nullable_char_last : (hidden : Bool) (rest : List ℕ) → AfterColumn rest
+    → symbols (41 ∷ (codes " NULL" ++ (hidden_text hidden ++ rest))) ≡ Closing ∷ Word NullWord ∷ (spell_if hidden (Word HiddenWord ∷ []) ++ symbols rest)
+unfolding tokens_from
+nullable_char_last true rest (comma later) = ap (λ (xs : List Symbol). Closing ∷ Word NullWord ∷ Word HiddenWord ∷ Comma ∷ xs) (kinds_anywhere 0 14 1 later)
+nullable_char_last true rest (closing later) = ap (λ (xs : List Symbol). Closing ∷ Word NullWord ∷ Word HiddenWord ∷ Closing ∷ xs) (kinds_anywhere 0 14 1 later)
+nullable_char_last false rest (comma later) = ap (λ (xs : List Symbol). Closing ∷ Word NullWord ∷ Comma ∷ xs) (kinds_anywhere 0 7 1 later)
+nullable_char_last false rest (closing later) = ap (λ (xs : List Symbol). Closing ∷ Word NullWord ∷ Closing ∷ xs) (kinds_anywhere 0 7 1 later)
+
+nullable_last : (hidden : Bool) (rest : List ℕ) → AfterColumn rest
+    → symbols (codes " INTEGER NULL" ++ (hidden_text hidden ++ rest)) ≡ Word IntegerWord ∷ Word NullWord ∷ (spell_if hidden (Word HiddenWord ∷ []) ++ symbols rest)
+unfolding tokens_from
+nullable_last true rest (comma later) = ap (λ (xs : List Symbol). Word IntegerWord ∷ Word NullWord ∷ Word HiddenWord ∷ Comma ∷ xs) (kinds_anywhere 0 21 1 later)
+nullable_last true rest (closing later) = ap (λ (xs : List Symbol). Word IntegerWord ∷ Word NullWord ∷ Word HiddenWord ∷ Closing ∷ xs) (kinds_anywhere 0 21 1 later)
+nullable_last false rest (comma later) = ap (λ (xs : List Symbol). Word IntegerWord ∷ Word NullWord ∷ Comma ∷ xs) (kinds_anywhere 0 14 1 later)
+nullable_last false rest (closing later) = ap (λ (xs : List Symbol). Word IntegerWord ∷ Word NullWord ∷ Closing ∷ xs) (kinds_anywhere 0 14 1 later)
+
 reference_first : (rest : List ℕ) → symbols (codes " INTEGER REFERENCES " ++ rest) ≡ Word IntegerWord ∷ Word ReferencesWord ∷ symbols rest
 unfolding tokens_from
 reference_first rest = ap (λ (xs : List Symbol). Word IntegerWord ∷ Word ReferencesWord ∷ xs) (kinds_anywhere 0 20 0 rest)
@@ -160,9 +176,10 @@ reference_last rest (closing later) = ap (λ (xs : List Symbol). Open ∷ Name (
 -- the tree with each part written out
 
 abbrev canonical_column : ColumnDeclaration → ColumnDeclaration
-canonical_column (CharColumn name digits hidden) = CharColumn name (decimal (number_of digits)) hidden
+canonical_column (CharColumn name digits nullable hidden) = CharColumn name (decimal (number_of digits)) nullable hidden
 canonical_column (IntegerColumn name primary None hidden) = IntegerColumn name primary None hidden
 canonical_column (IntegerColumn name primary (Some (To table says_id)) hidden) = IntegerColumn name primary (Some (To table true)) true
+canonical_column (NullableColumn name hidden) = NullableColumn name hidden
 
 abbrev canonical_table : TableText → TableText
 canonical_table table = record { name = table.name; first = canonical_column table.first; others = map canonical_column table.others }
@@ -173,6 +190,16 @@ char_shape : (name number hidden rest : List ℕ)
     → (codes ", " ++ (name ++ (codes " " ++ ((codes "CHAR(" ++ (number ++ codes ")")) ++ ([] ++ hidden))))) ++ rest
     ≡ codes ", " ++ (name ++ (codes " CHAR(" ++ (number ++ 41 ∷ (hidden ++ rest))))
 char_shape name number hidden rest = simp append_assoc
+
+nullable_char_shape : (name number hidden rest : List ℕ)
+    → (codes ", " ++ (name ++ (codes " " ++ ((codes "CHAR(" ++ (number ++ codes ") NULL")) ++ ([] ++ hidden))))) ++ rest
+    ≡ codes ", " ++ (name ++ (codes " CHAR(" ++ (number ++ 41 ∷ (codes " NULL" ++ (hidden ++ rest)))))
+nullable_char_shape name number hidden rest = simp append_assoc
+
+nullable_shape : (name hidden rest : List ℕ)
+    → (codes ", " ++ (name ++ (codes " " ++ (codes "INTEGER NULL" ++ ([] ++ hidden))))) ++ rest
+    ≡ codes ", " ++ (name ++ (codes " INTEGER NULL" ++ (hidden ++ rest)))
+nullable_shape name hidden rest = simp append_assoc
 
 integer_shape : (name hidden rest : List ℕ)
     → (codes ", " ++ (name ++ (codes " " ++ (codes "INTEGER" ++ ([] ++ hidden))))) ++ rest
@@ -196,17 +223,31 @@ the_identifier _ e = absurd (cc)
 module _ (tables : SchemaText) where
   -- what the rules leave of a column that is no identifier
   abbrev IsProper : ColumnDeclaration → Type 0
-  IsProper (CharColumn name digits hidden) = (is_name name ≡ true) × (1 ≤ number_of digits) × (number_of digits ≤ 64)
+  IsProper (CharColumn name digits nullable hidden) = (is_name name ≡ true) × (1 ≤ number_of digits) × (number_of digits ≤ 64)
   IsProper (IntegerColumn name primary None hidden) = (is_name name ≡ true) × (primary ≡ false)
   IsProper (IntegerColumn name primary (Some (To table says_id)) hidden) =
       (is_name name ≡ true) × (primary ≡ false) × (is_name table ≡ true)
       × (reference_text (schema_of tables) (declared_table tables table) ≡ codes " REFERENCES " ++ (table ++ codes "(id)"))
+  IsProper (NullableColumn name hidden) = is_name name ≡ true
 
   -- the text of a column is read as the column, whatever follows it
 
   column_reads : (column : ColumnDeclaration) (rest : List ℕ) → IsProper column → AfterColumn rest
       → symbols (column_text (schema_of tables) (column_of tables column) ++ rest) ≡ Comma ∷ (spell_declaration (canonical_column column) ++ symbols rest)
-  column_reads (CharColumn name digits hidden) rest p after =
+  column_reads (CharColumn name digits true hidden) rest p after =
+      let number = decimal (number_of digits) in
+      let tail = 41 ∷ (codes " NULL" ++ (hidden_text hidden ++ rest)) in
+      let some : 1 ≤ number_of number = subst (λ n. 1 ≤ n) (sym (same_number (number_of digits) p.2)) p.1 in
+      ap symbols (nullable_char_shape name number (hidden_text hidden) rest)
+      ∙ (comma_first (name ++ (codes " CHAR(" ++ (number ++ tail)))
+      ∙ ap (λ (xs : List Symbol). Comma ∷ xs)
+      (first_name name 32 (codes "CHAR(" ++ (number ++ tail)) p.0 refl
+      ∙ ap (λ (xs : List Symbol). Name name ∷ xs)
+      (char_first (number ++ tail)
+      ∙ ap (λ (xs : List Symbol). Word CharWord ∷ Open ∷ xs)
+      (first_digits number 41 (codes " NULL" ++ (hidden_text hidden ++ rest)) (all_digits (number_of digits) p.2) some refl
+      ∙ ap (λ (xs : List Symbol). Digits number ∷ xs) (nullable_char_last hidden rest after)))))
+  column_reads (CharColumn name digits false hidden) rest p after =
       let number = decimal (number_of digits) in
       let tail = 41 ∷ (hidden_text hidden ++ rest) in
       let some : 1 ≤ number_of number = subst (λ n. 1 ≤ n) (sym (same_number (number_of digits) p.2)) p.1 in
@@ -239,6 +280,12 @@ module _ (tables : SchemaText) where
       ∙ ap (λ (xs : List Symbol). Word IntegerWord ∷ Word ReferencesWord ∷ xs)
       (first_name table 40 (codes "id) HIDDEN" ++ rest) p.2 refl
       ∙ ap (λ (xs : List Symbol). Name table ∷ xs) (reference_last rest after))))))
+  column_reads (NullableColumn name hidden) rest p after =
+      ap symbols (nullable_shape name (hidden_text hidden) rest)
+      ∙ (comma_first (name ++ (codes " INTEGER NULL" ++ (hidden_text hidden ++ rest)))
+      ∙ ap (λ (xs : List Symbol). Comma ∷ xs)
+      (first_name name 32 (codes "INTEGER NULL" ++ (hidden_text hidden ++ rest)) p refl
+      ∙ ap (λ (xs : List Symbol). Name name ∷ xs) (nullable_last hidden rest after)))
 
   columns_text : List ColumnDeclaration → List ℕ
   columns_text columns = flat_map (column_text (schema_of tables)) (map (column_of tables) columns)
@@ -339,9 +386,10 @@ places_mapped f at (x ∷ xs) = ap (λ (places : List ℕ). at ∷ places) (plac
 -- what is written out has the names, the places and the tests of what it comes from
 
 same_name : (column : ColumnDeclaration) → declared_name (canonical_column column) ≡ declared_name column
-same_name (CharColumn name digits hidden) = refl
+same_name (CharColumn name digits nullable hidden) = refl
 same_name (IntegerColumn name primary None hidden) = refl
 same_name (IntegerColumn name primary (Some (To table says_id)) hidden) = refl
+same_name (NullableColumn name hidden) = refl
 
 same_names : (columns : List ColumnDeclaration) → map declared_name (map canonical_column columns) ≡ map declared_name columns
 same_names [] = refl
@@ -358,15 +406,17 @@ same_columns None = refl
 same_columns (Some table) = refl
 
 same_identifier : (column : ColumnDeclaration) → is_identifier (canonical_column column) ≡ is_identifier column
-same_identifier (CharColumn name digits hidden) = refl
+same_identifier (CharColumn name digits nullable hidden) = refl
 same_identifier (IntegerColumn name primary None hidden) = refl
 same_identifier (IntegerColumn name true (Some (To table says_id)) hidden) = refl
 same_identifier (IntegerColumn name false (Some (To table says_id)) hidden) = refl
+same_identifier (NullableColumn name hidden) = refl
 
 same_primary : (column : ColumnDeclaration) → is_primary (canonical_column column) ≡ is_primary column
-same_primary (CharColumn name digits hidden) = refl
+same_primary (CharColumn name digits nullable hidden) = refl
 same_primary (IntegerColumn name primary None hidden) = refl
 same_primary (IntegerColumn name primary (Some (To table says_id)) hidden) = refl
+same_primary (NullableColumn name hidden) = refl
 
 any_primary : (columns : List ColumnDeclaration) → list_any is_primary (map canonical_column columns) ≡ list_any is_primary columns
 any_primary [] = refl
@@ -380,9 +430,10 @@ same_lack (Some table) =
     ∙ ap (λ b. not (is_identifier table.first) || b) (any_primary table.others)
 
 column_within : (column : ColumnDeclaration) → is_column_over column ≡ false → is_column_over (canonical_column column) ≡ false
-column_within (CharColumn name digits hidden) e =
-    ap (λ n. is_long name || not (is_between 1 64 n)) (same_number (number_of digits) (length_within name digits hidden e).1) ∙ e
+column_within (CharColumn name digits nullable hidden) e =
+    ap (λ n. is_long name || not (is_between 1 64 n)) (same_number (number_of digits) (length_within name digits nullable hidden e).1) ∙ e
 column_within (IntegerColumn name primary None hidden) e = e
+column_within (NullableColumn name hidden) e = e
 column_within (IntegerColumn name primary (Some (To table says_id)) hidden) e = e
 
 columns_within : (columns : List ColumnDeclaration) → list_any is_column_over columns ≡ false → list_any is_column_over (map canonical_column columns) ≡ false
@@ -427,8 +478,9 @@ module _ (tables : SchemaText) where
   -- the same schema
 
   same_column : (column : ColumnDeclaration) → is_column_over column ≡ false → column_of canonical (canonical_column column) ≡ column_of tables column
-  same_column (CharColumn name digits hidden) e =
-      ap (λ n. record { name = name; kind = Chars n; hidden = hidden; child = None }) (same_number (number_of digits) (length_within name digits hidden e).1)
+  same_column (CharColumn name digits nullable hidden) e =
+      ap (λ n. record { name = name; kind = text_kind nullable n; hidden = hidden; child = None }) (same_number (number_of digits) (length_within name digits nullable hidden e).1)
+  same_column (NullableColumn name hidden) e = refl
   same_column (IntegerColumn name primary None hidden) e = refl
   same_column (IntegerColumn name primary (Some (To table says_id)) hidden) e =
       ap (λ child. record { name = name; kind = schema.Integer; hidden = true; child = child }) (same_place table)
@@ -465,8 +517,9 @@ module _ (tables : SchemaText) where
 
   same_refers : (o : Option ColumnDeclaration) → refers_nowhere canonical (option_map canonical_column o) ≡ refers_nowhere tables o
   same_refers None = refl
-  same_refers (Some (CharColumn name digits hidden)) = refl
+  same_refers (Some (CharColumn name digits nullable hidden)) = refl
   same_refers (Some (IntegerColumn name primary None hidden)) = refl
+  same_refers (Some (NullableColumn name hidden)) = refl
   same_refers (Some (IntegerColumn name primary (Some (To table says_id)) hidden)) = ap is_none (same_place table)
 
   same_unknown : (field : Field) → is_unknown canonical field ≡ is_unknown tables field
@@ -544,9 +597,10 @@ reference_named tables table (Some child) e h =
 
 proper_column : (tables : SchemaText) (column : ColumnDeclaration) → is_column_over column ≡ false → list_all is_spelled (spell_declaration column) ≡ true
     → is_primary column ≡ false → refers_nowhere tables (Some column) ≡ false → IsProper tables column
-proper_column tables (CharColumn name digits hidden) within spelled plain known =
-    let length = length_within name digits hidden within in
-    (column_named (CharColumn name digits hidden) spelled, length.0, length.1)
+proper_column tables (CharColumn name digits nullable hidden) within spelled plain known =
+    let length = length_within name digits nullable hidden within in
+    (column_named (CharColumn name digits nullable hidden) spelled, length.0, length.1)
+proper_column tables (NullableColumn name hidden) within spelled plain known = column_named (NullableColumn name hidden) spelled
 proper_column tables (IntegerColumn name primary None hidden) within spelled plain known =
     (column_named (IntegerColumn name primary None hidden) spelled, plain)
 proper_column tables (IntegerColumn name true (Some (To table says_id)) hidden) within spelled plain known = absurd (cc)

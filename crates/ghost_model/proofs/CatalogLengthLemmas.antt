@@ -127,15 +127,19 @@ few_keys schema (suc place) one =
 
 -- the bytes of a column, of a table and of a text
 
-text_length : (name kind reference hidden : List ℕ) (most : ℕ) → length name ≤ 32 → length kind ≤ 8 → length reference ≤ most → length hidden ≤ 7
-    → length (codes ", " ++ (name ++ (codes " " ++ (kind ++ (reference ++ hidden))))) ≤ 50 + most
-text_length name kind reference hidden most a b c d = simp length-append (omega arith)
+text_length : (name kind reference hidden : List ℕ) (most : ℕ) → length name ≤ 32 → length kind + length reference ≤ 13 + most → length hidden ≤ 7
+    → length (codes ", " ++ (name ++ (codes " " ++ (kind ++ (reference ++ hidden))))) ≤ 55 + most
+text_length name kind reference hidden most a b c = simp length-append (omega arith)
 
-kind_length : (kind : Kind) → is_nullable kind ≡ false → ((most : ℕ) → kind ≡ Chars most → most ≤ 64) → length (kind_text kind) ≤ 8
-kind_length Integer n h = omega arith
-kind_length IntegerOrNull n h = absurd (cc)
-kind_length (CharsOrNull most) n h = absurd (cc)
-kind_length (Chars most) n h =
+kind_length : (kind : Kind) → ((most : ℕ) → kind ≡ Chars most → most ≤ 64) → ((most : ℕ) → kind ≡ CharsOrNull most → most ≤ 64)
+    → length (kind_text kind) ≤ 13
+kind_length Integer h n = omega arith
+kind_length IntegerOrNull h n = omega arith
+kind_length (CharsOrNull most) h n =
+    let few : most ≤ 64 = n most refl in
+    let digits : length (decimal most) ≤ 2 = length-decimal-le 2 most (omega arith) (omega arith) (omega arith) in
+    simp length-append (omega (arith, digits))
+kind_length (Chars most) h n =
     let few : most ≤ 64 = h most refl in
     let digits : length (decimal most) ≤ 2 = length-decimal-le 2 most (omega arith) (omega arith) (omega arith) in
     simp length-append (omega (arith, digits))
@@ -165,18 +169,31 @@ module _ (schema : Schema) (tree : IsTree schema) where
 
   record IsSmall (column : Column) : Type 0 where
     name : length column.name ≤ 32
-    not_null : is_nullable column.kind ≡ false
     kind : (most : ℕ) → column.kind ≡ Chars most → most ≤ 64
+    nullable : (most : ℕ) → column.kind ≡ CharsOrNull most → most ≤ 64
+    key : (table : ℕ) → column.child ≡ Some table → column.kind ≡ Integer
     child : (table : ℕ) → column.child ≡ Some table → table < length schema
 
-  column_length : (column : Column) → IsSmall column → length (column_text schema column) ≤ 50 + 48 * one_if (is_before (length schema) column.child)
+  -- a foreign key, which is never NULL, is named by its kind and its reference; any other column by its kind alone
+  kind_and_reference : (column : Column) → IsSmall column → (child : Option ℕ) → column.child ≡ child
+      → length (kind_text column.kind) + length (reference_text schema child) ≤ 13 + 42 * one_if (is_before (length schema) child)
+  kind_and_reference column small None e =
+      let kind = kind_length column.kind small.kind small.nullable in
+      omega (arith, kind)
+  kind_and_reference column small (Some table) e =
+      let kind : length (kind_text column.kind) ≡ 7 = ap (λ k. length (kind_text k)) (small.key table e) in
+      let one : one_if (is_before (length schema) (Some table)) ≡ 1 = before_is (length schema) table (nat_lt table (length schema)) (Decides-ltb table (length schema)) (small.child table e) in
+      let reference = reference_length (Some table) (λ child f. let same : table ≡ child = cc in subst (λ n. n < length schema) same (small.child table e)) in
+      omega (arith, kind, one, reference)
+
+  column_length : (column : Column) → IsSmall column → length (column_text schema column) ≤ 55 + 42 * one_if (is_before (length schema) column.child)
   column_length column small =
       text_length column.name (kind_text column.kind) (reference_text schema column.child) (hidden_text column.hidden)
-      (48 * one_if (is_before (length schema) column.child)) small.name (kind_length column.kind small.not_null small.kind)
-      (reference_length column.child small.child) (hidden_length column.hidden)
+      (42 * one_if (is_before (length schema) column.child)) small.name (kind_and_reference column small column.child refl)
+      (hidden_length column.hidden)
 
   columns_length : (columns : List Column) → ((j : ℕ) (column : Column) → slice_get columns j ≡ Some column → IsSmall column)
-      → length (flat_map (column_text schema) columns) ≤ 50 * length columns + 48 * keys_before (length schema) columns
+      → length (flat_map (column_text schema) columns) ≤ 55 * length columns + 42 * keys_before (length schema) columns
   unfolding tally
   columns_length [] small = omega arith
   columns_length (column ∷ columns) small =
@@ -187,15 +204,15 @@ module _ (schema : Schema) (tree : IsTree schema) where
       omega (arith, this, rest, both)
 
   later_length : (columns : List Column) → length columns ≤ 24 → ((j : ℕ) (column : Column) → slice_get columns j ≡ Some column → IsSmall column)
-      → length (flat_map (column_text schema) (drop 1 columns)) ≤ 1150 + 48 * keys_before (length schema) columns
+      → length (flat_map (column_text schema) (drop 1 columns)) ≤ 1265 + 42 * keys_before (length schema) columns
   unfolding tally
   later_length [] few small = omega arith
   later_length (column ∷ columns) few small =
       let rest = columns_length columns (λ j other e. small (suc j) other e) in
       omega (arith, rest, few)
 
-  line_length : (name columns : List ℕ) (most : ℕ) → length name ≤ 32 → length columns ≤ 1150 + most
-      → length (codes "CREATE TABLE " ++ (name ++ (codes " (id INTEGER PRIMARY KEY" ++ (columns ++ (codes ");" ++ 10 ∷ []))))) ≤ 1222 + most
+  line_length : (name columns : List ℕ) (most : ℕ) → length name ≤ 32 → length columns ≤ 1265 + most
+      → length (codes "CREATE TABLE " ++ (name ++ (codes " (id INTEGER PRIMARY KEY" ++ (columns ++ (codes ");" ++ 10 ∷ []))))) ≤ 1337 + most
   line_length name columns most a b = simp length-append (omega arith)
 
   record IsSmallTable (table : Table) : Type 0 where
@@ -203,13 +220,13 @@ module _ (schema : Schema) (tree : IsTree schema) where
     few : length table.columns ≤ 24
     small : (j : ℕ) (column : Column) → slice_get table.columns j ≡ Some column → IsSmall column
 
-  table_length : (table : Table) → IsSmallTable table → length (table_text schema table) ≤ 1222 + 48 * keys_before (length schema) table.columns
+  table_length : (table : Table) → IsSmallTable table → length (table_text schema table) ≤ 1337 + 42 * keys_before (length schema) table.columns
   table_length table t =
-      line_length table.name (flat_map (column_text schema) (drop 1 table.columns)) (48 * keys_before (length schema) table.columns) t.name
+      line_length table.name (flat_map (column_text schema) (drop 1 table.columns)) (42 * keys_before (length schema) table.columns) t.name
       (later_length table.columns t.few t.small)
 
   tables_length : (tables : List Table) → ((k : ℕ) (table : Table) → slice_get tables k ≡ Some table → IsSmallTable table)
-      → length (flat_map (table_text schema) tables) ≤ 1222 * length tables + 48 * all_keys_before (length schema) tables
+      → length (flat_map (table_text schema) tables) ≤ 1337 * length tables + 42 * all_keys_before (length schema) tables
   unfolding all_keys_before
   tables_length [] small = omega arith
   tables_length (table ∷ tables) small =
@@ -227,13 +244,14 @@ module _ (schema : Schema) (tree : IsTree schema) where
         let there = ap (λ o. slice_get (columns_or_none o) j) e ∙ h in
         record {
           name = tree.short_names k j column there;
-          not_null = tree.not_null k j column there;
           kind = λ most f. (tree.text_lengths k j most column there f).1;
+          nullable = λ most f. (tree.nullable_text_lengths k j most column there f).1;
+          key = λ child f. tree.references_are_integers k j child column there f;
           child = λ child f. tree.references_name_tables k j child column there f;
         };
   }
 
-  pub canonical_length : length (canonical_text schema) ≤ 15240
+  pub canonical_length : length (canonical_text schema) ≤ 16548
   canonical_length =
       let text = tables_length schema small_table in
       let keys = few_keys schema (length schema) tree.one_parent in
@@ -264,6 +282,6 @@ no_catalog_is_long cat proper =
     let same : length cat.counts ≡ length cat.schema = proper.counted in
     let counted : length (counts_bytes cat.counts) ≡ 4 * length cat.counts = counts_length cat.counts in
     let head : length (catalog_head cat.version cat.generation (length (canonical_text cat.schema))) ≡ 16 = head_length cat.version cat.generation (length (canonical_text cat.schema)) in
-    let all = parts_length (catalog_head cat.version cat.generation (length (canonical_text cat.schema))) (canonical_text cat.schema) (counts_bytes cat.counts) 16 15240 48
+    let all = parts_length (catalog_head cat.version cat.generation (length (canonical_text cat.schema))) (canonical_text cat.schema) (counts_bytes cat.counts) 16 16548 48
     (omega (arith, head)) (canonical_length cat.schema tree) (omega (arith, counted, same, few)) in
     omega (arith, all)

@@ -64,8 +64,8 @@ one_front cat other rest more p q e =
     let text_too = canonical_text other.schema in
     let head = catalog_head cat.version cat.generation (length text) in
     let head_too = catalog_head other.version other.generation (length text_too) in
-    let short : length text ≤ 15240 = canonical_length cat.schema (schemas_are_trees text cat.schema p.meant) in
-    let short_too : length text_too ≤ 15240 = canonical_length other.schema (schemas_are_trees text_too other.schema q.meant) in
+    let short : length text ≤ 16548 = canonical_length cat.schema (schemas_are_trees text cat.schema p.meant) in
+    let short_too : length text_too ≤ 16548 = canonical_length other.schema (schemas_are_trees text_too other.schema q.meant) in
     let heads = same_front head head_too (text ++ (counts_bytes cat.counts ++ rest)) (text_too ++ (counts_bytes other.counts ++ more)) refl
     (sym (regrouped head text (counts_bytes cat.counts) rest) ∙ (e ∙ regrouped head_too text_too (counts_bytes other.counts) more)) in
     let generation : cat.generation ≡ other.generation =

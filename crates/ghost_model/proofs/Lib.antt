@@ -1,6 +1,7 @@
 pub mod TokenLemmas
 pub mod TextLemmas
 pub mod GrammarLemmas
+pub mod GroupLemmas
 pub mod SchemaLemmas
 pub mod RuleLemmas
 pub mod SchemaRuleLemmas

@@ -1,17 +1,21 @@
 -- The grammar of query texts by its places: a step tells what was read (`step_before`), and the places lead along the
--- spelling of each tree to its end (`leads`).
-use Rattle.std.proofs.Common.{◌≡◌, ℕ, true, List, [], ◌∷◌, ◌++◌, map, length, slice_get, Option, Some, None, Result, Ok, Err, option_map, option_and_then, IfSome, flat_map, ◌⊎◌, inl, inr, refl, sym, ap, ap₂, subst, ◌∙◌, append_assoc, append-nil}
+-- spelling of each tree to its end (`leads`). And the conditions that trees mean: each is a comparison alone or a join.
+use Rattle.std.proofs.Common.{◌≡◌, ℕ, Bool, true, false, List, [], ◌∷◌, ◌++◌, map, length, slice_get, Option, Some, None, Result, Ok, Err, option_map, option_and_then, IfSome, flat_map, ◌⊎◌, inl, inr, refl, sym, ap, ap₂, subst, ◌∙◌, append_assoc, append-nil}
 use Rattle.std.proofs.lemmas.List.{map-append}
+use Rattle.std.proofs.lemmas.List.Folds.{list_all-append}
 use Rattle.std.specs.List.{list_all}
+use Rattle.ghost_model.specs.core.Schema.{Schema}
 use Rattle.ghost_model.specs.core.Query as query
-use Rattle.ghost_model.specs.core.Query.{Operator}
-use Rattle.ghost_model.specs.refusals.Tokens.{Token, tokens, symbol_of, symbols, offset_of, Symbol, Word, Name, Digits, Quoted, Comma, Point, Star, PlusSign, MinusSign, EqualSign, UnequalSign, LessSign, AtMostSign, MoreSign, AtLeastSign, EndOfText, SelectWord, FromWord, WhereWord, AndWord, BetweenWord}
+use Rattle.ghost_model.specs.core.Query.{Operator, Condition, OneOf, Join, AtLeast, AtMost, tested, compared}
+use Rattle.ghost_model.specs.refusals.Tokens.{Token, tokens, symbol_of, symbols, offset_of, Symbol, Word, Name, Digits, Quoted, Comma, Point, Star, PlusSign, MinusSign, EqualSign, UnequalSign, LessSign, AtMostSign, MoreSign, AtLeastSign, EndOfText, SelectWord, FromWord, WhereWord, AndWord, BetweenWord, IsWord, NotWord, NullWord}
 use Rattle.ghost_model.specs.refusals.Grammar.{Spells, IsSyntaxFault, separated}
 use Rattle.ghost_model.specs.readings.Begun.{begun}
 use Rattle.ghost_model.specs.laws.Spelled.{is_spelled, is_name}
-use Rattle.ghost_model.specs.refusals.QueryGrammar.{ColumnText, Bare, Qualified, Sign, Positive, Negative, LiteralText, Unsigned, Signed, Written, ConditionText, Compares, LiesBetween, Joins, Selection, All, Columns, QueryText, spell_column, spell_sign, spell_operator, spell_literal, spell_condition, spell_table, spell_selection, spell_where, spelling}
-use Rattle.ghost_model.specs.readings.QueryPlaces.{ColumnPart, WantsColumn, HasTablePoint, HasColumn, ConditionPart, WantsLeft, HasLeftPoint, HasLeft, HasOperator, HasSign, HasRightPoint, WantsLow, HasLowSign, HasLow, WantsHigh, HasHighSign, HasCondition, QueryPlace, Start, HasStar, InSelect, WantsTable, HasTable, InWhere, Whole, first_item, other_items, selection_of, query_text, in_column, in_condition, before, step_in_column, step_in_condition, step_in_select, step_in_where, step, whole_text, read_from, syntax_of}
-use Rattle.ghost_model.specs.laws.QueryLaws.{IsStuck}
+use Rattle.ghost_model.specs.refusals.QueryGrammar.{ColumnText, Bare, Qualified, Sign, Positive, Negative, LiteralText, Unsigned, Signed, Written, ConditionText, Compares, TestsNull, LiesBetween, Joins, Selection, All, Columns, QueryText, spell_column, spell_sign, spell_operator, spell_literal, spell_not, spell_condition, spell_table, spell_selection, spell_where, spelling}
+use Rattle.ghost_model.specs.readings.QueryPlaces.{ColumnPart, WantsColumn, HasTablePoint, HasColumn, ConditionPart, WantsLeft, HasLeftPoint, HasLeft, HasOperator, HasSign, HasRightPoint, HasIs, WantsLow, HasLowSign, HasLow, WantsHigh, HasHighSign, HasCondition, QueryPlace, Start, HasStar, InSelect, WantsTable, HasTable, InWhere, Whole, first_item, other_items, selection_of, query_text, in_column, in_condition, before, step_in_column, step_in_condition, step_in_select, step_in_where, step, whole_text, read_from, syntax_of}
+use Rattle.ghost_model.specs.refusals.QueryMeaning.{value_of_literal, null_test, meanings, conditions_of, from_tables, resolved}
+use Rattle.ghost_model.specs.laws.QueryLaws.{IsStuck, is_lone, AcceptedQueriesAreLone}
+use Rattle.ghost_model.proofs.ChannelLemmas.Tests.{hold_both}
 use Rattle.ghost_model.proofs.TokenLemmas.{before_end}
 use Rattle.ghost_model.proofs.GrammarLemmas.{front, final, front_final, begun_before, more_begun, separated_made, spelled_parts, no_end_inside, spelled_front, viable_front, run, run-append, dead_after, fault_after, no_fault, one_fault}
 
@@ -35,6 +39,9 @@ condition_step AtMostSign (HasLeft column) = refl
 condition_step MoreSign (HasLeft column) = refl
 condition_step AtLeastSign (HasLeft column) = refl
 condition_step (Word BetweenWord) (HasLeft column) = refl
+condition_step (Word IsWord) (HasLeft column) = refl
+condition_step (Word NotWord) (HasIs column false) = sym (append_assoc (spell_column column) _ _)
+condition_step (Word NullWord) (HasIs column negated) = sym (append_assoc (spell_column column) _ _)
 condition_step PlusSign (HasOperator column operator) = sym (append_assoc (spell_column column) _ _)
 condition_step MinusSign (HasOperator column operator) = sym (append_assoc (spell_column column) _ _)
 condition_step (Digits digits) (HasOperator column operator) = sym (append_assoc (spell_column column) _ _)
@@ -252,6 +259,12 @@ module _ (selection : Selection) (table : List ℕ) (more : List (List ℕ)) whe
   right_run done left (Bare name) rest = refl
   right_run done left (Qualified from name) rest = refl
 
+  null_run : (done : List ConditionText) (column : ColumnText) (negated : Bool) (rest : List Symbol)
+      → run step (InWhere selection table more done (HasIs column false)) (spell_not negated ++ (Word NullWord ∷ rest))
+      ≡ run step (InWhere selection table more done (HasCondition (TestsNull column negated))) rest
+  null_run done column false rest = refl
+  null_run done column true rest = refl
+
   condition_run : (done : List ConditionText) (condition : ConditionText) (rest : List Symbol)
       → run step (InWhere selection table more done WantsLeft) (spell_condition condition ++ rest)
       ≡ run step (InWhere selection table more done (HasCondition condition)) rest
@@ -260,6 +273,11 @@ module _ (selection : Selection) (table : List ℕ) (more : List (List ℕ)) whe
       ∙ left_run done column _
       ∙ operator_run done column operator _
       ∙ literal_run done column operator literal rest
+  condition_run done (TestsNull column negated) rest =
+      ap (run step (InWhere selection table more done WantsLeft)) (append_assoc (spell_column column) _ rest)
+      ∙ left_run done column _
+      ∙ ap (run step (InWhere selection table more done (HasIs column false))) (append_assoc (spell_not negated) _ rest)
+      ∙ null_run done column negated rest
   condition_run done (LiesBetween column low high) rest =
       ap (run step (InWhere selection table more done WantsLeft)) (append_assoc (spell_column column) _ rest)
       ∙ left_run done column _
@@ -343,6 +361,12 @@ sign_run : (selection : Selection) (table : List ℕ) (more : List (List ℕ)) (
 sign_run selection table more done column operator Positive = refl
 sign_run selection table more done column operator Negative = refl
 
+not_run : (selection : Selection) (table : List ℕ) (more : List (List ℕ)) (done : List ConditionText) (column : ColumnText) (negated : Bool)
+    → run step (InWhere selection table more done (HasIs column false)) (spell_not negated)
+    ≡ Some (InWhere selection table more done (HasIs column negated))
+not_run selection table more done column false = refl
+not_run selection table more done column true = refl
+
 low_sign_run : (selection : Selection) (table : List ℕ) (more : List (List ℕ)) (done : List ConditionText) (column : ColumnText) (sign : Sign)
     → run step (InWhere selection table more done (WantsLow column)) (spell_sign sign ∷ [])
     ≡ Some (InWhere selection table more done (HasLowSign column sign))
@@ -369,6 +393,8 @@ condition_reached selection table more done (HasSign column operator sign) =
     left_run selection table more done column _ ∙ operator_run selection table more done column operator (spell_sign sign ∷ [])
     ∙ sign_run selection table more done column operator sign
 condition_reached selection table more done (HasRightPoint column from) = left_run selection table more done column _
+condition_reached selection table more done (HasIs column negated) =
+    left_run selection table more done column _ ∙ not_run selection table more done column negated
 condition_reached selection table more done (WantsLow column) = left_run selection table more done column _
 condition_reached selection table more done (HasLowSign column sign) =
     left_run selection table more done column _ ∙ low_sign_run selection table more done column sign
@@ -425,6 +451,7 @@ ending (HasLeft column) = EqualSign ∷ Name a ∷ []
 ending (HasOperator column operator) = Digits nought ∷ []
 ending (HasSign column operator sign) = Digits nought ∷ []
 ending (HasRightPoint left table) = Name a ∷ []
+ending (HasIs column negated) = Word NullWord ∷ []
 ending (WantsLow column) = Digits nought ∷ Word AndWord ∷ Digits nought ∷ []
 ending (HasLowSign column sign) = Digits nought ∷ Word AndWord ∷ Digits nought ∷ []
 ending (HasLow column low) = Word AndWord ∷ Digits nought ∷ []
@@ -439,6 +466,7 @@ ended (HasLeft column) = Joins column (Bare a)
 ended (HasOperator column operator) = Compares column operator (Unsigned nought)
 ended (HasSign column operator sign) = Compares column operator (Signed sign nought)
 ended (HasRightPoint left table) = Joins left (Qualified table a)
+ended (HasIs column negated) = TestsNull column negated
 ended (WantsLow column) = LiesBetween column (Unsigned nought) (Unsigned nought)
 ended (HasLowSign column sign) = LiesBetween column (Signed sign nought) (Unsigned nought)
 ended (HasLow column low) = LiesBetween column low (Unsigned nought)
@@ -454,6 +482,7 @@ ending_spelled (HasLeft column) = refl
 ending_spelled (HasOperator column operator) = refl
 ending_spelled (HasSign column operator sign) = refl
 ending_spelled (HasRightPoint left table) = refl
+ending_spelled (HasIs column negated) = refl
 ending_spelled (WantsLow column) = refl
 ending_spelled (HasLowSign column sign) = refl
 ending_spelled (HasLow column low) = refl
@@ -471,6 +500,7 @@ ending_run selection table more earlier (HasLeft column) = refl
 ending_run selection table more earlier (HasOperator column operator) = refl
 ending_run selection table more earlier (HasSign column operator sign) = refl
 ending_run selection table more earlier (HasRightPoint left from) = refl
+ending_run selection table more earlier (HasIs column negated) = refl
 ending_run selection table more earlier (WantsLow column) = refl
 ending_run selection table more earlier (HasLowSign column sign) = refl
 ending_run selection table more earlier (HasLow column low) = refl
@@ -709,3 +739,33 @@ fault_stuck text at fault = elim (read_stop Start (tokens text) at (fault_stop t
   }
   | inr out ↦ absurd (never_runs_out text at out)
 ]
+
+-- the conditions that a tree means
+lone_mapped : {X : Type 0} (f : X → Condition) (xs : List X) → ((x : X) → is_lone (f x) ≡ true) → list_all is_lone (map f xs) ≡ true
+lone_mapped f [] h = refl
+lone_mapped f (x ∷ xs) h = hold_both (is_lone (f x)) (list_all is_lone (map f xs)) (h x) (lone_mapped f xs h)
+
+lone_flat : {X : Type 0} (f : X → List Condition) (xs : List X) → ((x : X) → list_all is_lone (f x) ≡ true) → list_all is_lone (flat_map f xs) ≡ true
+lone_flat f [] h = refl
+lone_flat f (x ∷ xs) h =
+    list_all-append is_lone (f x) (flat_map f xs)
+    ∙ hold_both (list_all is_lone (f x)) (list_all is_lone (flat_map f xs)) (h x) (lone_flat f xs h)
+
+lone_conditions : (schema : Schema) (from : List ℕ) (condition : ConditionText) → list_all is_lone (conditions_of schema from condition) ≡ true
+lone_conditions schema from (Compares column operator literal) =
+    lone_mapped (λ meant. compared meant operator (value_of_literal literal)) (meanings schema from column) (λ meant. refl)
+lone_conditions schema from (TestsNull column negated) =
+    lone_mapped (λ meant. OneOf (tested meant (null_test negated)) []) (meanings schema from column) (λ meant. refl)
+lone_conditions schema from (LiesBetween column low high) =
+    lone_flat (λ meant. compared meant AtLeast (value_of_literal low) ∷ compared meant AtMost (value_of_literal high) ∷ [])
+    (meanings schema from column) (λ meant. refl)
+lone_conditions schema from (Joins left right) =
+    lone_flat (λ meant. map (Join meant) (meanings schema from right)) (meanings schema from left)
+    (λ meant. lone_mapped (Join meant) (meanings schema from right) (λ other. refl))
+
+pub tree_is_lone : (schema : Schema) (tree : QueryText) → list_all is_lone (resolved schema tree).conditions ≡ true
+tree_is_lone schema tree = lone_flat (conditions_of schema (from_tables schema tree)) tree.conditions (lone_conditions schema (from_tables schema tree))
+
+pub accepted_are_lone : AcceptedQueriesAreLone
+accepted_are_lone schema text asked means =
+    ap (λ (q : query.Query). list_all is_lone q.conditions) means.means ∙ tree_is_lone schema means.tree

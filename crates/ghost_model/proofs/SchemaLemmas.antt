@@ -9,10 +9,10 @@ use Rattle.std.proofs.lemmas.Bool.{and_from}
 use Rattle.ghost_model.proofs.TokenLemmas.{before_end}
 use Rattle.ghost_model.proofs.GrammarLemmas.{more_begun, spelled_both, spelled_front, no_end_inside, viable_of, run, run-append, dead_after, fault_after, no_fault, one_fault}
 use Rattle.ghost_model.specs.laws.Spelled.{is_spelled, is_name}
-use Rattle.ghost_model.specs.refusals.Tokens.{symbol_of, symbols, tokens, offset_of, Symbol, Token, Word, Name, Digits, Open, Closing, Comma, Semicolon, EndOfText, CharWord, CreateWord, HiddenWord, IntegerWord, PrimaryKeyWord, PrimaryWord, ReferencesWord, TableWord}
+use Rattle.ghost_model.specs.refusals.Tokens.{symbol_of, symbols, tokens, offset_of, Symbol, Token, Word, Name, Digits, Open, Closing, Comma, Semicolon, EndOfText, CharWord, CreateWord, HiddenWord, IntegerWord, NullWord, PrimaryKeyWord, PrimaryWord, ReferencesWord, TableWord}
 use Rattle.ghost_model.specs.refusals.Grammar.{Spells, IsViable, IsSyntaxFault, separated}
 use Rattle.ghost_model.specs.readings.Begun.{begun}
-use Rattle.ghost_model.specs.refusals.SchemaGrammar.{Reference, To, ColumnDeclaration, CharColumn, IntegerColumn, TableText, SchemaText, spell_declaration, spell_heading, spell_declared_table, schema_spelling}
+use Rattle.ghost_model.specs.refusals.SchemaGrammar.{Reference, To, ColumnDeclaration, CharColumn, IntegerColumn, NullableColumn, TableText, SchemaText, spell_declaration, spell_heading, spell_declared_table, schema_spelling}
 use Rattle.ghost_model.specs.readings.SchemaPlaces.{InColumn, Named, AfterChar, AfterOpen, AfterLength, AfterPrimary, AfterReferences, OpensId, AfterId, WholeColumn, SchemaPlace, Between, AfterCreate, AfterTable, AfterName, WantsDeclaration, Within, AfterColumns, Ended, before_in, schema_before, table_from, after_integer, after_column, after_parenthesis, step_in, step_within, schema_step, tree_at, syntax_from, schema_syntax_of}
 use Rattle.ghost_model.specs.laws.SchemaLaws.{SchemaPlacesAreExact}
 
@@ -32,17 +32,25 @@ integer_read name false (Some (To table false)) (Word HiddenWord) q e = ap befor
 integer_read name true None (Word ReferencesWord) q e = ap before_in (unSome (sym e))
 integer_read name false None (Word ReferencesWord) q e = ap before_in (unSome (sym e))
 integer_read name false None (Word PrimaryWord) q e = ap before_in (unSome (sym e))
+integer_read name false None (Word NullWord) q e = ap before_in (unSome (sym e))
 integer_read name true (Some (To table false)) Open q e = ap before_in (unSome (sym e))
 integer_read name false (Some (To table false)) Open q e = ap before_in (unSome (sym e))
 integer_read _ _ _ _ q e = absurd (cc)
 
 column_read : (column : ColumnDeclaration) (s : Symbol) (q : InColumn)
     → after_column column s ≡ Some q → before_in q ≡ spell_declaration column ++ s ∷ []
-column_read (CharColumn name digits false) (Word HiddenWord) q e = ap before_in (unSome (sym e))
+column_read (CharColumn name digits false false) (Word HiddenWord) q e = ap before_in (unSome (sym e))
+column_read (CharColumn name digits true false) (Word HiddenWord) q e = ap before_in (unSome (sym e))
+column_read (CharColumn name digits false false) (Word NullWord) q e = ap before_in (unSome (sym e))
+column_read (NullableColumn name false) (Word HiddenWord) q e = ap before_in (unSome (sym e))
 column_read (IntegerColumn name primary reference false) s q e = integer_read name primary reference s q e
 column_read (IntegerColumn name primary reference true) s q e = absurd (cc)
-column_read (CharColumn name digits true) s q e = absurd (cc)
-column_read (CharColumn name digits false) _ q e = absurd (cc)
+column_read (CharColumn name digits true true) s q e = absurd (cc)
+column_read (CharColumn name digits false true) s q e = absurd (cc)
+column_read (CharColumn name digits true false) _ q e = absurd (cc)
+column_read (CharColumn name digits false false) _ q e = absurd (cc)
+column_read (NullableColumn name true) s q e = absurd (cc)
+column_read (NullableColumn name false) _ q e = absurd (cc)
 
 same_bytes : (a b : List ℕ) → bytes_eq a b ≡ true → a ≡ b
 same_bytes a b e = (bytes_eq-Decides a b).0 e
@@ -159,8 +167,12 @@ step_read _ _ q e = absurd (cc)
 column_leads : (tables : SchemaText) (name : List ℕ) (columns : List ColumnDeclaration) (column : ColumnDeclaration) (xs : List Symbol)
     → run schema_step (WantsDeclaration tables name columns) (spell_declaration column ++ xs)
     ≡ run schema_step (Within tables name columns (WholeColumn column)) xs
-column_leads tables name columns (CharColumn n digits true) xs = refl
-column_leads tables name columns (CharColumn n digits false) xs = refl
+column_leads tables name columns (CharColumn n digits true true) xs = refl
+column_leads tables name columns (CharColumn n digits true false) xs = refl
+column_leads tables name columns (CharColumn n digits false true) xs = refl
+column_leads tables name columns (CharColumn n digits false false) xs = refl
+column_leads tables name columns (NullableColumn n true) xs = refl
+column_leads tables name columns (NullableColumn n false) xs = refl
 column_leads tables name columns (IntegerColumn n true None true) xs = refl
 column_leads tables name columns (IntegerColumn n true None false) xs = refl
 column_leads tables name columns (IntegerColumn n false None true) xs = refl
@@ -264,7 +276,7 @@ module _ (tables : SchemaText) (name : List ℕ) (columns : List ColumnDeclarati
 
   from_length : (column digits : List ℕ) → Completes (Within tables name columns (AfterLength column digits))
   from_length column digits =
-      on_within (AfterLength column digits) Closing (WholeColumn (CharColumn column digits false)) refl refl (from_whole (CharColumn column digits false))
+      on_within (AfterLength column digits) Closing (WholeColumn (CharColumn column digits false false)) refl refl (from_whole (CharColumn column digits false false))
 
   from_open : (column : List ℕ) → Completes (Within tables name columns (AfterOpen column))
   from_open column = on_within (AfterOpen column) (Digits (49 ∷ [])) (AfterLength column (49 ∷ [])) refl refl (from_length column (49 ∷ []))
@@ -394,8 +406,12 @@ fault_read (Some p) now (token ∷ later) at e =
 
 end_ends : (p q : SchemaPlace) → schema_step p EndOfText ≡ Some q → (tables : SchemaText) × (q ≡ Ended tables)
 end_ends (Between tables) q e = (tables, unSome (sym e))
-end_ends (Within tables name columns (WholeColumn (CharColumn _ _ true))) q e = absurd (cc)
-end_ends (Within tables name columns (WholeColumn (CharColumn _ _ false))) q e = absurd (cc)
+end_ends (Within tables name columns (WholeColumn (CharColumn _ _ true true))) q e = absurd (cc)
+end_ends (Within tables name columns (WholeColumn (CharColumn _ _ true false))) q e = absurd (cc)
+end_ends (Within tables name columns (WholeColumn (CharColumn _ _ false true))) q e = absurd (cc)
+end_ends (Within tables name columns (WholeColumn (CharColumn _ _ false false))) q e = absurd (cc)
+end_ends (Within tables name columns (WholeColumn (NullableColumn _ true))) q e = absurd (cc)
+end_ends (Within tables name columns (WholeColumn (NullableColumn _ false))) q e = absurd (cc)
 end_ends (Within tables name columns (WholeColumn (IntegerColumn _ _ _ true))) q e = absurd (cc)
 end_ends (Within tables name columns (WholeColumn (IntegerColumn _ true None false))) q e = absurd (cc)
 end_ends (Within tables name columns (WholeColumn (IntegerColumn _ false None false))) q e = absurd (cc)

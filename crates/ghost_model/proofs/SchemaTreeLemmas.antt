@@ -5,12 +5,12 @@ use Rattle.std.proofs.lemmas.Bool.{ltb-true, ltb-false, leb-true, and_parts, or_
 use Rattle.std.proofs.lemmas.List.{length-map}
 use Rattle.std.proofs.lemmas.Option.{slice_get-map}
 use Rattle.std.proofs.lemmas.Slice.Eq.{bytes_eq-Decides}
-use Rattle.ghost_model.specs.core.Schema.{Integer, Chars, is_nullable, Column, Table, Schema, columns_or_none, columns_of, column_at, places_of, parent, ancestor}
+use Rattle.ghost_model.specs.core.Schema.{Integer, Chars, CharsOrNull, Column, Table, Schema, columns_or_none, columns_of, column_at, places_of, parent, ancestor}
 use Rattle.ghost_model.specs.core.Query.{Field}
 use Rattle.ghost_model.specs.refusals.Tokens.{Symbol, Comma, Closing, Semicolon, EndOfText, number_of, is_between}
 use Rattle.ghost_model.specs.refusals.Grammar.{separated}
 use Rattle.ghost_model.specs.laws.Spelled.{is_spelled, is_name}
-use Rattle.ghost_model.specs.refusals.SchemaGrammar.{To, ColumnDeclaration, CharColumn, IntegerColumn, TableText, SchemaText, spell_declaration, spell_declared_table}
+use Rattle.ghost_model.specs.refusals.SchemaGrammar.{To, ColumnDeclaration, CharColumn, IntegerColumn, NullableColumn, TableText, SchemaText, spell_declaration, spell_declared_table}
 use Rattle.ghost_model.specs.refusals.SchemaMeaning.{columns_written, column_of, table_of, schema_of}
 use Rattle.ghost_model.specs.refusals.SchemaFaults as faults
 use Rattle.ghost_model.specs.refusals.SchemaFaults.{is_over, is_table_over, is_column_over, declared_name, columns_at, repeats, is_duplicate, fields_from, fields, is_identifier, table_lacks_id, is_primary, refers_nowhere, returns, rules_of_schemas, MeansSchema}
@@ -75,8 +75,9 @@ key_of : (tables : SchemaText) (column : ColumnDeclaration) (child : ℕ) → (c
     → ((column_of tables column).hidden ≡ true) × (child < length tables)
 key_of tables (IntegerColumn name primary (Some (To table says_id)) hidden) child e =
     (refl, position_within (λ (other : TableText). bytes_eq table other.name) tables child e)
-key_of tables (CharColumn name digits hidden) child e = absurd (cc)
+key_of tables (CharColumn name digits nullable hidden) child e = absurd (cc)
 key_of tables (IntegerColumn name primary None hidden) child e = absurd (cc)
+key_of tables (NullableColumn name hidden) child e = absurd (cc)
 
 pub mapped : {X Y : Type 0} (f : X → Y) (o : Option X) (y : Y) → option_map f o ≡ Some y → (x : X) × (o ≡ Some x) × (f x ≡ y)
 mapped f None y e = absurd (cc)
@@ -200,44 +201,55 @@ column_spelled table zero column e h =
 column_spelled table (suc j) column e h = each_spelled (λ other. Comma ∷ spell_declaration other) table.others j column (inside_table table e).2 h
 
 pub column_named : (column : ColumnDeclaration) → list_all is_spelled (spell_declaration column) ≡ true → is_name (declared_name column) ≡ true
-column_named (CharColumn name digits hidden) e = (and_parts (is_name name) _ e).0
+column_named (CharColumn name digits nullable hidden) e = (and_parts (is_name name) _ e).0
 column_named (IntegerColumn name primary reference hidden) e = (and_parts (is_name name) _ e).0
+column_named (NullableColumn name hidden) e = (and_parts (is_name name) _ e).0
 
 -- a column's name and kind in the schema
 
 name_kept : (tables : SchemaText) (column : ColumnDeclaration) → (column_of tables column).name ≡ declared_name column
-name_kept tables (CharColumn name digits hidden) = refl
+name_kept tables (CharColumn name digits nullable hidden) = refl
 name_kept tables (IntegerColumn name primary None hidden) = refl
 name_kept tables (IntegerColumn name primary (Some (To table says_id)) hidden) = refl
+name_kept tables (NullableColumn name hidden) = refl
 
 short_column : (column : ColumnDeclaration) → is_column_over column ≡ false → length (declared_name column) ≤ 32
-short_column (CharColumn name digits hidden) e = ltb-false 32 (length name) (neither _ _ e).0
+short_column (CharColumn name digits nullable hidden) e = ltb-false 32 (length name) (neither _ _ e).0
 short_column (IntegerColumn name primary None hidden) e = ltb-false 32 (length name) e
 short_column (IntegerColumn name primary (Some (To table says_id)) hidden) e = ltb-false 32 (length name) (neither _ _ e).0
+short_column (NullableColumn name hidden) e = ltb-false 32 (length name) e
 
-pub length_within : (name digits : List ℕ) (hidden : Bool) → is_column_over (CharColumn name digits hidden) ≡ false → (1 ≤ number_of digits) × (number_of digits ≤ 64)
-length_within name digits hidden e =
+pub length_within : (name digits : List ℕ) (nullable hidden : Bool) → is_column_over (CharColumn name digits nullable hidden) ≡ false → (1 ≤ number_of digits) × (number_of digits ≤ 64)
+length_within name digits nullable hidden e =
     let between = and_parts _ _ (not_false (is_between 1 64 (number_of digits)) (neither _ _ e).1) in
     (leb-true 1 (number_of digits) between.0, leb-true (number_of digits) 64 between.1)
 
 lengths_kept : (tables : SchemaText) (column : ColumnDeclaration) (most : ℕ) → is_column_over column ≡ false → (column_of tables column).kind ≡ Chars most
     → (1 ≤ most) × (most ≤ 64)
-lengths_kept tables (CharColumn name digits hidden) most e k =
+lengths_kept tables (CharColumn name digits false hidden) most e k =
     let same : number_of digits ≡ most = cc in
-    subst (λ n. (1 ≤ n) × (n ≤ 64)) same (length_within name digits hidden e)
+    subst (λ n. (1 ≤ n) × (n ≤ 64)) same (length_within name digits false hidden e)
+lengths_kept tables (CharColumn name digits true hidden) most e k = absurd (cc)
 lengths_kept tables (IntegerColumn name primary None hidden) most e k = absurd (cc)
 lengths_kept tables (IntegerColumn name primary (Some (To table says_id)) hidden) most e k = absurd (cc)
+lengths_kept tables (NullableColumn name hidden) most e k = absurd (cc)
 
-never_null : (tables : SchemaText) (column : ColumnDeclaration) → is_nullable (column_of tables column).kind ≡ false
-never_null tables (CharColumn name digits hidden) = refl
-never_null tables (IntegerColumn name primary None hidden) = refl
-never_null tables (IntegerColumn name primary (Some (To table says_id)) hidden) = refl
+nullable_lengths_kept : (tables : SchemaText) (column : ColumnDeclaration) (most : ℕ) → is_column_over column ≡ false
+    → (column_of tables column).kind ≡ CharsOrNull most → (1 ≤ most) × (most ≤ 64)
+nullable_lengths_kept tables (CharColumn name digits true hidden) most e k =
+    let same : number_of digits ≡ most = cc in
+    subst (λ n. (1 ≤ n) × (n ≤ 64)) same (length_within name digits true hidden e)
+nullable_lengths_kept tables (CharColumn name digits false hidden) most e k = absurd (cc)
+nullable_lengths_kept tables (IntegerColumn name primary None hidden) most e k = absurd (cc)
+nullable_lengths_kept tables (IntegerColumn name primary (Some (To table says_id)) hidden) most e k = absurd (cc)
+nullable_lengths_kept tables (NullableColumn name hidden) most e k = absurd (cc)
 
 key_is_integer : (tables : SchemaText) (column : ColumnDeclaration) (child : ℕ) → (column_of tables column).child ≡ Some child
     → (column_of tables column).kind ≡ Integer
-key_is_integer tables (CharColumn name digits hidden) child e = absurd (cc)
+key_is_integer tables (CharColumn name digits nullable hidden) child e = absurd (cc)
 key_is_integer tables (IntegerColumn name primary None hidden) child e = absurd (cc)
 key_is_integer tables (IntegerColumn name primary (Some (To table says_id)) hidden) child e = refl
+key_is_integer tables (NullableColumn name hidden) child e = absurd (cc)
 
 module _ (tables : SchemaText) (obeys : MeetsAll (rules_of_schemas tables)) (spelled : list_all is_spelled (flat_map spell_declared_table tables) ≡ true) where
   kept : KeptRules tables
@@ -389,11 +401,7 @@ module _ (tables : SchemaText) (obeys : MeetsAll (rules_of_schemas tables)) (spe
         lengths_kept tables w.text most (column_kept table column w.holder w.text w.in_tables w.in_columns) (ap (λ (c : Column). c.kind) w.means ∙ k);
     nullable_text_lengths = λ table column most held e k.
         let w = written table column held e in
-        let clash : false ≡ true = sym (never_null tables w.text) ∙ ap is_nullable (ap (λ (c : Column). c.kind) w.means ∙ k) in
-        absurd (cc);
-    not_null = λ table column held e.
-        let w = written table column held e in
-        ap (λ (c : Column). is_nullable c.kind) (sym w.means) ∙ never_null tables w.text;
+        nullable_lengths_kept tables w.text most (column_kept table column w.holder w.text w.in_tables w.in_columns) (ap (λ (c : Column). c.kind) w.means ∙ k);
     references_are_integers = λ table column child held e h.
         let w = written table column held e in
         ap (λ (c : Column). c.kind) (sym w.means) ∙ key_is_integer tables w.text child (ap (λ (c : Column). c.child) w.means ∙ h);

@@ -8,6 +8,7 @@ pub mod ThisHost
 pub mod Values
 pub mod Whole
 pub mod Accepted
+pub mod Members
 pub mod Combined
 pub mod Front
 pub mod Replied

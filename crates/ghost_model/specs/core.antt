@@ -1,6 +1,7 @@
 pub mod Causes
 pub mod Values
 pub mod Schema
+pub mod Groups
 pub mod Query
 pub mod Channel
 pub mod Database

@@ -15,4 +15,5 @@ pub mod Flash
 pub mod Slots
 pub mod QueryWork
 pub mod Generated
+pub mod Groups
 pub mod NonMembers

@@ -1,5 +1,6 @@
 pub mod TextReading
 pub mod CellReading
+pub mod GroupReading
 pub mod AskReading
 pub mod SchemaPlaces
 pub mod SchemaReading

@@ -10,6 +10,7 @@ pub mod channel;
 pub mod flash;
 pub mod gaps;
 pub mod generated;
+pub mod groups;
 pub mod layout;
 pub mod meaning;
 pub mod non_members;

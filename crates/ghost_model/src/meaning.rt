@@ -2,12 +2,17 @@
 
 ghost use Rattle.ghost_model.specs.laws.MeaningLaws.{RowsLeadToRows, FilesSpellADatabase, FilesKeepTheRowLimit, LongFilesAreToldFirst, SplitIsRejoined, PublicPartsGoWithCatalogs, ImagesAreAsLong, OneRowEach};
 ghost use Rattle.ghost_model.specs.laws.SplitByFlags.{PartsByFlags};
-ghost use Rattle.ghost_model.specs.examples.Databases.{ClinicIsSpelled, IntegersOfFields, ValuesOfFields, ComparisonsWithNull, RecordsOfFiles, HeadersOfFiles, OneRuleBroken, TwoRulesBroken, PartsOfRows, NoShorterImage};
+ghost use Rattle.ghost_model.specs.examples.Databases.{ClinicIsSpelled, NullIsSpelled, IntegersOfFields, ValuesOfFields, ComparisonsWithNull, RecordsOfFiles, HeadersOfFiles, OneRuleBroken, TwoRulesBroken, PartsOfRows, NoShorterImage};
 ghost use Rattle.ghost_model.specs.examples.Meaning.{PartsOfTheClinic, AnswersOfTheClinic, RefusedTexts, LinesOfRows};
 
 /// The clinic's files spell its database.
 pub fn clinic_is_spelled()
     ensures { ClinicIsSpelled }
+{}
+
+/// Files of notes with empty fields spell NULL.
+pub fn null_is_spelled()
+    ensures { NullIsSpelled }
 {}
 
 /// The integers that fields spell.

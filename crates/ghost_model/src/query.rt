@@ -1,7 +1,7 @@
 //! Laws and examples of query texts.
 
-ghost use Rattle.ghost_model.specs.laws.QueryLaws.{QueryPlacesAreExact, OneReading};
-ghost use Rattle.ghost_model.specs.examples.Queries.{ClinicQueries, LimitsOfQueries, OneRefusalEach, QueryRulesInOrder, QuerySpellings, QuerySyntaxFaults, RelationsOfQueries};
+ghost use Rattle.ghost_model.specs.laws.QueryLaws.{QueryPlacesAreExact, OneReading, AcceptedQueriesAreLone};
+ghost use Rattle.ghost_model.specs.examples.Queries.{ClinicQueries, LimitsOfQueries, OneRefusalEach, QueryRulesInOrder, QuerySpellings, QuerySyntaxFaults, RelationsOfQueries, TestsOfNull};
 
 /// Following the places of the grammar tells exactly the trees of texts, and exactly their syntax faults.
 pub fn query_places_are_exact()
@@ -11,6 +11,11 @@ pub fn query_places_are_exact()
 /// Each text has one meaning or one refusal over a schema, and the reading tells which.
 pub fn one_reading()
     ensures { OneReading }
+{}
+
+/// What stands for now: a group of an accepted text has one member.
+pub fn accepted_queries_are_lone()
+    ensures { AcceptedQueriesAreLone }
 {}
 
 /// A script of six texts, one refused by each of six rules.
@@ -31,6 +36,11 @@ pub fn relations_of_queries()
 /// The ways in which one query may be written.
 pub fn query_spellings()
     ensures { QuerySpellings }
+{}
+
+/// What the tests of NULL mean, and where the words may not stand.
+pub fn tests_of_null()
+    ensures { TestsOfNull }
 {}
 
 /// Where the syntax faults of texts stand.

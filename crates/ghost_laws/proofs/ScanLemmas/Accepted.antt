@@ -3,12 +3,13 @@ use Rattle.std.proofs.Common.{◌≡◌, ℕ, ◌⊎◌, inl, inr, Bool, true, f
 use Rattle.std.specs.Prelude.{option_to_list}
 use Rattle.std.specs.List.{list_all, list_any}
 use Rattle.ghost_model.specs.core.Schema.{Schema, is_table}
-use Rattle.ghost_model.specs.core.Query.{Query, Field, Condition, Compare, Join, AtMost, AtLeast, top_of}
-use Rattle.ghost_model.specs.refusals.QueryGrammar.{ColumnText, Bare, Qualified, ConditionText, Compares, LiesBetween, Joins}
-use Rattle.ghost_model.specs.refusals.QueryMeaning.{field, value_of_literal, table_named, fields_named, meanings, conditions_of, resolved, is_reference_to, is_proper, lacks_join, Means}
+use Rattle.ghost_model.specs.core.Query.{Query, Field, Member, Condition, OneOf, Join, compared, AtMost, AtLeast, top_of, tested}
+use Rattle.ghost_model.specs.refusals.QueryGrammar.{ColumnText, Bare, Qualified, ConditionText, Compares, TestsNull, LiesBetween, Joins}
+use Rattle.ghost_model.specs.refusals.QueryMeaning.{field, value_of_literal, table_named, fields_named, meanings, conditions_of, resolved, is_reference_to, is_proper, lacks_join, Means, null_test}
 use Rattle.ghost_model.specs.laws.ShortWords.{column_named}
 use Rattle.ghost_model.proofs.QueryReadingLemmas.{kept_rules}
 use Rattle.ghost_model.proofs.MeaningLemmas.OneRow.{Among, from_filter, from_map, either_true, neither_true, both_true}
+use Rattle.ghost_model.proofs.SessionLemmas.Accepted.{Each, each_is}
 use Rattle.ghost_laws.proofs.ScanLemmas.Choices.{from_flat}
 
 pub pass_each : {X : Type 0} (p : X → Bool) (xs : List X) → list_all p xs ≡ true → (x : X) → Among x xs → p x ≡ true
@@ -32,7 +33,7 @@ module _ (schema : Schema) (from : List ℕ) where
 
 -- it holds of each column of a condition
 abbrev pub With : (Field → Type 0) → Condition → Type 0
-With P (Compare column operator literal) = P column
+With P (OneOf first others) = Each (λ (one : Member). P one.field) (first ∷ others)
 With P (Join one other) = P one × P other
 
 module _ (schema : Schema) (from : List ℕ) (P : Field → Type 0) (meant : (column : ColumnText) (one : Field) → Among one (meanings schema from column) → P one) where
@@ -44,13 +45,16 @@ module _ (schema : Schema) (from : List ℕ) (P : Field → Type 0) (meant : (co
 
   condition_with : (text : ConditionText) (c : Condition) → Among c (conditions_of schema from text) → With P c
   condition_with (Compares column operator literal) c a =
-      let r = from_map (λ one. Compare one operator (value_of_literal literal)) c (meanings schema from column) a in
-      subst (With P) r.2 (meant column r.0 r.1)
+      let r = from_map (λ one. compared one operator (value_of_literal literal)) c (meanings schema from column) a in
+      subst (With P) r.2 (meant column r.0 r.1, tt)
+  condition_with (TestsNull column negated) c a =
+      let r = from_map (λ one. OneOf (tested one (null_test negated)) []) c (meanings schema from column) a in
+      subst (With P) r.2 (meant column r.0 r.1, tt)
   condition_with (LiesBetween column low high) c a =
-      compared_with column (λ one. Compare one AtLeast (value_of_literal low) ∷ Compare one AtMost (value_of_literal high) ∷ [])
+      compared_with column (λ one. compared one AtLeast (value_of_literal low) ∷ compared one AtMost (value_of_literal high) ∷ [])
       (λ one d h b. (elim b [
-        | inl same ↦ subst (With P) same h
-        | inr later ↦ (elim later [ inl same ↦ subst (With P) same h | inr none ↦ absurd none ])
+        | inl same ↦ subst (With P) same (h, tt)
+        | inr later ↦ (elim later [ inl same ↦ subst (With P) same (h, tt) | inr none ↦ absurd none ])
       ])) c a
   condition_with (Joins left right) c a =
       compared_with left (λ one. map (Join one) (meanings schema from right))
@@ -65,9 +69,14 @@ module _ (schema : Schema) (from : List ℕ) (P : Field → Type 0) (meant : (co
 abbrev pub StandsFrom : List ℕ → Condition → Type 0
 StandsFrom from c = With (λ (one : Field). Among one.table from) c
 
+pub member_from : (from : List ℕ) (first : Member) (others : List Member) (one : Member) → StandsFrom from (OneOf first others)
+    → Among one (first ∷ others) → Among one.field.table from
+member_from from first others one stands among =
+    each_is (λ (it : Member). Among it.field.table from) one (first ∷ others) stands among
+
 -- a join is one of a foreign key and the identifier that it names, either side first
 abbrev pub IsJoinOrTest : Schema → Condition → Type 0
-IsJoinOrTest schema (Compare column operator literal) = Unit {0}
+IsJoinOrTest schema (OneOf first others) = Unit {0}
 IsJoinOrTest schema (Join one other) = (is_reference_to schema one other ≡ true) ⊎ (is_reference_to schema other one ≡ true)
 
 pub record HasConditions (schema : Schema) (asked : Query) : Type 0 where
@@ -75,7 +84,7 @@ pub record HasConditions (schema : Schema) (asked : Query) : Type 0 where
   pub joins : (c : Condition) → Among c asked.conditions → IsJoinOrTest schema c
 
 proper_join : (schema : Schema) (c : Condition) → is_proper schema c ≡ true → IsJoinOrTest schema c
-proper_join schema (Compare column operator literal) h = tt
+proper_join schema (OneOf first others) h = tt
 proper_join schema (Join one other) h = either_true (is_reference_to schema one other) (is_reference_to schema other one) h
 
 not_false : (b : Bool) → not b ≡ false → b ≡ true

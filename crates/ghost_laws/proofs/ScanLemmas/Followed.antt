@@ -1,16 +1,22 @@
 -- What a loop over the rows of the top table may rely on.
-use Rattle.std.proofs.Common.{◌≡◌, refl, sym, ap, ◌∙◌, subst, ℕ, zero, suc, ◌+◌, Bool, true, false, ◌||◌, inl, inr, List, [], ◌∷◌, ◌++◌, length, flat_map, ◌⊎◌, arith, append-nil, append_assoc, nat_lt}
+use Rattle.std.proofs.Common.{◌≡◌, refl, sym, ap, ◌∙◌, subst, ℕ, zero, suc, ◌+◌, ◌≤◌, Bool, true, false, ◌||◌, ◌==◌, inl, inr, List, [], ◌∷◌, ◌++◌, length, map, flat_map, sum_by, ◌⊎◌, arith, append-nil, append_assoc, length-append, nat_lt, eq-eqb}
 use Rattle.std.specs.Prelude.{is_some}
+use Rattle.std.proofs.lemmas.Bool.{ltb-false}
+use Rattle.std.proofs.lemmas.List.Concat.{flat_map-append}
+use Rattle.std.proofs.lemmas.List.Sums.{sum_by-cons}
 use Rattle.std.specs.List.{list_all, list_any, range_with_len}
 use Rattle.ghost_model.specs.core.Schema.{Schema}
 use Rattle.ghost_model.specs.core.Values.{Row}
-use Rattle.ghost_model.specs.core.Query.{Query, Field, Condition, Compare, Join}
-use Rattle.ghost_model.specs.refusals.QueryMeaning.{has_repeat, is_reference_to, meanings, columns_in, resolved, Means}
+use Rattle.ghost_model.specs.core.Query.{Query, Field, Member, GroupMember, Condition, OneOf, Join, compared, members_of, members_in, AtMost, AtLeast, tested}
+use Rattle.ghost_model.specs.refusals.QueryMeaning.{has_repeat, is_reference_to, value_of_literal, meanings, conditions_of, selection_columns, condition_columns, columns_in, literal_conditions, selected_count, resolved, Means, null_test}
+use Rattle.ghost_model.specs.refusals.QueryGrammar.{ColumnText, ConditionText, Compares, TestsNull, LiesBetween, Joins}
 use Rattle.ghost_model.proofs.QueryReadingLemmas.{kept_rules}
 use Rattle.ghost_model.proofs.ChannelLemmas.Tests.{hold_both}
 use Rattle.ghost_model.proofs.MeaningLemmas.OneRow.{Among, among_is, is_among_to, neither_true, query_is_linked}
-use Rattle.ghost_model.proofs.SessionLemmas.Accepted.{each_is, query_is_sound}
-use Rattle.ghost_laws.specs.Followed.{is_column_from, is_condition_from, AcceptedQueriesAreFollowed, RowsComeOneByOne}
+use Rattle.ghost_model.proofs.QueryLemmas.{accepted_are_lone}
+use Rattle.ghost_model.proofs.SessionLemmas.Accepted.{each_is, query_is_sound, ComparesFrom}
+use Rattle.ghost_model.proofs.SessionLemmas.Members.{true_of_each}
+use Rattle.ghost_laws.specs.Followed.{is_column_from, is_condition_from, is_of_one_table, AcceptedQueriesAreFollowed, RowsComeOneByOne}
 use Rattle.ghost_laws.proofs.ScanLemmas.Keys.{below_top}
 use Rattle.ghost_laws.proofs.ScanLemmas.Accepted.{With, conditions_with, has_conditions, IsJoinOrTest}
 use Rattle.ghost_laws.proofs.ScanLemmas.KnownRows.{top_is_from}
@@ -32,7 +38,11 @@ module _ (schema : Schema) (from : List ℕ) where
 
   condition_from : (c : Condition) → With (λ (one : Field). Among one.table from) c → With (HasColumn schema) c → IsJoinOrTest schema c
       → is_condition_from schema from c ≡ true
-  condition_from (Compare column operator literal) a has join = column_from column a has
+  condition_from (OneOf first others) a has join =
+      true_of_each (λ (one : Member). is_column_from schema from one.field) first others
+      (λ one among.
+      column_from one.field (each_is (λ (it : Member). Among it.field.table from) one (first ∷ others) a among)
+      (each_is (λ (it : Member). HasColumn schema it.field) one (first ∷ others) has among))
   condition_from (Join one other) a has join =
       hold_both _ _ (hold_both _ _ (column_from one a.0 has.0) (column_from other a.1 has.1))
       (either_way (is_reference_to schema one other) (is_reference_to schema other one) join)
@@ -43,6 +53,89 @@ conditions_have schema text asked means =
     let it : Query = resolved schema means.tree in
     subst (λ (q : Query). (c : Condition) → Among c q.conditions → With (HasColumn schema) c) (sym means.means)
     (conditions_with schema it.from (HasColumn schema) (meant_has schema it.from) means.tree.conditions)
+
+-- the columns of a group are of one table
+group_of_one : (schema : Schema) (from : List ℕ) (c : Condition) → ComparesFrom schema from c → is_of_one_table c ≡ true
+group_of_one schema from (OneOf first others) e =
+    all_pass (λ (one : Member). one.field.table == first.field.table) others
+    (λ one a.
+    eq-eqb one.field.table first.field.table (each_is (λ (it : Member). it.field.table ≡ first.field.table) one others e.1 a))
+group_of_one schema from (Join one other) e = refl
+
+-- the members that a text's conditions are are no more than it writes
+none_of_joins : (one : Field) (others : List Field) → length (members_in (map (Join one) others)) ≤ 0
+none_of_joins one [] = omega arith
+none_of_joins one (other ∷ others) = none_of_joins one others
+
+one_mapped : (f : Field → Condition) (most : ℕ) → ((one : Field) → length (members_in (f one ∷ [])) ≤ most)
+    → (meant : List Field) → nat_lt 1 (length meant) ≡ false → length (members_in (map f meant)) ≤ most
+one_mapped f most short [] few = omega arith
+one_mapped f most short (one ∷ []) few = short one
+one_mapped f most short (one ∷ other ∷ meant) few =
+    let many = ltb-false 1 (length (one ∷ other ∷ meant)) few in absurd (omega arith)
+
+one_flat : (f : Field → List Condition) (most : ℕ) → ((one : Field) → length (members_in (f one)) ≤ most)
+    → (meant : List Field) → nat_lt 1 (length meant) ≡ false → length (members_in (flat_map f meant)) ≤ most
+one_flat f most short [] few = omega arith
+one_flat f most short (one ∷ []) few =
+    subst (λ (cs : List Condition). length (members_in cs) ≤ most) (sym (append-nil (f one))) (short one)
+one_flat f most short (one ∷ other ∷ meant) few =
+    let many = ltb-false 1 (length (one ∷ other ∷ meant)) few in absurd (omega arith)
+
+none_of_both : {X : Type 0} (p : X → Bool) (xs ys : List X) → list_any p (xs ++ ys) ≡ false
+    → (list_any p xs ≡ false) × (list_any p ys ≡ false)
+none_of_both p [] ys e = (refl, e)
+none_of_both p (x ∷ xs) ys e =
+    let one = neither_true (p x) (list_any p (xs ++ ys)) e in
+    let later = none_of_both p xs ys one.1 in
+    (ap (λ (b : Bool). b || list_any p xs) one.0 ∙ later.0, later.1)
+
+module _ (schema : Schema) (from : List ℕ) where
+  abbrev has_many : ColumnText → Bool
+  has_many column = nat_lt 1 (length (meanings schema from column))
+
+  few_of_condition : (c : ConditionText) → list_any has_many (condition_columns c) ≡ false
+      → length (members_in (conditions_of schema from c)) ≤ literal_conditions c
+  few_of_condition (Compares column operator literal) e =
+      one_mapped (λ meant. compared meant operator (value_of_literal literal)) 1 (λ one. omega arith) (meanings schema from column)
+      (neither_true (has_many column) false e).0
+  few_of_condition (TestsNull column negated) e =
+      one_mapped (λ meant. OneOf (tested meant (null_test negated)) []) 1 (λ one. omega arith) (meanings schema from column)
+      (neither_true (has_many column) false e).0
+  few_of_condition (LiesBetween column low high) e =
+      one_flat (λ meant. compared meant AtLeast (value_of_literal low) ∷ compared meant AtMost (value_of_literal high) ∷ []) 2
+      (λ one. omega arith) (meanings schema from column) (neither_true (has_many column) false e).0
+  few_of_condition (Joins left right) e =
+      one_flat (λ meant. map (Join meant) (meanings schema from right)) 0 (λ one. none_of_joins one (meanings schema from right))
+      (meanings schema from left) (neither_true (has_many left) (list_any has_many (right ∷ [])) e).0
+
+  few_of_conditions : (texts : List ConditionText) → list_any has_many (flat_map condition_columns texts) ≡ false
+      → length (members_in (flat_map (conditions_of schema from) texts)) ≤ sum_by literal_conditions texts
+  few_of_conditions [] e = omega arith
+  few_of_conditions (c ∷ texts) e =
+      let both = none_of_both has_many (condition_columns c) (flat_map condition_columns texts) e in
+      let one = few_of_condition c both.0 in
+      let later = few_of_conditions texts both.1 in
+      let whole = sum_by-cons literal_conditions c texts in
+      let size =
+      ap (λ (members : List GroupMember). length members)
+      (flat_map-append members_of (conditions_of schema from c) (flat_map (conditions_of schema from) texts))
+      ∙ length-append (members_in (conditions_of schema from c)) (members_in (flat_map (conditions_of schema from) texts)) in
+      omega (arith, one, later, whole, size)
+
+few_members_from : (schema : Schema) (text : List ℕ) (asked : Query) → Means schema text asked
+    → length (members_in asked.conditions) ≤ 16
+few_members_from schema text asked means =
+    let it : Query = resolved schema means.tree in
+    let kept = kept_rules schema text means.tree means.keeps in
+    let written = sum_by literal_conditions means.tree.conditions in
+    let columns = flat_map condition_columns means.tree.conditions in
+    let limits = neither_true _ (nat_lt 32 (selected_count schema means.tree means.tree.selection)) kept.limits in
+    let within = ltb-false 16 written (neither_true _ (nat_lt 16 written) limits.0).1 in
+    let once = neither_true (has_repeat it.from) (list_any (has_many schema it.from) (columns_in means.tree)) kept.one_meaning in
+    let clear = none_of_both (has_many schema it.from) (selection_columns means.tree.selection) columns once.1 in
+    let few = few_of_conditions schema it.from means.tree.conditions clear.1 in
+    subst (λ (q : Query). length (members_in q.conditions) ≤ 16) (sym means.means) (omega (arith, within, few))
 
 no_repeat_from : (schema : Schema) (text : List ℕ) (asked : Query) → Means schema text asked → has_repeat asked.from ≡ false
 no_repeat_from schema text asked means =
@@ -66,7 +159,11 @@ accepted_queries_are_followed schema tree text asked means top at_top =
           (λ one a. column_from schema asked.from one (each_is (λ (f : Field). Among f.table asked.from) one asked.select sound.chosen a) (select_has schema text asked means one a));
       conditions = all_pass (is_condition_from schema asked.from) asked.conditions
           (λ c a. condition_from schema asked.from c (conditions.from c a) (conditions_have schema text asked means c a) (conditions.joins c a));
+      groups = all_pass is_of_one_table asked.conditions
+          (λ c a. group_of_one schema asked.from c (each_is (ComparesFrom schema asked.from) c asked.conditions sound.compared a));
       few_selected = select_few schema text asked means;
+      few_members = few_members_from schema text asked means;
+      lone = accepted_are_lone schema text asked means;
     }
 
 one_more : (rows : ℕ → List Row) (from count : ℕ)

@@ -8,7 +8,7 @@ use Rattle.std.proofs.lemmas.List.Sums.{sum_by-cons}
 use Rattle.ghost_model.specs.core.Schema.{Schema, Column, Table, column_at, parent, is_table, references_to, first_of, places_from, ancestor}
 use Rattle.ghost_model.specs.laws.SchemaTrees.{IsTree}
 use Rattle.ghost_model.specs.core.Values.{Value, Null, Number, Text, Row, Database}
-use Rattle.ghost_model.specs.core.Query.{Query, Field, Condition, Compare, Join}
+use Rattle.ghost_model.specs.core.Query.{Query, Field, Condition, OneOf, Join}
 use Rattle.ghost_model.specs.core.Query as query
 use Rattle.ghost_model.specs.refusals.QueryMeaning.{is_reference_to, is_join_of}
 use Rattle.ghost_model.specs.core.Database.{IsDatabase, row_of, value_at_row, identifier_in, reference_column, points_to, leads}
@@ -131,7 +131,7 @@ abbrev pub seen : ((table identifier column : ℕ) → Option Value) → (at : �
 seen value at wanted = option_and_then (λ identifier. value wanted.table identifier wanted.column) (at wanted.table)
 
 abbrev pub join_holds : ((table identifier column : ℕ) → Option Value) → (at : ℕ → Option ℕ) → Condition → Bool
-join_holds value at (Compare column operator literal) = true
+join_holds value at (OneOf first others) = true
 join_holds value at (Join one other) = compares query.Equal (seen value at one) (seen value at other)
 
 identifier_back : (o : Option Value) (identifier : ℕ) → identifier_in o ≡ Some identifier → o ≡ Some (Number (pos identifier))
@@ -224,7 +224,7 @@ module _ (schema : Schema) (database : Database) (tree : IsTree schema) (is : Is
       by_join : (above table : ℕ) → parent schema table ≡ Some above → IsAtOrBelow schema top above → at above ≡ led above
           → (condition : Condition) → is_join_of schema table condition ≡ true → join_holds value at condition ≡ true
           → at table ≡ led table
-      by_join above table up below same (Compare column operator literal) h holds = let bad : ⊥ = cc in absurd bad
+      by_join above table up below same (OneOf first others) h holds = let bad : ⊥ = cc in absurd bad
       by_join above table up below same (Join left right) h holds =
           let both = both_are (seen value at left) (seen value at right) holds in
           (elim (either_true (is_reference_to schema left right && nat_eq right.table table) (is_reference_to schema right left && nat_eq left.table table) h) [

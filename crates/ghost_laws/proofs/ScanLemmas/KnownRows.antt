@@ -1,7 +1,6 @@
 -- What the key answers by the replies is found along the foreign keys too, whatever the replies are: identifiers and foreign
 -- keys do not depend on them.
-use Rattle.std.proofs.Common.{◌≡◌, refl, sym, ap, ◌∙◌, ℕ, zero, suc, ◌+◌, ◌<◌, inl, Bool, true, false, not, ◌&&◌, nat_eq, List, [], ◌∷◌, ◌++◌, map, drop, filter, flat_map, Option, Some, None, slice_get, unwrap_or, option_and_then, arith, eqb-true, if◌then◌else◌}
-use Rattle.std.specs.Prelude.{filter_map}
+use Rattle.std.proofs.Common.{◌≡◌, refl, sym, ap, ◌∙◌, ℕ, zero, suc, ◌+◌, inl, Bool, true, false, not, ◌&&◌, nat_eq, List, [], ◌∷◌, map, drop, filter, flat_map, Option, Some, None, slice_get, unwrap_or, option_and_then, arith, eqb-true, if◌then◌else◌}
 use Rattle.std.specs.List.{list_all, range_with_len}
 use Rattle.std.specs.Option.{option_map}
 use Rattle.std.proofs.lemmas.List.Folds.{list_all-map}
@@ -9,10 +8,11 @@ use Rattle.std.proofs.lemmas.Option.{slice_get-map}
 use Rattle.ghost_model.specs.core.Schema.{Schema, Column, columns_of, column_at, parent, is_shown, is_visible}
 use Rattle.ghost_model.specs.laws.SchemaTrees.{IsTree}
 use Rattle.ghost_model.specs.core.Values.{Value, Row, Rows, Database}
-use Rattle.ghost_model.specs.core.Query.{Query, Field, Condition, Compare, Join, top_of, only, is_some_among}
+use Rattle.ghost_model.specs.core.Query.{Query, Field, Member, Condition, OneOf, Join, top_of, only, is_some_among}
 use Rattle.ghost_model.specs.core.Database.{IsDatabase, rows_of, row_of, row_count, value_at_row}
 use Rattle.ghost_model.specs.core.Split.{Hidden, hidden_of, value_at}
-use Rattle.ghost_model.specs.core.Meaning.{compares, Pick, pick, no_value, answer_by_top}
+use Rattle.ghost_model.specs.core.Meaning.{meets_test, Pick, pick, no_value, answer_by_top}
+use Rattle.ghost_model.specs.core.Groups.{each_of}
 use Rattle.ghost_model.specs.laws.ShortWords.{others_of}
 use Rattle.ghost_model.specs.laws.SplitByFlags.{hidden_flags, hidden_values}
 use Rattle.ghost_model.proofs.MeaningLemmas.PartsByFlags.{hidden_rows_at}
@@ -22,13 +22,14 @@ use Rattle.ghost_model.proofs.MeaningLemmas.OneRow.{Among, from_filter, IsLinked
 use Rattle.ghost_model.proofs.MeaningLemmas.Leading.{get_within, place_within, to_itself_within}
 use Rattle.ghost_model.proofs.SessionLemmas.Values.{hidden_of_row}
 use Rattle.ghost_model.proofs.SessionLemmas.Accepted.{each_is, query_is_sound, IsSound}
+use Rattle.ghost_model.proofs.SessionLemmas.Members.{some_agree}
 use Rattle.ghost_laws.specs.Scans.{known_along, is_kept_row, stands_along, holds_or_asked_along, known_row, KnownAnswersFollowKeys}
 use Rattle.ghost_laws.proofs.ScanLemmas.Keys.{IsValues, seen, join_holds}
 use Rattle.ghost_laws.proofs.ScanLemmas.Choices.{chosen_in, picked}
-use Rattle.ghost_laws.proofs.ScanLemmas.Accepted.{pass_each, HasConditions, has_conditions}
+use Rattle.ghost_laws.proofs.ScanLemmas.Accepted.{pass_each, HasConditions, member_from, has_conditions}
 use Rattle.ghost_laws.proofs.ScanLemmas.OneChoice.{all_same, values_same, mapped_if, many, reach, reached, combined, combined_has, join_met, one_or_none}
 use Rattle.ghost_laws.proofs.ScanLemmas.Rows.{all_more, same_for_identifiers}
-use Rattle.ghost_model.proofs.MeaningLemmas.Picks.{picks, identifiers_of, known_in, is_true_or_asked, stands_in_reply, is_kept, answer_of_pick}
+use Rattle.ghost_model.proofs.MeaningLemmas.Picks.{known_in, is_true_or_asked, stands_in_reply, is_kept, answer_of_pick}
 
 -- a test of the top table and of the others is one of all
 passing_top : (test : ℕ → Bool) (top : ℕ) → test top ≡ true → (tables : List ℕ) → list_all test (others_of top tables) ≡ list_all test tables
@@ -115,7 +116,7 @@ module _ (schema : Schema) (database : Database) (tree : IsTree schema) (is : Is
       ]) refl
 
   join_seen : (x : List Pick) (c : Condition) → is_true_or_asked schema kept given x c ≡ true → join_holds known (chosen_in x) c ≡ true
-  join_seen x (Compare column operator literal) h = refl
+  join_seen x (OneOf first others) h = refl
   join_seen x (Join one other) h = rw (sym (known_seen x one), sym (known_seen x other)) h
 
   module _ (asked : Query) (top : ℕ) (linked : IsLinked schema asked top) (conditions : HasConditions schema asked) (sound : IsSound schema asked) (from : Among top asked.from) (identifier : ℕ) (row : Row) (there : row_of database top identifier ≡ Some row) where
@@ -129,9 +130,14 @@ module _ (schema : Schema) (database : Database) (tree : IsTree schema) (is : Is
 
     condition_along : (c : Condition) → Among c asked.conditions
         → is_true_or_asked schema kept given one c ≡ holds_or_asked_along schema (known_along schema database given top identifier) c
-    condition_along (Compare column operator literal) a =
-        ap (λ o. if is_visible schema column.table column.column then true else compares operator o (Some literal))
-        (seen_along column (conditions.from (Compare column operator literal) a))
+    condition_along (OneOf first others) a =
+        let shown : Member → Bool = λ member. is_visible schema member.field.table member.field.column in
+        ap (λ (b : Bool). if each_of shown first others then true else b)
+        (some_agree (λ (member : Member). meets_test member.test (known_in schema kept given one member.field))
+        (λ (member : Member). meets_test member.test (known_along schema database given top identifier member.field)) first others
+        (λ member among.
+        ap (meets_test member.test)
+        (seen_along member.field (member_from asked.from first others member (conditions.from (OneOf first others) a) among))))
     condition_along (Join left right) a =
         rw (known_seen one left, known_seen one right)
         (join_met schema database tree is asked top linked identifier row there known is_values conditions left right a)

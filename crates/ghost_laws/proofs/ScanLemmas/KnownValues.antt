@@ -7,7 +7,7 @@ use Rattle.std.proofs.lemmas.Bool.{lt-ltb}
 use Rattle.ghost_model.specs.core.Schema.{Schema, Column, Kind, columns_of, column_at, places_from, is_empty, is_shown, is_visible, places_of}
 use Rattle.ghost_model.specs.laws.SchemaTrees.{IsTree}
 use Rattle.ghost_model.specs.core.Values.{Number, Row, Database}
-use Rattle.ghost_model.specs.core.Query.{Query, Field, top_of}
+use Rattle.ghost_model.specs.core.Query.{Query, Field}
 use Rattle.ghost_model.specs.refusals.QueryMeaning as meaning
 use Rattle.ghost_model.specs.refusals.QueryMeaning.{Means}
 use Rattle.ghost_model.specs.core.Channel.{Ask}
@@ -20,6 +20,7 @@ use Rattle.ghost_model.proofs.ChannelLemmas.Tests.{hold_both}
 use Rattle.ghost_model.proofs.MeaningLemmas.OneRow.{Among, among-filter, from_filter, from_map, IsLinked, query_is_linked, both_true, in_table, among_is}
 use Rattle.ghost_model.proofs.MeaningLemmas.Leading.{landing, place_within}
 use Rattle.ghost_model.proofs.SessionLemmas.Accepted.{each_is, query_is_sound}
+use Rattle.ghost_model.proofs.SessionLemmas.Members.{left_true}
 use Rattle.ghost_laws.specs.Scans.{is_kept_row, stands_along, holds_or_asked_along, known_along, known_row}
 use Rattle.ghost_laws.specs.Selected.{has_selected, is_of_kinds, AreWholeReplies, KnownAnswersHaveSelected}
 use Rattle.ghost_laws.proofs.ScanLemmas.Keys.{below_top}
@@ -79,9 +80,9 @@ module _ (schema : Schema) (asked : Query) where
   column_asked : (f : Field) (declared : Column) → column_at schema f.table f.column ≡ Some declared → is_visible schema f.table f.column ≡ true
       → Among f asked.select → Among f.column (ask_for schema asked f.table).columns
   column_asked f declared h visible a =
-      among-filter (is_wanted schema asked.select f.table) f.column (places_of (columns_of schema f.table))
+      among-filter (is_wanted schema asked f.table) f.column (places_of (columns_of schema f.table))
       (stands_first f.column (columns_of schema f.table) (place_within (columns_of schema f.table) f.column declared h))
-      (hold_both _ _ visible (field_is f asked.select a))
+      (hold_both _ _ visible (left_true _ _ (field_is f asked.select a)))
 
   ask_stands : (f : Field) (declared : Column) → column_at schema f.table f.column ≡ Some declared → Among f.table asked.from
       → Among f.column (ask_for schema asked f.table).columns → Among (ask_for schema asked f.table) (asks_of schema asked)

@@ -1,20 +1,18 @@
 -- Of the combinations with one row of the top table of an accepted query, those that meet its joins and another test are
 -- the one that the row leads to, or none.
 use Rattle.std.proofs.Common.{◌≡◌, ◌≢◌, refl, sym, ap, ◌∙◌, subst, ℕ, zero, suc, ◌+◌, inl, inr, Bool, true, false, not, ◌&&◌, nat_eq, List, [], ◌∷◌, length, map, filter, Option, Some, slice_get, unwrap_or, option_and_then, arith, eqb-true, eq-eqb, if◌then◌else◌}
-use Rattle.std.specs.Prelude.{filter_map}
-use Rattle.std.specs.List.{list_all, cons_option}
+use Rattle.std.specs.List.{list_all}
 use Rattle.std.proofs.lemmas.List.{length-map}
 use Rattle.ghost_model.specs.core.Schema.{Schema}
 use Rattle.ghost_model.specs.laws.SchemaTrees.{IsTree}
 use Rattle.ghost_model.specs.core.Values.{Value, Row, Rows, Database}
-use Rattle.ghost_model.specs.core.Query.{Query, Field, Condition, Compare, Join}
+use Rattle.ghost_model.specs.core.Query.{Query, Field, Join}
 use Rattle.ghost_model.specs.core.Query as query
 use Rattle.ghost_model.specs.core.Database.{IsDatabase, rows_of, row_of, row_count, leads}
 use Rattle.ghost_model.specs.laws.ShortWords.{rows_or_none, others_of}
 use Rattle.ghost_model.specs.core.Meaning.{compares, Pick, pick}
 use Rattle.ghost_model.specs.core.Split.{Hidden, hidden_of}
 use Rattle.ghost_model.proofs.MeaningLemmas.PartsByFlags.{hidden_rows_at}
-use Rattle.ghost_model.specs.laws.SplitByFlags.{hidden_values}
 use Rattle.ghost_model.proofs.MeaningLemmas.OneRow.{Among, among-filter, from_filter, distinct-filter, IsLinked}
 use Rattle.ghost_model.proofs.MeaningLemmas.Leading.{landing, to_itself_within, get_within, place_within}
 use Rattle.ghost_laws.proofs.ScanLemmas.Keys.{below_top, IsValues, seen, join_holds, joins_hold, follows}

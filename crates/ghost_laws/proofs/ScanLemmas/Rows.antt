@@ -1,25 +1,25 @@
 -- The answer of an accepted query is found along the foreign keys: for each row of the top table, the combinations that
 -- pass are the one that the row leads to, or none.
-use Rattle.std.proofs.Common.{◌≡◌, refl, sym, ap, ◌∙◌, ℕ, suc, zero, ◌+◌, ◌<◌, Bool, true, false, nat_eq, List, [], ◌∷◌, ◌++◌, length, map, filter, flat_map, Option, Some, None, slice_get, unwrap_or, option_and_then, arith, eqb-true, if◌then◌else◌}
+use Rattle.std.proofs.Common.{◌≡◌, refl, sym, ap, ◌∙◌, ℕ, suc, zero, ◌+◌, ◌<◌, Bool, true, false, nat_eq, List, [], ◌∷◌, ◌++◌, map, filter, flat_map, Option, Some, slice_get, unwrap_or, option_and_then, arith, eqb-true, if◌then◌else◌}
 use Rattle.std.specs.List.{list_all, range_with_len}
-use Rattle.std.proofs.lemmas.List.{map-append}
 use Rattle.ghost_model.specs.core.Schema.{Schema}
 use Rattle.ghost_model.specs.laws.SchemaTrees.{IsTree}
-use Rattle.ghost_model.specs.core.Values.{Value, Row, Rows, Database}
-use Rattle.ghost_model.specs.core.Query.{Query, Field, Condition, Compare, Join}
+use Rattle.ghost_model.specs.core.Values.{Value, Row, Database}
+use Rattle.ghost_model.specs.core.Query.{Query, Field, Member, Condition, OneOf, Join}
 use Rattle.ghost_model.specs.core.Database.{IsDatabase, rows_of, row_of, row_count, value_at_row}
 use Rattle.ghost_model.specs.core.Split.{Hidden, hidden_of}
 use Rattle.ghost_model.specs.core.Meaning as meaning
-use Rattle.ghost_model.specs.core.Meaning.{Pick, pick, compares, no_value, all_of, answer_by_top}
+use Rattle.ghost_model.specs.core.Meaning.{Pick, pick, meets_test, no_value, all_of, answer_by_top}
 use Rattle.ghost_model.specs.laws.ShortWords.{others_of}
 use Rattle.ghost_model.proofs.MeaningLemmas.ByRows as by_row
-use Rattle.ghost_model.proofs.MeaningLemmas.ByRows.{Chosen, choice, Combination, row_combinations, row_in, value_in, is_true_in, passes, projection, answer_of_row, mapped_twice, row_field, by_rows}
+use Rattle.ghost_model.proofs.MeaningLemmas.ByRows.{Chosen, choice, Combination, row_combinations, row_in, value_in, is_met_in, is_true_in, passes, projection, answer_of_row, mapped_twice, row_field, by_rows}
 use Rattle.ghost_model.proofs.MeaningLemmas.OneRow.{Among, IsLinked, query_is_linked, both_true}
 use Rattle.ghost_model.proofs.SessionLemmas.Accepted.{each_is, query_is_sound, IsSound}
+use Rattle.ghost_model.proofs.SessionLemmas.Members.{some_agree}
 use Rattle.ghost_laws.specs.Scans.{led_value, holds_along, row_along, AnswersFollowKeys}
 use Rattle.ghost_laws.proofs.ScanLemmas.Keys.{IsValues, seen, join_holds}
 use Rattle.ghost_laws.proofs.ScanLemmas.Choices.{chosen_in}
-use Rattle.ghost_laws.proofs.ScanLemmas.Accepted.{HasConditions, has_conditions}
+use Rattle.ghost_laws.proofs.ScanLemmas.Accepted.{HasConditions, member_from, has_conditions}
 use Rattle.ghost_laws.proofs.ScanLemmas.OneChoice.{all_same, values_same, mapped_if, many, combined, combined_has, join_met, one_or_none}
 use Rattle.ghost_model.proofs.MeaningLemmas.Picks.{picks}
 use Rattle.ghost_model.specs.core.Asks.{kind_at}
@@ -76,7 +76,7 @@ module _ (schema : Schema) (database : Database) (tree : IsTree schema) (is : Is
       ]) refl
 
   join_seen : (x : List Pick) (c : Condition) → is_true_in (map chosen x) c ≡ true → join_holds (value_at_row database) (chosen_in x) c ≡ true
-  join_seen x (Compare column operator literal) h = refl
+  join_seen x (OneOf first others) h = refl
   join_seen x (Join one other) h = rw (sym (value_seen x one), sym (value_seen x other)) h
 
   -- combinations of rows are those of picks
@@ -95,8 +95,12 @@ module _ (schema : Schema) (database : Database) (tree : IsTree schema) (is : Is
         ∙ ap (option_and_then (λ n. value_at_row database f.table n f.column)) (combined_has schema database tree is asked top linked identifier row there f.table a)
 
     condition_along : (c : Condition) → Among c asked.conditions → is_true_in (map chosen one) c ≡ holds_along (led_value schema database top identifier) c
-    condition_along (Compare column operator literal) a =
-        ap (λ o. compares operator o (Some literal)) (seen_along column (conditions.from (Compare column operator literal) a))
+    condition_along (OneOf first others) a =
+        some_agree (is_met_in (map chosen one))
+        (λ (member : Member). meets_test member.test (led_value schema database top identifier member.field)) first others
+        (λ member among.
+        ap (meets_test member.test)
+        (seen_along member.field (member_from asked.from first others member (conditions.from (OneOf first others) a) among)))
     condition_along (Join left right) a =
         rw (value_seen one left, value_seen one right)
         (join_met schema database tree is asked top linked identifier row there (value_at_row database) is_values conditions left right a)

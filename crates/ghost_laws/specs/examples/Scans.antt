@@ -4,7 +4,7 @@ use Rattle.std.specs.Prelude.{◌≡◌, ℕ, true, false, List, [], ◌∷◌, 
 use Rattle.std.specs.List.{list_all}
 use Rattle.ghost_model.specs.core.Schema.{Integer, Chars}
 use Rattle.ghost_model.specs.core.Values.{Text, Row}
-use Rattle.ghost_model.specs.core.Query.{Query, Compare, Join, Equal}
+use Rattle.ghost_model.specs.core.Query.{Query, compared, Join, Equal}
 use Rattle.ghost_model.specs.refusals.QueryMeaning.{field}
 use Rattle.ghost_model.specs.readings.QueryReading.{reading}
 use Rattle.ghost_model.specs.core.Meaning.{answer}
@@ -22,8 +22,8 @@ flu_at_cardio = record {
   from = 2 ∷ 0 ∷ [];
   select = field 2 0 ∷ field 0 1 ∷ [];
   conditions =
-      Join (field 2 3) (field 0 0) ∷ Compare (field 0 1) Equal (Text (codes "cardio"))
-      ∷ Compare (field 2 2) Equal (Text (codes "flu")) ∷ [];
+      Join (field 2 3) (field 0 0) ∷ compared (field 0 1) Equal (Text (codes "cardio"))
+      ∷ compared (field 2 2) Equal (Text (codes "flu")) ∷ [];
 }
 
 abbrev pub visit_at : ℕ → List ℕ → Row

@@ -1,17 +1,18 @@
 -- Lemmas on the spelling of cells and of asks.
-use Rattle.std.proofs.Common.{◌≡◌, ℕ, zero, suc, ◌+◌, ◌-◌, ◌<◌, ◌≤◌, ◌^◌, Bool, true, false, ◌&&◌, List, [], ◌∷◌, ◌++◌, length, take, drop, slice_index, replicate, ◌∙◌, ap, subst, refl, arith, length-append, Option, Some, None, pos, negsuc, ℤ}
+use Rattle.std.proofs.Common.{◌≡◌, ℕ, zero, suc, ◌+◌, ◌-◌, ◌<◌, ◌≤◌, ◌^◌, Bool, true, false, ◌&&◌, List, [], ◌∷◌, ◌++◌, length, take, drop, slice_index, replicate, ◌∙◌, ap, subst, refl, arith, lit<, length-append, Option, Some, None, pos, negsuc, ℤ}
 use Rattle.std.specs.Prelude.{◌==◌, nat_le, if◌then◌else◌, bytes_eq, flat_map}
 use Rattle.std.specs.List.{list_all, prefix_len}
 use Rattle.std.specs.Int.{to_be_bytes, w64}
 use Rattle.std.proofs.lemmas.List.{length-replicate}
 use Rattle.std.proofs.lemmas.Nat.{from_be_bytes-to_be_bytes_8}
 use Rattle.std.proofs.lemmas.Bool.Decides.{nat_tests}
-use Rattle.std.proofs.lemmas.Bool.{ltb-true, leb-true}
+use Rattle.std.proofs.lemmas.Bool.{ltb-true, leb-true, le-leb}
 use Rattle.std.proofs.lemmas.Slice.Eq.{bytes_eq-Decides}
 use Rattle.std.proofs.Math.Seq.{drop-append_seam}
-use Rattle.ghost_model.specs.core.Schema.{Schema, Kind, Integer, Chars, IntegerOrNull, CharsOrNull}
-use Rattle.ghost_model.specs.core.Query.{Operator, Equal, Unequal, Less, AtMost, More, AtLeast}
-use Rattle.ghost_model.specs.core.Channel.{Ask, Test}
+use Rattle.ghost_model.specs.core.Schema.{Schema, Kind, Integer, Chars, IntegerOrNull, CharsOrNull, plain_of}
+use Rattle.ghost_model.specs.core.Query.{Test, Compared, IsNull, IsNotNull, Operator, Equal, Unequal, Less, AtMost, More, AtLeast}
+use Rattle.ghost_model.specs.core.Channel.{Ask, ColumnTest}
+use Rattle.ghost_model.specs.core.Groups.{ends}
 use Rattle.ghost_model.specs.core.Asks as asks
 use Rattle.ghost_model.specs.readings.AskReading as reading
 use Rattle.ghost_model.specs.core.Values.{Value, Null, Number, Text}
@@ -142,59 +143,112 @@ cell_length (CharsOrNull most) (Number _) e = absurd (false_is_not e)
 cell_length (CharsOrNull most) (Text text) e = ap suc (text_cell_length most text e)
 cell_length (CharsOrNull most) Null e = length-replicate {A = ℕ} (suc most) 0
 
-operator_back : (operator : Operator) → reading.operator_of (asks.operator_code operator) ≡ operator
-operator_back Equal = refl
-operator_back Unequal = refl
-operator_back Less = refl
-operator_back AtMost = refl
-operator_back More = refl
-operator_back AtLeast = refl
+-- the code of a test and what its byte says
+code_below : (test : Test) → asks.test_code test < 128
+code_below (Compared Equal literal) = lit< tt
+code_below (Compared Unequal literal) = lit< tt
+code_below (Compared Less literal) = lit< tt
+code_below (Compared AtMost literal) = lit< tt
+code_below (Compared More literal) = lit< tt
+code_below (Compared AtLeast literal) = lit< tt
+code_below IsNull = lit< tt
+code_below IsNotNull = lit< tt
 
-abbrev test_with : ℕ → Operator → Value → Test
-test_with column operator value = record { column = column; operator = operator; value = value }
+more_back : (code : ℕ) (more : Bool) → code < 128 → reading.says_more (code + (if more then 128 else 0)) ≡ more
+more_back code true h = le-leb 128 (code + 128) (omega arith)
+more_back code false h = grind (arith, nat_tests)
 
-same_test : (test : Test) (operator : Operator) (value : Value) → operator ≡ test.operator → value ≡ test.value → test_with test.column operator value ≡ test
-same_test test operator value p q =
-    ap (λ (o : Operator). test_with test.column o value) p ∙ ap (λ (v : Value). test_with test.column test.operator v) q
+code_if : (byte code : ℕ) (more : Bool) → byte ≡ code + (if more then 128 else 0) → (if more then byte - 128 else byte) ≡ code
+code_if byte code true e = omega (arith, e)
+code_if byte code false e = omega (arith, e)
+
+code_back : (code : ℕ) (more : Bool) → code < 128 → reading.code_in (code + (if more then 128 else 0)) ≡ code
+code_back code more h =
+    let byte : ℕ = code + (if more then 128 else 0) in
+    ap (λ (b : Bool). if b then byte - 128 else byte) (more_back code more h) ∙ code_if byte code more refl
+
+-- what is read after the code of an operator
+compared_back : (kind : Kind) (operator : Operator) (cell : List ℕ)
+    → reading.test_with kind (asks.operator_code operator) cell ≡ Compared operator (reading.value_or_none (decode_cell (plain_of kind) cell))
+compared_back kind Equal cell = refl
+compared_back kind Unequal cell = refl
+compared_back kind Less cell = refl
+compared_back kind AtMost cell = refl
+compared_back kind More cell = refl
+compared_back kind AtLeast cell = refl
+
+compared_width : (kind : Kind) (operator : Operator) → cell_width (plain_of kind) ≡ reading.literal_width kind (asks.operator_code operator)
+compared_width kind Equal = refl
+compared_width kind Unequal = refl
+compared_width kind Less = refl
+compared_width kind AtMost = refl
+compared_width kind More = refl
+compared_width kind AtLeast = refl
+
+-- the cell of a literal is as wide as its code says
+pub literal_length : (kind : Kind) (test : Test) → asks.fits_kind kind test ≡ true → length (asks.literal_cell kind test) ≡ reading.literal_width kind (asks.test_code test)
+literal_length kind (Compared operator literal) e = cell_length (plain_of kind) literal e ∙ compared_width kind operator
+literal_length kind IsNull e = refl
+literal_length kind IsNotNull e = refl
+
+literal_back : (kind : Kind) (test : Test) → asks.fits_kind kind test ≡ true → reading.test_with kind (asks.test_code test) (asks.literal_cell kind test) ≡ test
+literal_back kind (Compared operator literal) e =
+    compared_back kind operator (encode_cell (plain_of kind) literal)
+    ∙ ap (λ (v : Option Value). Compared operator (reading.value_or_none v)) (cell_is_read (plain_of kind) literal e)
+literal_back kind IsNull e = refl
+literal_back kind IsNotNull e = refl
+
+abbrev test_with : ℕ → Test → Bool → ColumnTest
+test_with column test more = record { column = column; test = test; more = more }
+
+same_test : (one : ColumnTest) (test : Test) (more : Bool) → test ≡ one.test → more ≡ one.more → test_with one.column test more ≡ one
+same_test one test more p q =
+    ap (λ (t : Test). test_with one.column t more) p ∙ ap (λ (b : Bool). test_with one.column one.test b) q
 
 drop_two : (n : ℕ) (a b : ℕ) (xs : List ℕ) → drop (2 + n) (a ∷ b ∷ xs) ≡ drop n xs
 drop_two n a b xs = let two : 2 + n ≡ suc (suc n) = omega arith in ap (λ (k : ℕ). drop k (a ∷ b ∷ xs)) two
 
-cons_tests : (a b : Test) (cs bs : List Test) → a ≡ b → cs ≡ bs → a ∷ cs ≡ b ∷ bs
+cons_tests : (a b : ColumnTest) (cs bs : List ColumnTest) → a ≡ b → cs ≡ bs → a ∷ cs ≡ b ∷ bs
 cons_tests a b cs bs p q = cc
 
 module _ (schema : Schema) where
   tests_back :
-      (table : ℕ) (tests : List Test)
-      → list_all (λ test. is_of_kind (asks.kind_at schema table test.column) test.value) tests ≡ true
+      (table : ℕ) (tests : List ColumnTest)
+      → list_all (λ one. asks.fits_kind (asks.kind_at schema table one.column) one.test) tests ≡ true
       → reading.tests_in schema table (length tests) (flat_map (asks.test_bytes schema table) tests) ≡ tests
   unfolding reading.tests_in
   tests_back table [] e = refl
-  tests_back table (test ∷ tests) e =
-      let kind : Kind = asks.kind_at schema table test.column in
-      let both : BothHold (is_of_kind kind test.value) (list_all (λ test. is_of_kind (asks.kind_at schema table test.column) test.value) tests) = both_hold _ _ e in
-      let cell : List ℕ = encode_cell kind test.value in
+  tests_back table (one ∷ tests) e =
+      let kind : Kind = asks.kind_at schema table one.column in
+      let both : BothHold (asks.fits_kind kind one.test) (list_all (λ one. asks.fits_kind (asks.kind_at schema table one.column) one.test) tests) = both_hold _ _ e in
+      let cell : List ℕ = asks.literal_cell kind one.test in
       let more : List ℕ = flat_map (asks.test_bytes schema table) tests in
-      let size : length cell ≡ cell_width kind = cell_length kind test.value both.one in
-      let value : reading.value_or_none (decode_cell kind (take (cell_width kind) (cell ++ more))) ≡ test.value =
-      ap (λ (xs : List ℕ). reading.value_or_none (decode_cell kind xs)) (take_front (cell_width kind) cell more size)
-      ∙ ap (λ (v : Option Value). reading.value_or_none v) (cell_is_read kind test.value both.one) in
-      let after : drop (2 + cell_width kind) (test.column ∷ asks.operator_code test.operator ∷ (cell ++ more)) ≡ more =
-      drop_two (cell_width kind) test.column (asks.operator_code test.operator) (cell ++ more) ∙ drop_front (cell_width kind) cell more size in
-      cons_tests _ test _ tests
-      (same_test test _ _ (operator_back test.operator) value)
+      let byte : ℕ = asks.code_byte one in
+      let code : reading.code_in byte ≡ asks.test_code one.test = code_back (asks.test_code one.test) one.more (code_below one.test) in
+      let width : ℕ = reading.literal_width kind (asks.test_code one.test) in
+      let size : length cell ≡ width = literal_length kind one.test both.one in
+      let test : reading.test_with kind (reading.code_in byte) (take (reading.literal_width kind (reading.code_in byte)) (cell ++ more)) ≡ one.test =
+      ap (λ (n : ℕ). reading.test_with kind n (take (reading.literal_width kind n) (cell ++ more))) code
+      ∙ (ap (λ (xs : List ℕ). reading.test_with kind (asks.test_code one.test) xs) (take_front width cell more size)
+      ∙ literal_back kind one.test both.one) in
+      let after : drop (2 + reading.literal_width kind (reading.code_in byte)) (one.column ∷ byte ∷ (cell ++ more)) ≡ more =
+      ap (λ (n : ℕ). drop (2 + reading.literal_width kind n) (one.column ∷ byte ∷ (cell ++ more))) code
+      ∙ (drop_two width one.column byte (cell ++ more) ∙ drop_front width cell more size) in
+      cons_tests _ one _ tests
+      (same_test one _ _ test (more_back (asks.test_code one.test) one.more (code_below one.test)))
       (ap (λ (xs : List ℕ). reading.tests_in schema table (length tests) xs) after ∙ tests_back table tests both.other)
 
-  abbrev ask_with : ℕ → List ℕ → List Test → Ask
+  abbrev ask_with : ℕ → List ℕ → List ColumnTest → Ask
   ask_with table columns tests = record { table = table; columns = columns; tests = tests }
 
-  same_ask : (ask : Ask) (columns : List ℕ) (tests : List Test) → columns ≡ ask.columns → tests ≡ ask.tests → ask_with ask.table columns tests ≡ ask
+  same_ask : (ask : Ask) (columns : List ℕ) (tests : List ColumnTest) → columns ≡ ask.columns → tests ≡ ask.tests → ask_with ask.table columns tests ≡ ask
   same_ask ask columns tests p q =
-      ap (λ (c : List ℕ). ask_with ask.table c tests) p ∙ ap (λ (t : List Test). ask_with ask.table ask.columns t) q
+      ap (λ (c : List ℕ). ask_with ask.table c tests) p ∙ ap (λ (t : List ColumnTest). ask_with ask.table ask.columns t) q
 
-  proper_tests : (ask : Ask) → asks.is_proper_ask schema ask ≡ true → list_all (λ test. is_of_kind (asks.kind_at schema ask.table test.column) test.value) ask.tests ≡ true
+  proper_tests : (ask : Ask) → asks.is_proper_ask schema ask ≡ true → list_all (λ one. asks.fits_kind (asks.kind_at schema ask.table one.column) one.test) ask.tests ≡ true
   proper_tests ask e =
-      let both : BothHold _ (list_all (λ test. is_of_kind (asks.kind_at schema ask.table test.column) test.value) ask.tests) = both_hold _ _ e in
+      let ended : BothHold _ (ends (λ one. one.more) ask.tests) = both_hold _ _ e in
+      let both : BothHold _ (list_all (λ one. asks.fits_kind (asks.kind_at schema ask.table one.column) one.test) ask.tests) = both_hold _ _ ended.one in
       both.other
 
   -- the ask that a proper ask's payload is like

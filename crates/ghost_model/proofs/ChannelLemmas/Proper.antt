@@ -9,14 +9,15 @@ use Rattle.std.proofs.lemmas.List.Folds.{list_all-append, list_all-map}
 use Rattle.std.proofs.lemmas.Grind.{flat_map-append}
 use Rattle.std.proofs.lemmas.List.Sums.{sum_by-cons}
 use Rattle.std.proofs.lemmas.Bool.{ltb-false, lt-ltb, le-leb}
-use Rattle.ghost_model.specs.core.Schema.{Schema, Column, Kind, Integer, Chars, IntegerOrNull, CharsOrNull, columns_of, column_at, is_visible, is_shown, places_from}
+use Rattle.ghost_model.specs.core.Schema.{Schema, Column, Kind, Integer, Chars, IntegerOrNull, CharsOrNull, plain_of, columns_of, column_at, is_visible, is_shown, places_from}
 use Rattle.ghost_model.specs.core.Values.{Value, Null, Number, Text}
-use Rattle.ghost_model.specs.core.Query.{Query, Field, Condition, Compare, Join, AtLeast, AtMost}
-use Rattle.ghost_model.specs.core.Channel.{Test}
+use Rattle.ghost_model.specs.core.Query.{Query, Field, Test, Compared, IsNull, IsNotNull, Member, GroupMember, members_of_group, Condition, OneOf, Join, tested, compared, Operator, AtLeast, AtMost}
+use Rattle.ghost_model.specs.core.Groups.{each_of, some_of, ends}
+use Rattle.ghost_model.specs.core.Channel.{ColumnTest}
 use Rattle.ghost_model.specs.refusals.Tokens.{Symbol, Quoted, EndOfText, Word, AndWord, Comma, is_printable, symbols}
 use Rattle.ghost_model.specs.laws.Spelled.{is_spelled, IsBeforeEnd}
 use Rattle.ghost_model.specs.core.Database.{is_of_kind, fits_integer}
-use Rattle.ghost_model.specs.refusals.QueryGrammar.{ConditionText, Compares, LiesBetween, Joins, ColumnText, LiteralText, Unsigned, Signed, Written, QueryText, spelling, spell_condition, spell_literal, spell_where, spell_column, spell_table, spell_selection}
+use Rattle.ghost_model.specs.refusals.QueryGrammar.{ConditionText, Compares, TestsNull, LiesBetween, Joins, ColumnText, LiteralText, Unsigned, Signed, Written, QueryText, spelling, spell_condition, spell_literal, spell_where, spell_column, spell_table, spell_selection}
 use Rattle.ghost_model.specs.refusals.Grammar.{separated}
 use Rattle.ghost_model.specs.laws.ShortWords as short
 use Rattle.ghost_model.specs.core.Schema as schemas
@@ -26,6 +27,7 @@ use Rattle.ghost_model.specs.laws.ChannelLaws as laws
 use Rattle.ghost_model.specs.readings.QueryReading.{reading}
 use Rattle.ghost_model.proofs.TokenLemmas.{before_end}
 use Rattle.ghost_model.proofs.QueryReadingLemmas.{means_of, KeptRules, kept_rules}
+use Rattle.ghost_model.proofs.GroupLemmas.{ends_flat}
 use Rattle.ghost_model.proofs.ChannelLemmas.Tests.{false_is_not, both_hold, hold_both, BothHold}
 
 -- tests of lists
@@ -86,21 +88,42 @@ none_all p (x ∷ xs) e =
 abbrev always : {X : Type 0} → X → Bool
 always _ = true
 
-module _ (schema : Schema) where
-  visible_columns : (select : List Field) (table : ℕ) → list_all (is_visible schema table) (filter (asks.is_wanted schema select table) (schemas.places_of (columns_of schema table))) ≡ true
-  visible_columns select table =
-      all_filter (is_visible schema table) (asks.is_wanted schema select table) (schemas.places_of (columns_of schema table))
-      (λ column e. (both_hold (is_visible schema table column) (list_any (short.is_field table column) select) e).one)
+-- the conditions of a group whose members all pass a test
+all_members :
+    (p : Member → Bool) (r : ColumnTest → Bool) → ((one : GroupMember) → p one.member ≡ true → r (asks.column_test one) ≡ true)
+    → (first : Member) (others : List Member) → each_of p first others ≡ true
+    → list_all r (map asks.column_test (members_of_group first others)) ≡ true
+all_members p r h first [] e = hold_both _ _ (h (record { member = first; more = false }) e) refl
+all_members p r h first (next ∷ others) e =
+    let both : BothHold (p first) (each_of p next others) = both_hold _ _ e in
+    hold_both _ _ (h (record { member = first; more = true }) both.one) (all_members p r h next others both.other)
 
-  tested : (table : ℕ) (field : Field) (test : Test) (r : Test → Bool) (b : Bool) → (b ≡ true → r test ≡ true) → list_all r (if b then test ∷ [] else []) ≡ true
-  tested table field test r true h = hold_both (r test) true (h refl) refl
-  tested table field test r false h = refl
+-- the last member of a group says that none of it follows
+group_ends : (first : Member) (others : List Member) → ends (λ one. one.more) (map asks.column_test (members_of_group first others)) ≡ true
+group_ends first [] = refl
+group_ends first (next ∷ []) = refl
+group_ends first (next ∷ third ∷ others) = group_ends next (third ∷ others)
+
+ends_if : (tests : List ColumnTest) (b : Bool) → ends (λ one. one.more) tests ≡ true → ends (λ one. one.more) (if b then tests else []) ≡ true
+ends_if tests true e = e
+ends_if tests false e = refl
+
+module _ (schema : Schema) where
+  visible_columns : (query : Query) (table : ℕ) → list_all (is_visible schema table) (filter (asks.is_wanted schema query table) (schemas.places_of (columns_of schema table))) ≡ true
+  visible_columns query table =
+      all_filter (is_visible schema table) (asks.is_wanted schema query table) (schemas.places_of (columns_of schema table))
+      (λ column e. (both_hold (is_visible schema table column) _ e).one)
+
+  unless_none : (r : ColumnTest → Bool) (tests : List ColumnTest) (b : Bool) → (b ≡ true → list_all r tests ≡ true) → list_all r (if b then tests else []) ≡ true
+  unless_none r tests true h = h refl
+  unless_none r tests false h = refl
 
   visible_test : (table : ℕ) (condition : Condition) → list_all (λ test. is_visible schema table test.column) (asks.test_of schema table condition) ≡ true
-  visible_test table (Compare field operator value) =
-      tested table field (record { column = field.column; operator = operator; value = value }) (λ test. is_visible schema table test.column)
-      (field.table == table && is_visible schema table field.column)
-      (λ e. (both_hold (field.table == table) (is_visible schema table field.column) e).other)
+  visible_test table (OneOf first others) =
+      unless_none (λ test. is_visible schema table test.column) (map asks.column_test (members_of_group first others))
+      (each_of (asks.is_shown schema table) first others)
+      (all_members (asks.is_shown schema table) (λ test. is_visible schema table test.column)
+      (λ one e. (both_hold (one.member.field.table == table) (is_visible schema table one.member.field.column) e).other) first others)
   visible_test table (Join left right) = refl
 
   visible_tests : (table : ℕ) (conditions : List Condition) → list_all (λ test. is_visible schema table test.column) (short.tests_of schema table conditions) ≡ true
@@ -113,7 +136,16 @@ module _ (schema : Schema) where
       all_kept (laws.names_visible schema) asks.is_needed (map (asks.ask_for schema query) (filter (short.is_from query) (schemas.places_of schema)))
       (list_all-map (laws.names_visible schema) (asks.ask_for schema query) (filter (short.is_from query) (schemas.places_of schema))
       ∙ all_each (λ table. laws.names_visible schema (asks.ask_for schema query table)) (filter (short.is_from query) (schemas.places_of schema))
-      (λ table. hold_both _ _ (visible_columns query.select table) (visible_tests table query.conditions)))
+      (λ table. hold_both _ _ (visible_columns query table) (visible_tests table query.conditions)))
+
+  -- the last group of an ask ends
+  ended_test : (table : ℕ) (condition : Condition) → ends (λ one. one.more) (asks.test_of schema table condition) ≡ true
+  ended_test table (OneOf first others) =
+      ends_if (map asks.column_test (members_of_group first others)) (each_of (asks.is_shown schema table) first others) (group_ends first others)
+  ended_test table (Join left right) = refl
+
+  pub tests_end : (table : ℕ) (conditions : List Condition) → ends (λ one. one.more) (short.tests_of schema table conditions) ≡ true
+  tests_end table conditions = ends_flat (λ (one : ColumnTest). one.more) (asks.test_of schema table) conditions (ended_test table)
 
 -- places are below the length, and ascend
 places_below : {X : Type 0} (at : ℕ) (xs : List X) (most : ℕ) → at + length xs ≤ most → list_all (λ place. nat_lt place most) (places_from always at xs) ≡ true
@@ -144,7 +176,7 @@ not_not : (b : Bool) → not b ≡ false → b ≡ true
 not_not true e = refl
 not_not false e = absurd (false_is_not (sym e))
 
-by_kind : (kind : Kind) (value : Value) → meaning.is_other_kind (Some kind) value ≡ false → meaning.is_too_large (Some kind) value ≡ false → is_plain value ≡ true → is_of_kind kind value ≡ true
+by_kind : (kind : Kind) (value : Value) → meaning.is_other_kind (Some kind) value ≡ false → meaning.is_too_large (Some kind) value ≡ false → is_plain value ≡ true → is_of_kind (plain_of kind) value ≡ true
 by_kind kind Null a b c = absurd (false_is_not c)
 by_kind Integer (Number z) a b c = not_not (fits_integer z) b
 by_kind Integer (Text text) a b c = absurd (false_is_not (sym a))
@@ -155,12 +187,17 @@ by_kind IntegerOrNull (Text text) a b c = absurd (false_is_not (sym a))
 by_kind (CharsOrNull most) (Number z) a b c = absurd (false_is_not (sym a))
 by_kind (CharsOrNull most) (Text text) a b c = hold_both _ _ (le-leb (length text) most (ltb-false most (length text) b)) c
 
-by_column : (o : Option Column) (value : Value) → is_shown o ≡ true → meaning.is_other_kind (option_map (λ column. column.kind) o) value ≡ false → meaning.is_too_large (option_map (λ column. column.kind) o) value ≡ false → is_plain value ≡ true → is_of_kind (asks.kind_or_none o) value ≡ true
+by_column : (o : Option Column) (value : Value) → is_shown o ≡ true → meaning.is_other_kind (option_map (λ column. column.kind) o) value ≡ false → meaning.is_too_large (option_map (λ column. column.kind) o) value ≡ false → is_plain value ≡ true → is_of_kind (plain_of (asks.kind_or_none o)) value ≡ true
 by_column None value e a b c = absurd (false_is_not e)
 by_column (Some column) value e a b c = by_kind column.kind value a b c
 
+abbrev is_plain_test : Test → Bool
+is_plain_test (Compared operator literal) = is_plain literal
+is_plain_test IsNull = true
+is_plain_test IsNotNull = true
+
 abbrev is_plain_condition : Condition → Bool
-is_plain_condition (Compare field operator value) = is_plain value
+is_plain_condition (OneOf first others) = each_of (λ one. is_plain_test one.test) first others
 is_plain_condition (Join left right) = true
 
 all_from_three : {X : Type 0} (p q r s : X → Bool) (xs : List X) → ((x : X) → p x ≡ true → q x ≡ true → r x ≡ true → s x ≡ true) → list_all p xs ≡ true → list_all q xs ≡ true → list_all r xs ≡ true → list_all s xs ≡ true
@@ -172,21 +209,47 @@ all_from_three p q r s (x ∷ xs) h a b c =
     hold_both (s x) (list_all s xs) (h x one.one two.one three.one) (all_from_three p q r s xs h one.other two.other three.other)
 
 module _ (schema : Schema) where
-  abbrev is_sound : (table : ℕ) → Test → Bool
-  is_sound table test = is_of_kind (asks.kind_at schema table test.column) test.value
+  abbrev is_sound : (table : ℕ) → ColumnTest → Bool
+  is_sound table one = asks.fits_kind (asks.kind_at schema table one.column) one.test
 
-  sound_test : (table : ℕ) (condition : Condition) → meaning.literal_fails schema meaning.is_other_kind condition ≡ false → meaning.literal_fails schema meaning.is_too_large condition ≡ false → is_plain_condition condition ≡ true → list_all (is_sound table) (asks.test_of schema table condition) ≡ true
-  sound_test table (Join left right) a b c = refl
-  sound_test table (Compare field operator value) a b c =
-      tested schema table field (record { column = field.column; operator = operator; value = value }) (is_sound table)
-      (field.table == table && is_visible schema table field.column)
-      (λ e. let both : BothHold (field.table == table) (is_visible schema table field.column) = both_hold _ _ e in
+  abbrev breaks : (Option Kind → Value → Bool) → Field → Test → Bool
+  breaks fails field test = meaning.fails_with (fails (schemas.column_kind schema field.table field.column)) test
+
+  sound_member :
+      (table : ℕ) (field : Field) (test : Test) → (field.table == table && is_visible schema table field.column) ≡ true
+      → breaks meaning.is_other_kind field test ≡ false → breaks meaning.is_too_large field test ≡ false → is_plain_test test ≡ true
+      → asks.fits_kind (asks.kind_at schema table field.column) test ≡ true
+  sound_member table field (Compared operator value) e a b c =
+      let both : BothHold (field.table == table) (is_visible schema table field.column) = both_hold _ _ e in
       let same : field.table ≡ table = eqb-true field.table table both.one in
       let shown : BothHold (nat_lt 0 field.column) (is_shown (column_at schema table field.column)) = both_hold _ _ both.other in
       by_column (column_at schema table field.column) value shown.other
       (subst (λ (t : ℕ). meaning.is_other_kind (option_map (λ column. column.kind) (column_at schema t field.column)) value ≡ false) same a)
       (subst (λ (t : ℕ). meaning.is_too_large (option_map (λ column. column.kind) (column_at schema t field.column)) value ≡ false) same b)
-      c)
+      c
+  sound_member table field IsNull e a b c = refl
+  sound_member table field IsNotNull e a b c = refl
+
+  sound_group :
+      (table : ℕ) (first : Member) (others : List Member)
+      → some_of (λ one. breaks meaning.is_other_kind one.field one.test) first others ≡ false
+      → some_of (λ one. breaks meaning.is_too_large one.field one.test) first others ≡ false
+      → each_of (λ one. is_plain_test one.test) first others ≡ true → each_of (asks.is_shown schema table) first others ≡ true
+      → list_all (is_sound table) (map asks.column_test (members_of_group first others)) ≡ true
+  sound_group table first [] a b c e = hold_both _ _ (sound_member table first.field first.test e a b c) refl
+  sound_group table first (next ∷ others) a b c e =
+      let one : (breaks meaning.is_other_kind first.field first.test ≡ false) × (some_of (λ one. breaks meaning.is_other_kind one.field one.test) next others ≡ false) = neither _ _ a in
+      let two : (breaks meaning.is_too_large first.field first.test ≡ false) × (some_of (λ one. breaks meaning.is_too_large one.field one.test) next others ≡ false) = neither _ _ b in
+      let three : BothHold (is_plain_test first.test) (each_of (λ one. is_plain_test one.test) next others) = both_hold _ _ c in
+      let four : BothHold (asks.is_shown schema table first) (each_of (asks.is_shown schema table) next others) = both_hold _ _ e in
+      hold_both _ _ (sound_member table first.field first.test four.one one.0 two.0 three.one)
+      (sound_group table next others one.1 two.1 three.other four.other)
+
+  sound_test : (table : ℕ) (condition : Condition) → meaning.literal_fails schema meaning.is_other_kind condition ≡ false → meaning.literal_fails schema meaning.is_too_large condition ≡ false → is_plain_condition condition ≡ true → list_all (is_sound table) (asks.test_of schema table condition) ≡ true
+  sound_test table (Join left right) a b c = refl
+  sound_test table (OneOf first others) a b c =
+      unless_none schema (is_sound table) (map asks.column_test (members_of_group first others)) (each_of (asks.is_shown schema table) first others)
+      (sound_group table first others a b c)
 
   sound_tests :
       (table : ℕ) (conditions : List Condition) → list_any (meaning.literal_fails schema meaning.is_other_kind) conditions ≡ false
@@ -226,17 +289,24 @@ plain_literal (Unsigned digits) e = refl
 plain_literal (Signed sign digits) e = refl
 plain_literal (Written text) e = (both_hold (list_all is_printable text) true e).one
 
+plain_null : (negated : Bool) → is_plain_test (meaning.null_test negated) ≡ true
+plain_null false = refl
+plain_null true = refl
+
 module _ (schema : Schema) (from : List ℕ) where
   plain_conditions : (condition : ConditionText) → list_all is_loose (spell_condition condition) ≡ true → list_all is_plain_condition (meaning.conditions_of schema from condition) ≡ true
   plain_conditions (Compares column operator literal) e =
       let right : BothHold _ (list_all is_loose (spell_literal literal)) = both_hold _ _ (loose_right (spell_column column) _ e) in
-      list_all-map is_plain_condition (λ meant. Compare meant operator (meaning.value_of_literal literal)) (meaning.meanings schema from column)
+      list_all-map is_plain_condition (λ meant. compared meant operator (meaning.value_of_literal literal)) (meaning.meanings schema from column)
       ∙ all_each (λ meant. is_plain (meaning.value_of_literal literal)) (meaning.meanings schema from column) (λ _. plain_literal literal right.other)
+  plain_conditions (TestsNull column negated) e =
+      list_all-map is_plain_condition (λ meant. OneOf (tested meant (meaning.null_test negated)) []) (meaning.meanings schema from column)
+      ∙ all_each (λ meant. is_plain_test (meaning.null_test negated)) (meaning.meanings schema from column) (λ _. plain_null negated)
   plain_conditions (LiesBetween column low high) e =
       let both : list_all is_loose (spell_literal low ++ (Word AndWord ∷ spell_literal high)) ≡ true = loose_right (spell_column column) _ e in
       let first : is_plain (meaning.value_of_literal low) ≡ true = plain_literal low (loose_left (spell_literal low) _ both) in
       let second : is_plain (meaning.value_of_literal high) ≡ true = plain_literal high (loose_right (spell_literal low) _ both) in
-      all_flat is_plain_condition (λ meant. Compare meant AtLeast (meaning.value_of_literal low) ∷ Compare meant AtMost (meaning.value_of_literal high) ∷ []) (meaning.meanings schema from column)
+      all_flat is_plain_condition (λ meant. compared meant AtLeast (meaning.value_of_literal low) ∷ compared meant AtMost (meaning.value_of_literal high) ∷ []) (meaning.meanings schema from column)
       (all_each (λ meant. is_plain (meaning.value_of_literal low) && (is_plain (meaning.value_of_literal high) && true)) (meaning.meanings schema from column)
       (λ _. hold_both _ _ first (hold_both _ _ second refl)))
   plain_conditions (Joins left right) e =
@@ -258,28 +328,27 @@ loose_conditions text tree e =
     loose_where tree.conditions (loose_left (spell_where tree.conditions) (EndOfText ∷ []) (loose_right tables _ after))
 
 -- how many conditions an ask has
-one_at_most : (b : Bool) (test : Test) (rest : List Test) → length ((if b then test ∷ [] else []) ++ rest) ≤ 1 + length rest
+one_at_most : (b : Bool) (test : ColumnTest) (rest : List ColumnTest) → length ((if b then test ∷ [] else []) ++ rest) ≤ 1 + length rest
 one_at_most true test rest = omega arith
 one_at_most false test rest = omega arith
 
 module _ (schema : Schema) (from : List ℕ) (table : ℕ) where
-  few : (condition : Condition) (rest : List Test) → length (asks.test_of schema table condition ++ rest) ≤ 1 + length rest
-  few (Compare field operator value) rest =
-      one_at_most (field.table == table && is_visible schema table field.column) (record { column = field.column; operator = operator; value = value }) rest
-  few (Join left right) rest = omega arith
+  few : (test : Test) (field : Field) (rest : List ColumnTest) → length (asks.test_of schema table (OneOf (tested field test) []) ++ rest) ≤ 1 + length rest
+  few test field rest =
+      one_at_most (field.table == table && is_visible schema table field.column) (record { column = field.column; test = test; more = false }) rest
 
-  few_of_one : (f : Field → Condition) (fields : List Field) → length fields ≤ 1 → length (flat_map (asks.test_of schema table) (map f fields)) ≤ 1
-  few_of_one f [] h = omega arith
-  few_of_one f (field ∷ []) h = few (f field) []
-  few_of_one f (field ∷ other ∷ rest) h = absurd (omega (arith, h))
+  few_of_one : (test : Test) (fields : List Field) → length fields ≤ 1 → length (flat_map (asks.test_of schema table) (map (λ meant. OneOf (tested meant test) []) fields)) ≤ 1
+  few_of_one test [] h = omega arith
+  few_of_one test (field ∷ []) h = few test field []
+  few_of_one test (field ∷ other ∷ rest) h = absurd (omega (arith, h))
 
-  few_of_two : (f g : Field → Condition) (fields : List Field) → length fields ≤ 1 → length (flat_map (asks.test_of schema table) (flat_map (λ field. f field ∷ g field ∷ []) fields)) ≤ 2
-  few_of_two f g [] h = omega arith
-  few_of_two f g (field ∷ []) h =
-      let one = few (f field) (asks.test_of schema table (g field) ++ []) in
-      let two = few (g field) [] in
+  few_of_two : (low high : Value) (fields : List Field) → length fields ≤ 1 → length (flat_map (asks.test_of schema table) (flat_map (λ meant. compared meant AtLeast low ∷ compared meant AtMost high ∷ []) fields)) ≤ 2
+  few_of_two low high [] h = omega arith
+  few_of_two low high (field ∷ []) h =
+      let one = few (Compared AtLeast low) field (asks.test_of schema table (compared field AtMost high) ++ []) in
+      let two = few (Compared AtMost high) field [] in
       omega (arith, one, two)
-  few_of_two f g (field ∷ other ∷ rest) h = absurd (omega (arith, h))
+  few_of_two low high (field ∷ other ∷ rest) h = absurd (omega (arith, h))
 
   none_of_joins : (left : Field) (fields : List Field) → flat_map (asks.test_of schema table) (map (Join left) fields) ≡ []
   none_of_joins left [] = refl
@@ -289,7 +358,7 @@ module _ (schema : Schema) (from : List ℕ) (table : ℕ) where
   none_of_all_joins right [] = refl
   none_of_all_joins right (field ∷ fields) =
       flat_map-append (asks.test_of schema table) (map (Join field) right) (flat_map (λ left. map (Join left) right) fields)
-      ∙ (ap (λ (xs : List Test). xs ++ flat_map (asks.test_of schema table) (flat_map (λ left. map (Join left) right) fields)) (none_of_joins field right)
+      ∙ (ap (λ (xs : List ColumnTest). xs ++ flat_map (asks.test_of schema table) (flat_map (λ left. map (Join left) right) fields)) (none_of_joins field right)
       ∙ none_of_all_joins right fields)
 
   abbrev has_one : ColumnText → Bool
@@ -300,9 +369,11 @@ module _ (schema : Schema) (from : List ℕ) (table : ℕ) where
 
   few_tests : (condition : ConditionText) → list_all has_one (meaning.condition_columns condition) ≡ true → length (flat_map (asks.test_of schema table) (meaning.conditions_of schema from condition)) ≤ meaning.literal_conditions condition
   few_tests (Compares column operator literal) e =
-      few_of_one (λ meant. Compare meant operator (meaning.value_of_literal literal)) (meaning.meanings schema from column) (at_most_one column (both_hold (has_one column) true e).one)
+      few_of_one (Compared operator (meaning.value_of_literal literal)) (meaning.meanings schema from column) (at_most_one column (both_hold (has_one column) true e).one)
+  few_tests (TestsNull column negated) e =
+      few_of_one (meaning.null_test negated) (meaning.meanings schema from column) (at_most_one column (both_hold (has_one column) true e).one)
   few_tests (LiesBetween column low high) e =
-      few_of_two (λ meant. Compare meant AtLeast (meaning.value_of_literal low)) (λ meant. Compare meant AtMost (meaning.value_of_literal high)) (meaning.meanings schema from column) (at_most_one column (both_hold (has_one column) true e).one)
+      few_of_two (meaning.value_of_literal low) (meaning.value_of_literal high) (meaning.meanings schema from column) (at_most_one column (both_hold (has_one column) true e).one)
   few_tests (Joins left right) e =
       let none : length (flat_map (asks.test_of schema table) (meaning.conditions_of schema from (Joins left right))) ≡ 0 =
       ap length (none_of_all_joins (meaning.meanings schema from right) (meaning.meanings schema from left)) in
@@ -361,11 +432,13 @@ module _ (schema : Schema) (text : List ℕ) (tree : QueryText) (spells : symbol
       (hold_both _ _
       (hold_both _ _
       (hold_both _ _
-      (hold_both _ _ e (visible_columns schema query.select table))
-      (columns_ascend (asks.is_wanted schema query.select table) (columns_of schema table) refl))
+      (hold_both _ _
+      (hold_both _ _ e (visible_columns schema query table))
+      (columns_ascend (asks.is_wanted schema query table) (columns_of schema table) refl))
       (le-leb (length (short.tests_of schema table query.conditions)) 16 count))
       (visible_tests schema table query.conditions))
-      (sound_tests schema table query.conditions keeps.kinds keeps.literals plain)
+      (sound_tests schema table query.conditions keeps.kinds keeps.literals plain))
+      (tests_end schema table query.conditions)
 
   proper_asks : list_all (asks.is_proper_ask schema) (asks.asks_of schema (meaning.resolved schema tree)) ≡ true
   proper_asks =

@@ -1,13 +1,14 @@
 -- Combinations of the rows of a database themselves, and that an answer is formed of these.
-use Rattle.std.proofs.Common.{◌≡◌, refl, sym, ap, ◌∙◌, ℕ, suc, ◌+◌, Bool, true, false, ◌&&◌, nat_eq, List, [], ◌∷◌, ◌++◌, length, map, filter, flat_map, Option, Some, None, slice_get, unwrap_or, option_and_then, arith, if◌then◌else◌}
+use Rattle.std.proofs.Common.{◌≡◌, refl, sym, ap, ◌∙◌, ℕ, suc, ◌+◌, Bool, true, false, ◌&&◌, ◌||◌, nat_eq, List, [], ◌∷◌, ◌++◌, length, map, filter, flat_map, Option, Some, None, slice_get, unwrap_or, option_and_then, arith, if◌then◌else◌}
 use Rattle.std.specs.List.{list_all, range_with_len}
 use Rattle.std.proofs.lemmas.List.{map-append}
 use Rattle.ghost_model.specs.core.Values.{Value, Row, Rows, Database}
-use Rattle.ghost_model.specs.core.Query.{Query, Field, Condition, Compare, Join}
+use Rattle.ghost_model.specs.core.Query.{Query, Field, Member, Condition, OneOf, Join}
+use Rattle.ghost_model.specs.core.Groups.{each_of, some_of}
 use Rattle.ghost_model.specs.core.Query as query
 use Rattle.ghost_model.specs.core.Database.{rows_of, row_of, row_count, value_at_row}
 use Rattle.ghost_model.specs.core.Meaning as meaning
-use Rattle.ghost_model.specs.core.Meaning.{Pick, pick, compares, no_value, all_of}
+use Rattle.ghost_model.specs.core.Meaning.{Pick, pick, compares, meets_test, no_value, all_of}
 use Rattle.ghost_model.specs.laws.ShortWords.{others_of}
 
 -- a row of a table
@@ -33,9 +34,11 @@ row_in (one ∷ others) table = if nat_eq one.table table then Some one.row else
 abbrev pub value_in : Combination → Field → Option Value
 value_in combination wanted = option_and_then (λ row. slice_get row wanted.column) (row_in combination wanted.table)
 
+abbrev pub is_met_in : Combination → Member → Bool
+is_met_in combination one = meets_test one.test (value_in combination one.field)
+
 abbrev pub is_true_in : Combination → Condition → Bool
-is_true_in combination (Compare column operator literal) =
-    compares operator (value_in combination column) (Some literal)
+is_true_in combination (OneOf first others) = some_of (is_met_in combination) first others
 is_true_in combination (Join one other) = compares query.Equal (value_in combination one) (value_in combination other)
 
 abbrev pub passes : List Condition → Combination → Bool
@@ -78,6 +81,17 @@ same_all : {X : Type 0} (p q : X → Bool) (xs : List X) → ((x : X) → p x �
 same_all p q [] same = refl
 same_all p q (x ∷ xs) same = ap (λ b. b && list_all p xs) (same x) ∙ ap (λ b. q x && b) (same_all p q xs same)
 
+same_some :
+    {X : Type 0} (p q : X → Bool) (first : X) (others : List X) → ((x : X) → p x ≡ q x)
+    → some_of p first others ≡ some_of q first others
+same_some p q first [] same = same first
+same_some p q first (next ∷ others) same = ap (λ b. b || some_of p next others) (same first) ∙ ap (λ b. q first || b) (same_some p q next others same)
+
+-- a database judges no group beforehand
+none_judged : {X : Type 0} (first : X) (others : List X) → each_of (λ (x : X). false) first others ≡ false
+none_judged first [] = refl
+none_judged first (next ∷ others) = refl
+
 all_admitted : {X : Type 0} (xs : List X) → list_all (λ (x : X). true) xs ≡ true
 all_admitted [] = refl
 all_admitted (x ∷ xs) = all_admitted xs
@@ -100,7 +114,10 @@ module _ (database : Database) where
       ])
 
   true_same : (x : List Pick) (c : Condition) → meaning.is_true_in (all_of database) x c ≡ is_true_in (map chosen x) c
-  true_same x (Compare column operator literal) = ap (λ o. compares operator o (Some literal)) (value_same x column)
+  true_same x (OneOf first others) =
+      ap (λ (b : Bool). if b then true else some_of (meaning.is_met_in (all_of database) x) first others) (none_judged first others)
+      ∙ same_some (meaning.is_met_in (all_of database) x) (is_met_in (map chosen x)) first others
+      (λ one. ap (λ o. meets_test one.test o) (value_same x one.field))
   true_same x (Join one other) =
       ap (λ o. compares query.Equal o (meaning.value_in (all_of database) x other)) (value_same x one)
       ∙ ap (λ o. compares query.Equal (value_in (map chosen x) one) o) (value_same x other)

@@ -1,14 +1,14 @@
--- What an accepted query says of its columns: each is of a table that the query is from, and a join is between columns
--- that are not visible.
+-- What an accepted query says of its columns: each is of a table that the query is from, those of a group are of one table,
+-- and a join is between columns that are not visible.
 use Rattle.std.proofs.Common.{◌≡◌, ℕ, inl, inr, Bool, true, false, not, ◌&&◌, ◌||◌, List, [], ◌∷◌, ◌++◌, map, filter, flat_map, sym, ◌∙◌, ap, subst, refl, Option, Some, None, option_map, is_none, length, nat_lt}
 use Rattle.std.specs.Prelude.{◌==◌, option_to_list, option_and_then}
 use Rattle.std.specs.List.{list_all, list_any}
 use Rattle.std.proofs.lemmas.Bool.{eqb-true, eq-eqb}
 use Rattle.ghost_model.specs.core.Schema.{Schema, Column, columns_of, column_at, places_where, is_table, is_shown, is_visible}
 use Rattle.ghost_model.specs.laws.SchemaTrees.{IsTree}
-use Rattle.ghost_model.specs.core.Query.{Query, Field, Condition, Compare, Join, AtMost, AtLeast, is_among, top_of}
-use Rattle.ghost_model.specs.refusals.QueryGrammar.{ColumnText, Bare, Qualified, ConditionText, Compares, LiesBetween, Joins, Selection, All, Columns, QueryText}
-use Rattle.ghost_model.specs.refusals.QueryMeaning.{field, value_of_literal, table_named, fields_named, fields_of, meanings, conditions_of, selected_fields, resolved, has_repeat, is_reference_to, is_proper, lacks_join, columns_in, Means}
+use Rattle.ghost_model.specs.core.Query.{Query, Field, Member, Condition, OneOf, Join, tested, compared, AtMost, AtLeast, is_among, top_of}
+use Rattle.ghost_model.specs.refusals.QueryGrammar.{ColumnText, Bare, Qualified, ConditionText, Compares, TestsNull, LiesBetween, Joins, Selection, All, Columns, QueryText}
+use Rattle.ghost_model.specs.refusals.QueryMeaning.{field, value_of_literal, null_test, table_named, fields_named, fields_of, meanings, conditions_of, selected_fields, resolved, has_repeat, is_reference_to, is_proper, lacks_join, columns_in, Means}
 use Rattle.ghost_model.specs.laws.ShortWords.{column_named}
 use Rattle.ghost_model.proofs.QueryReadingLemmas.{kept_rules}
 use Rattle.ghost_model.proofs.ChannelLemmas.Tests.{false_is_not, BothHold, both_hold}
@@ -44,8 +44,9 @@ module _ (schema : Schema) (from : List ℕ) where
   abbrev pub IsFrom : Field → Type 0
   IsFrom one = Among one.table from
 
+  -- a group is of columns of one table
   abbrev pub ComparesFrom : Condition → Type 0
-  ComparesFrom (Compare one operator value) = Among one.table from
+  ComparesFrom (OneOf first others) = Among first.field.table from × Each (λ (one : Member). one.field.table ≡ first.field.table) others
   ComparesFrom (Join one other) = Unit {0}
 
   named_from : (table : ℕ) (o : Option ℕ) → Among table from → Each IsFrom (option_to_list (option_map (field table) o))
@@ -67,9 +68,11 @@ module _ (schema : Schema) (from : List ℕ) where
 
   conditions_from : (condition : ConditionText) → Each ComparesFrom (conditions_of schema from condition)
   conditions_from (Compares column operator literal) =
-      each_mapped ComparesFrom IsFrom (λ meant. Compare meant operator _) (meanings schema from column) (λ one h. h) (meanings_from column)
+      each_mapped ComparesFrom IsFrom (λ meant. compared meant operator (value_of_literal literal)) (meanings schema from column) (λ one h. (h, tt)) (meanings_from column)
+  conditions_from (TestsNull column negated) =
+      each_mapped ComparesFrom IsFrom (λ meant. OneOf (tested meant (null_test negated)) []) (meanings schema from column) (λ one h. (h, tt)) (meanings_from column)
   conditions_from (LiesBetween column low high) =
-      two_from (meanings schema from column) (λ meant. Compare meant AtLeast (value_of_literal low) ∷ Compare meant AtMost (value_of_literal high) ∷ []) (λ one h. (h, (h, tt))) (meanings_from column)
+      two_from (meanings schema from column) (λ meant. compared meant AtLeast (value_of_literal low) ∷ compared meant AtMost (value_of_literal high) ∷ []) (λ one h. ((h, tt), ((h, tt), tt))) (meanings_from column)
   conditions_from (Joins left right) =
       each_flat ComparesFrom (λ meant. map (Join meant) (meanings schema from right)) (meanings schema from left)
       (λ one a. joins_from one (meanings schema from right))
@@ -94,7 +97,7 @@ and_false true b e = e
 and_false false b e = refl
 
 abbrev pub JoinsUnseen : Schema → Condition → Type 0
-JoinsUnseen schema (Compare one operator value) = Unit {0}
+JoinsUnseen schema (OneOf first others) = Unit {0}
 JoinsUnseen schema (Join one other) = IsUnseen schema one × IsUnseen schema other
 
 module _ (schema : Schema) (tree : IsTree schema) where
@@ -111,7 +114,7 @@ module _ (schema : Schema) (tree : IsTree schema) where
       )
 
   join_unseen : (condition : Condition) → is_proper schema condition ≡ true → JoinsUnseen schema condition
-  join_unseen (Compare one operator value) h = tt
+  join_unseen (OneOf first others) h = tt
   join_unseen (Join left right) h =
       (elim (either_true (is_reference_to schema left right) (is_reference_to schema right left) h) [
         | inl e ↦ key_unseen left right e

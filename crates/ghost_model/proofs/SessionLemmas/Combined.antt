@@ -1,24 +1,25 @@
 -- That from the hidden part and whole replies follows the answer: combination by combination.
-use Rattle.std.proofs.Common.{◌≡◌, ℕ, zero, suc, ◌+◌, ◌<◌, ◌≤◌, inl, inr, Bool, true, false, not, ◌&&◌, ◌||◌, List, [], ◌∷◌, ◌++◌, length, map, filter, flat_map, sym, ◌∙◌, ap, subst, refl, arith, Option, Some, None, slice_get, unwrap_or}
+use Rattle.std.proofs.Common.{◌≡◌, ℕ, zero, suc, ◌+◌, ◌<◌, ◌≤◌, inl, inr, Bool, true, false, not, ◌&&◌, List, [], ◌∷◌, ◌++◌, length, map, filter, flat_map, sym, ◌∙◌, ap, subst, refl, arith, Option, Some, None, slice_get, unwrap_or}
 use Rattle.std.specs.Prelude.{◌==◌, if◌then◌else◌, option_and_then}
 use Rattle.std.specs.List.{list_all, list_any, range_with_len}
 use Rattle.std.proofs.lemmas.List.{length-map}
-use Rattle.std.proofs.lemmas.List.Folds.{list_all-append}
 use Rattle.std.proofs.lemmas.Bool.Decides.{nat_tests}
 use Rattle.std.proofs.lemmas.Bool.{eqb-true}
 use Rattle.ghost_model.specs.core.Schema.{Schema, is_visible, parent}
 use Rattle.ghost_model.specs.laws.SchemaTrees.{IsTree}
 use Rattle.ghost_model.specs.core.Values.{Value, Row, Rows, Database}
-use Rattle.ghost_model.specs.core.Query.{Query, Field, Condition, Compare, Join, Operator, top_of, only, is_some_among}
+use Rattle.ghost_model.specs.core.Query.{Query, Field, Member, members_of_group, Condition, OneOf, Join, top_of, only, is_some_among}
 use Rattle.ghost_model.specs.core.Query as query
 use Rattle.ghost_model.specs.refusals.QueryMeaning.{Means}
-use Rattle.ghost_model.specs.core.Channel.{Test}
-use Rattle.ghost_model.specs.core.Asks.{test_of}
-use Rattle.ghost_model.specs.laws.ShortWords.{tests_of, is_field, rows_or_none, others_of, meets_test}
+use Rattle.ghost_model.specs.core.Groups.{each_of, some_of, each_group}
+use Rattle.ghost_model.specs.core.Channel.{ColumnTest}
+use Rattle.ghost_model.specs.core.Asks.{column_test, is_column, is_mixed, names_column, is_wanted}
+use Rattle.ghost_model.specs.core.Asks as asks
+use Rattle.ghost_model.specs.laws.ShortWords.{tests_of, rows_or_none, others_of}
 use Rattle.ghost_model.specs.core.Database.{rows_of, row_of, row_count, IsDatabase}
 use Rattle.ghost_model.specs.core.Split.{Hidden, hidden_of, public_of}
 use Rattle.ghost_model.specs.core.Meaning as meaning
-use Rattle.ghost_model.specs.core.Meaning.{Pick, pick, combinations, compares, no_value, all_of, answer_by_top, answer}
+use Rattle.ghost_model.specs.core.Meaning.{Pick, pick, combinations, compares, meets_test, no_value, all_of, answer_by_top, answer}
 use Rattle.ghost_model.proofs.MeaningLemmas.PartsByFlags.{hidden_rows_at}
 use Rattle.ghost_model.specs.core.Replies as replies
 use Rattle.ghost_model.specs.core.Replies.{Reply, known_value, known, answer_from}
@@ -26,16 +27,21 @@ use Rattle.ghost_model.specs.laws.SessionLaws.{whole_replies}
 use Rattle.ghost_model.proofs.ChannelLemmas.Tests.{false_is_not, BothHold, both_hold, hold_both}
 use Rattle.ghost_model.proofs.MeaningLemmas.Picks.{picks, identifiers_of, known_in, is_true_or_asked, stands_in_reply, is_kept, answer_of_pick}
 use Rattle.ghost_model.proofs.MeaningLemmas.ByRows as by_row
-use Rattle.ghost_model.proofs.MeaningLemmas.ByRows.{Chosen, choice, Combination, row_combinations, row_in, value_in, is_true_in, passes, projection, answer_of_row, mapped_twice, by_rows}
+use Rattle.ghost_model.proofs.MeaningLemmas.ByRows.{Chosen, choice, Combination, row_combinations, row_in, value_in, is_met_in, is_true_in, passes, projection, answer_of_row, mapped_twice, by_rows}
 use Rattle.ghost_model.proofs.MeaningLemmas.OneRow.{Among, Distinct, among-filter, from_filter, not_equal}
-use Rattle.ghost_model.proofs.SessionLemmas.Whole.{stands_by, stands_in_is, known_is}
+use Rattle.ghost_model.proofs.SessionLemmas.Whole.{holds_in, stands_by, stands_in_is, known_is}
 use Rattle.ghost_model.proofs.SessionLemmas.Accepted.{Each, each_is, ComparesFrom, JoinsUnseen, IsSound, query_is_sound}
+use Rattle.ghost_model.proofs.SessionLemmas.Members.{left_true, right_true, any_true, some_true, some_agree, each_true, true_of_each, says_more, no_group_fails, group_then}
 
 same_bool : (a b : Bool) → (a ≡ true → b ≡ true) → (b ≡ true → a ≡ true) → a ≡ b
 same_bool true true p q = refl
 same_bool true false p q = sym (p refl)
 same_bool false true p q = q refl
 same_bool false false p q = refl
+
+never_true : (b : Bool) → (b ≡ true → ⊥) → b ≡ false
+never_true true h = absurd (h refl)
+never_true false h = refl
 
 same_number : (n : ℕ) → (n == n) ≡ true
 same_number n = grind (arith, nat_tests)
@@ -84,20 +90,9 @@ there_is [] place other h = absurd (omega (arith, h))
 there_is (x ∷ xs) zero other h = refl
 there_is (x ∷ xs) (suc place) other h = there_is xs place other (omega (arith, h))
 
-field_selected : (f : Field) (select : List Field) → Among f select → list_any (is_field f.table f.column) select ≡ true
-field_selected f [] h = absurd h
-field_selected f (first ∷ select) (inl same) =
-    ap (λ (b : Bool). b || list_any (is_field f.table f.column) select)
-    (ap (λ (g : Field). is_field f.table f.column g) same ∙ hold_both (f.table == f.table) (f.column == f.column) (same_number f.table) (same_number f.column))
-field_selected f (first ∷ select) (inr later) = either (is_field f.table f.column first) (list_any (is_field f.table f.column) select) (field_selected f select later)
-  where
-    either : (a b : Bool) → b ≡ true → (a || b) ≡ true
-    either true b h = refl
-    either false b h = h
-
-met_as : (column : ℕ) (operator : Operator) (value : Value) (found : Option Value) → meets_test (record { column = column; operator = operator; value = value }) found ≡ compares operator found (Some value)
-met_as column operator value None = refl
-met_as column operator value (Some found) = refl
+field_selected : (f : Field) (select : List Field) → Among f select → list_any (is_column f.table f.column) select ≡ true
+field_selected f select among =
+    any_true (is_column f.table f.column) f select among (hold_both (f.table == f.table) (f.column == f.column) (same_number f.table) (same_number f.column))
 
 module _ (schema : Schema) (database : Database) (is : IsDatabase schema database) (asked : Query) where
   abbrev kept : Hidden
@@ -130,17 +125,17 @@ module _ (schema : Schema) (database : Database) (is : IsDatabase schema databas
   -- known values are those of the rows
   known_one :
       (one : Pick) (f : Field) → IsThere one → one.table ≡ f.table
-      → (is_visible schema f.table f.column ≡ true → Stands one × (list_any (is_field f.table f.column) asked.select ≡ true))
+      → (is_visible schema f.table f.column ≡ true → Stands one × (is_wanted schema asked f.table f.column ≡ true))
       → known_value schema kept given one.table one.identifier f.column ≡ slice_get (row_at one) f.column
   known_one one f there same told =
       subst (λ (n : ℕ). known_value schema kept given one.table n f.column ≡ slice_get (row_at one) f.column) (sym there.numbered)
       (known_is schema database is asked one.table there.place f.column (row_at one) there.stands
       (λ v. let t = told (subst (λ (n : ℕ). is_visible schema n f.column ≡ true) same v) in
-      record { from = there.from; stands = t.0; selected = subst (λ (n : ℕ). list_any (is_field n f.column) asked.select ≡ true) (sym same) t.1 }))
+      record { from = there.from; stands = t.0; wanted = subst (λ (n : ℕ). is_wanted schema asked n f.column ≡ true) (sym same) t.1 }))
 
   known_agrees :
       (combination : List Pick) (f : Field) → Each IsThere combination
-      → (is_visible schema f.table f.column ≡ true → Each Stands combination × (list_any (is_field f.table f.column) asked.select ≡ true))
+      → (is_visible schema f.table f.column ≡ true → Each Stands combination × (is_wanted schema asked f.table f.column ≡ true))
       → known_in schema kept given combination f ≡ value_in (map chosen combination) f
   known_agrees [] f there told = refl
   known_agrees (one ∷ others) f there told =
@@ -180,50 +175,78 @@ module _ (schema : Schema) (database : Database) (is : IsDatabase schema databas
   own_rows (one ∷ others) d =
       (ap (λ (b : Bool). if b then Some (row_at one) else row_in (map chosen others) one.table) (same_number one.table), tail_rows one others others d.0 (own_rows others d.1))
 
-  -- the conditions of a table, as tests
-  abbrev holds_in : Row → Test → Bool
-  holds_in row test = meets_test test (slice_get row test.column)
+  -- a condition holds in a row of a table, where it is a visible group of that table
+  abbrev meets_in : Row → Member → Bool
+  meets_in row one = meets_test one.test (slice_get row one.field.column)
 
-  test_holds :
-      (table : ℕ) (row : Row) (conditions : List Condition) (f : Field) (operator : Operator) (value : Value)
-      → list_all (holds_in row) (tests_of schema table conditions) ≡ true → Among (Compare f operator value) conditions → f.table ≡ table
-      → is_visible schema table f.column ≡ true → compares operator (slice_get row f.column) (Some value) ≡ true
-  test_holds table row [] f operator value h among same v = absurd among
-  test_holds table row (first ∷ conditions) f operator value h (inr later) same v =
-      let both : BothHold (list_all (holds_in row) (test_of schema table first)) (list_all (holds_in row) (tests_of schema table conditions)) =
-      both_hold _ _ (sym (list_all-append (holds_in row) (test_of schema table first) (tests_of schema table conditions)) ∙ h) in
-      test_holds table row conditions f operator value both.other later same v
-  test_holds table row (first ∷ conditions) f operator value h (inl is_it) same v =
-      let both : BothHold (list_all (holds_in row) (test_of schema table first)) (list_all (holds_in row) (tests_of schema table conditions)) =
-      both_hold _ _ (sym (list_all-append (holds_in row) (test_of schema table first) (tests_of schema table conditions)) ∙ h) in
-      let this : list_all (holds_in row) (test_of schema table (Compare f operator value)) ≡ true =
-      subst (λ (c : Condition). list_all (holds_in row) (test_of schema table c) ≡ true) is_it both.one in
-      let meant : Test = record { column = f.column; operator = operator; value = value } in
-      let taken : (f.table == table && is_visible schema table f.column) ≡ true =
-      hold_both _ _ (ap (λ (n : ℕ). n == table) same ∙ same_number table) v in
-      let alone : BothHold (holds_in row meant) true = both_hold _ _ (sym (ap (λ (b : Bool). list_all (holds_in row) (if b then meant ∷ [] else [])) taken) ∙ this) in
-      sym (met_as f.column operator value (slice_get row f.column)) ∙ alone.one
+  abbrev group_holds : (table : ℕ) → Row → Condition → Bool
+  group_holds table row (OneOf first others) =
+      if each_of (asks.is_shown schema table) first others then some_of (meets_in row) first others else true
+  group_holds table row (Join left right) = true
 
-  tests_if : (row : Row) (b : Bool) (test : Test) → (b ≡ true → holds_in row test ≡ true) → list_all (holds_in row) (if b then test ∷ [] else []) ≡ true
-  tests_if row true test h = hold_both (holds_in row test) true (h refl) refl
-  tests_if row false test h = refl
+  abbrev all_hold : (table : ℕ) → Row → List Condition → Bool
+  all_hold table row conditions = each_group says_more (holds_in schema database is asked row) (tests_of schema table conditions)
 
-  test_from : (combination : List Pick) (one : Pick) → row_in (map chosen combination) one.table ≡ Some (row_at one) → (condition : Condition) → is_true_in (map chosen combination) condition ≡ true → list_all (holds_in (row_at one)) (test_of schema one.table condition) ≡ true
-  test_from combination one at (Join left right) h = refl
-  test_from combination one at (Compare f operator value) h =
-      tests_if (row_at one) (f.table == one.table && is_visible schema one.table f.column) (record { column = f.column; operator = operator; value = value })
-      (λ e.
-      let both : BothHold (f.table == one.table) (is_visible schema one.table f.column) = both_hold _ _ e in
-      let row : row_in (map chosen combination) f.table ≡ Some (row_at one) = ap (λ (n : ℕ). row_in (map chosen combination) n) (eqb-true f.table one.table both.one) ∙ at in
-      met_as f.column operator value (slice_get (row_at one) f.column)
-      ∙ (sym (ap (λ (o : Option Row). compares operator (option_and_then (λ r. slice_get r f.column) o) (Some value)) row) ∙ h))
+  holds_as :
+      (row : Row) (test : ColumnTest) (one : Member) → test.column ≡ one.field.column → test.test ≡ one.test
+      → holds_in schema database is asked row test ≡ meets_in row one
+  holds_as row test one column same = ap (λ t. meets_test t (slice_get row test.column)) same ∙ ap (λ (n : ℕ). meets_test one.test (slice_get row n)) column
 
-  stands_from : (combination : List Pick) (one : Pick) → row_in (map chosen combination) one.table ≡ Some (row_at one) → (conditions : List Condition) → list_all (is_true_in (map chosen combination)) conditions ≡ true → list_all (holds_in (row_at one)) (tests_of schema one.table conditions) ≡ true
-  stands_from combination one at [] h = refl
+  hold_then :
+      (table : ℕ) (row : Row) (condition : Condition) (conditions : List Condition)
+      → all_hold table row (condition ∷ conditions) ≡ (group_holds table row condition && all_hold table row conditions)
+  hold_then table row (Join left right) conditions = refl
+  hold_then table row (OneOf first others) conditions =
+      (elim (each_of (asks.is_shown schema table) first others) as (λ v. each_group says_more (holds_in schema database is asked row) ((if v then map column_test (members_of_group first others) else []) ++ tests_of schema table conditions) ≡ ((if v then some_of (meets_in row) first others else true) && all_hold table row conditions)) [
+        | true ↦ group_then (holds_in schema database is asked row) (meets_in row) (holds_as row) first others (tests_of schema table conditions)
+        | false ↦ refl
+      ])
+
+  condition_holds :
+      (table : ℕ) (row : Row) (conditions : List Condition) (condition : Condition) → all_hold table row conditions ≡ true
+      → Among condition conditions → group_holds table row condition ≡ true
+  condition_holds table row [] condition h among = absurd among
+  condition_holds table row (first ∷ conditions) condition h among =
+      let both : BothHold (group_holds table row first) (all_hold table row conditions) =
+      both_hold _ _ (sym (hold_then table row first conditions) ∙ h) in
+      (elim among [
+        | inl same ↦ subst (λ (c : Condition). group_holds table row c ≡ true) same both.one
+        | inr later ↦ condition_holds table row conditions condition both.other later
+      ])
+
+  -- a member of a visible group is met in a row of its table where it is met in a combination with that row
+  met_as :
+      (combination : List Pick) (one : Pick) (first : Member) (others : List Member) → row_in (map chosen combination) one.table ≡ Some (row_at one)
+      → each_of (asks.is_shown schema one.table) first others ≡ true → some_of (is_met_in (map chosen combination)) first others ≡ some_of (meets_in (row_at one)) first others
+  met_as combination one first others at shown =
+      some_agree (is_met_in (map chosen combination)) (meets_in (row_at one)) first others
+      (λ member among.
+      let both : BothHold (member.field.table == one.table) (is_visible schema one.table member.field.column) =
+      both_hold _ _ (each_true (asks.is_shown schema one.table) member first others shown among) in
+      let row : row_in (map chosen combination) member.field.table ≡ Some (row_at one) =
+      ap (λ (n : ℕ). row_in (map chosen combination) n) (eqb-true member.field.table one.table both.one) ∙ at in
+      ap (λ (o : Option Row). meets_test member.test (option_and_then (λ r. slice_get r member.field.column) o)) row)
+
+  holds_from :
+      (combination : List Pick) (one : Pick) → row_in (map chosen combination) one.table ≡ Some (row_at one)
+      → (condition : Condition) → is_true_in (map chosen combination) condition ≡ true
+      → group_holds one.table (row_at one) condition ≡ true
+  holds_from combination one at (Join left right) h = refl
+  holds_from combination one at (OneOf first others) h =
+      (elim (each_of (asks.is_shown schema one.table) first others) as (λ v. each_of (asks.is_shown schema one.table) first others ≡ v → (if v then some_of (meets_in (row_at one)) first others else true) ≡ true) [
+        | true ↦ λ e. sym (met_as combination one first others at e) ∙ h
+        | false ↦ λ e. refl
+      ]) refl
+
+  stands_from :
+      (combination : List Pick) (one : Pick) → row_in (map chosen combination) one.table ≡ Some (row_at one)
+      → (conditions : List Condition) → list_all (is_true_in (map chosen combination)) conditions ≡ true
+      → all_hold one.table (row_at one) conditions ≡ true
+  stands_from combination one at [] h = no_group_fails says_more (holds_in schema database is asked (row_at one)) [] refl
   stands_from combination one at (condition ∷ conditions) h =
       let both : BothHold (is_true_in (map chosen combination) condition) (list_all (is_true_in (map chosen combination)) conditions) = both_hold _ _ h in
-      list_all-append (holds_in (row_at one)) (test_of schema one.table condition) (tests_of schema one.table conditions)
-      ∙ hold_both _ _ (test_from combination one at condition both.one) (stands_from combination one at conditions both.other)
+      hold_then one.table (row_at one) condition conditions
+      ∙ hold_both _ _ (holds_from combination one at condition both.one) (stands_from combination one at conditions both.other)
 
   all_stand_from : (combination some : List Pick) → Each (λ (one : Pick). row_in (map chosen combination) one.table ≡ Some (row_at one)) some → passes asked.conditions (map chosen combination) ≡ true → Each Stands some
   all_stand_from combination [] e h = tt
@@ -246,19 +269,66 @@ module _ (schema : Schema) (database : Database) (is : IsDatabase schema databas
   stand_all (one ∷ others) there h = hold_both _ _ (stands_is one there.0 ∙ h.0) (stand_all others there.1 h.1)
 
   -- conditions
-  visible_true :
-      (combination : List Pick) (f : Field) (operator : Operator) (value : Value) → Each Stands combination
-      → Among f.table (map (λ (one : Pick). one.table) combination) → Among (Compare f operator value) asked.conditions
-      → is_visible schema f.table f.column ≡ true → is_true_in (map chosen combination) (Compare f operator value) ≡ true
-  visible_true combination f operator value stand h among v =
-      let it = found_in combination f.table h in
-      let stands : Stands it.0 = each_is Stands it.0 combination stand it.1 in
-      ap (λ (o : Option Row). compares operator (option_and_then (λ row. slice_get row f.column) o) (Some value)) it.3
-      ∙ test_holds it.0.table (row_at it.0) asked.conditions f operator value stands among (sym it.2)
-      (subst (λ (n : ℕ). is_visible schema n f.column ≡ true) (sym it.2) v)
+  abbrev is_judged : Member → Bool
+  is_judged one = is_visible schema one.field.table one.field.column
 
-  compared_agrees : (combination : List Pick) (f : Field) (operator : Operator) (value : Value) → Each IsThere combination → is_visible schema f.table f.column ≡ false → compares operator (known_in schema kept given combination f) (Some value) ≡ compares operator (value_in (map chosen combination) f) (Some value)
-  compared_agrees combination f operator value there e = ap (λ (o : Option Value). compares operator o (Some value)) (unseen_agrees combination f there e)
+  judged_true :
+      (combination : List Pick) (first : Member) (others : List Member) → Each Stands combination
+      → ComparesFrom schema (map (λ (one : Pick). one.table) combination) (OneOf first others) → Among (OneOf first others) asked.conditions
+      → each_of is_judged first others ≡ true → is_true_in (map chosen combination) (OneOf first others) ≡ true
+  judged_true combination first others stand from among judged =
+      let it = found_in combination first.field.table from.0 in
+      let stands : Stands it.0 = each_is Stands it.0 combination stand it.1 in
+      let of_one : (member : Member) → Among member (first ∷ others) → member.field.table ≡ it.0.table = λ member a.
+      (elim a [
+        | inl same ↦ sym (it.2 ∙ ap (λ (m : Member). m.field.table) same)
+        | inr later ↦ each_is (λ (m : Member). m.field.table ≡ first.field.table) member others from.1 later ∙ sym it.2
+      ]) in
+      let shown : each_of (asks.is_shown schema it.0.table) first others ≡ true =
+      true_of_each (asks.is_shown schema it.0.table) first others
+      (λ member a.
+      hold_both _ _ (ap (λ (n : ℕ). n == it.0.table) (of_one member a) ∙ same_number it.0.table)
+      (subst (λ (n : ℕ). is_visible schema n member.field.column ≡ true) (of_one member a) (each_true is_judged member first others judged a))) in
+      let at : row_in (map chosen combination) it.0.table ≡ Some (row_at it.0) =
+      ap (λ (n : ℕ). row_in (map chosen combination) n) it.2 ∙ it.3 in
+      let holds : group_holds it.0.table (row_at it.0) (OneOf first others) ≡ true =
+      condition_holds it.0.table (row_at it.0) asked.conditions (OneOf first others) stands among in
+      met_as combination it.0 first others at shown
+      ∙ (sym (ap (λ (b : Bool). if b then some_of (meets_in (row_at it.0)) first others else true) shown) ∙ holds)
+
+  -- a visible column of a mixed group is wanted
+  mixed_wanted :
+      (first : Member) (others : List Member) (member : Member) → Among (OneOf first others) asked.conditions → Among member (first ∷ others)
+      → each_of is_judged first others ≡ false → is_judged member ≡ true → is_wanted schema asked member.field.table member.field.column ≡ true
+  mixed_wanted first others member among within unjudged visible =
+      let table : ℕ = member.field.table in
+      let column : ℕ = member.field.column in
+      let some_shown : some_of (asks.is_shown schema table) first others ≡ true =
+      some_true (asks.is_shown schema table) member first others within (hold_both _ _ (same_number table) visible) in
+      let judged_if : each_of (asks.is_shown schema table) first others ≡ true → each_of is_judged first others ≡ true = λ shown.
+      true_of_each is_judged first others
+      (λ other a.
+      let both : BothHold (other.field.table == table) (is_visible schema table other.field.column) =
+      both_hold _ _ (each_true (asks.is_shown schema table) other first others shown a) in
+      subst (λ (n : ℕ). is_visible schema n other.field.column ≡ true) (sym (eqb-true other.field.table table both.one)) both.other) in
+      let mixed : is_mixed schema table (OneOf first others) ≡ true =
+      hold_both _ _ some_shown (ap not (never_true _ (λ shown. false_is_not (sym unjudged ∙ judged_if shown)))) in
+      let named : names_column table column (OneOf first others) ≡ true =
+      some_true (λ (one : Member). is_column table column one.field) member first others within (hold_both _ _ (same_number table) (same_number column)) in
+      hold_both (is_visible schema table column) _ visible
+      (right_true (list_any (is_column table column) asked.select) _
+      (any_true (λ condition. is_mixed schema table condition && names_column table column condition) (OneOf first others) asked.conditions among (hold_both _ _ mixed named)))
+
+  -- the members of a group that was not judged
+  members_agree :
+      (combination : List Pick) (first : Member) (others : List Member) → Each IsThere combination → Each Stands combination
+      → Among (OneOf first others) asked.conditions → each_of is_judged first others ≡ false
+      → some_of (meaning.is_met_in (known schema kept given) combination) first others ≡ some_of (is_met_in (map chosen combination)) first others
+  members_agree combination first others there stand among unjudged =
+      some_agree (meaning.is_met_in (known schema kept given) combination) (is_met_in (map chosen combination)) first others
+      (λ member within.
+      ap (λ (o : Option Value). meets_test member.test o)
+      (known_agrees combination member.field there (λ v. (stand, mixed_wanted first others member among within unjudged v))))
 
   join_agrees : (combination : List Pick) (one other : Field) → Each IsThere combination → is_visible schema one.table one.column ≡ false → is_visible schema other.table other.column ≡ false → is_true_or_asked schema kept given combination (Join one other) ≡ is_true_in (map chosen combination) (Join one other)
   join_agrees combination one other there d e =
@@ -269,22 +339,22 @@ module _ (schema : Schema) (database : Database) (is : IsDatabase schema databas
       (combination : List Pick) (condition : Condition) → Each IsThere combination → Each Stands combination
       → (ComparesFrom schema (map (λ (one : Pick). one.table) combination) condition) → JoinsUnseen schema condition → Among condition asked.conditions
       → is_true_or_asked schema kept given combination condition ≡ true → is_true_in (map chosen combination) condition ≡ true
-  condition_true combination (Compare f operator value) there stand from unseen among h =
-      (elim (is_visible schema f.table f.column) as (λ v. is_visible schema f.table f.column ≡ v → (if v then true else compares operator (known_in schema kept given combination f) (Some value)) ≡ true → is_true_in (map chosen combination) (Compare f operator value) ≡ true) [
-        | true ↦ λ e k. visible_true combination f operator value stand from among e
-        | false ↦ λ e k. sym (compared_agrees combination f operator value there e) ∙ k
+  condition_true combination (OneOf first others) there stand from unseen among h =
+      (elim (each_of is_judged first others) as (λ v. each_of is_judged first others ≡ v → (if v then true else some_of (meaning.is_met_in (known schema kept given) combination) first others) ≡ true → is_true_in (map chosen combination) (OneOf first others) ≡ true) [
+        | true ↦ λ e k. judged_true combination first others stand from among e
+        | false ↦ λ e k. sym (members_agree combination first others there stand among e) ∙ k
       ]) refl h
   condition_true combination (Join one other) there stand from unseen among h = sym (join_agrees combination one other there unseen.0 unseen.1) ∙ h
 
   condition_asked :
-      (combination : List Pick) (condition : Condition) → Each IsThere combination → JoinsUnseen schema condition
-      → is_true_in (map chosen combination) condition ≡ true → is_true_or_asked schema kept given combination condition ≡ true
-  condition_asked combination (Compare f operator value) there unseen h =
-      (elim (is_visible schema f.table f.column) as (λ v. is_visible schema f.table f.column ≡ v → (if v then true else compares operator (known_in schema kept given combination f) (Some value)) ≡ true) [
+      (combination : List Pick) (condition : Condition) → Each IsThere combination → Each Stands combination → JoinsUnseen schema condition
+      → Among condition asked.conditions → is_true_in (map chosen combination) condition ≡ true → is_true_or_asked schema kept given combination condition ≡ true
+  condition_asked combination (OneOf first others) there stand unseen among h =
+      (elim (each_of is_judged first others) as (λ v. each_of is_judged first others ≡ v → (if v then true else some_of (meaning.is_met_in (known schema kept given) combination) first others) ≡ true) [
         | true ↦ λ e. refl
-        | false ↦ λ e. compared_agrees combination f operator value there e ∙ h
+        | false ↦ λ e. members_agree combination first others there stand among e ∙ h
       ]) refl
-  condition_asked combination (Join one other) there unseen h = join_agrees combination one other there unseen.0 unseen.1 ∙ h
+  condition_asked combination (Join one other) there stand unseen among h = join_agrees combination one other there unseen.0 unseen.1 ∙ h
 
   all_true :
       (combination : List Pick) (conditions : List Condition) → Each IsThere combination → Each Stands combination
@@ -297,15 +367,19 @@ module _ (schema : Schema) (database : Database) (is : IsDatabase schema databas
       hold_both _ _ (condition_true combination condition there stand from.0 unseen.0 (among condition (inl refl)) both.one)
       (all_true combination conditions there stand from.1 unseen.1 (λ other a. among other (inr a)) both.other)
 
-  all_asked : (combination : List Pick) (conditions : List Condition) → Each IsThere combination → Each (JoinsUnseen schema) conditions → passes conditions (map chosen combination) ≡ true → list_all (is_true_or_asked schema kept given combination) conditions ≡ true
-  all_asked combination [] there unseen h = refl
-  all_asked combination (condition ∷ conditions) there unseen h =
+  all_asked :
+      (combination : List Pick) (conditions : List Condition) → Each IsThere combination → Each Stands combination → Each (JoinsUnseen schema) conditions
+      → ((condition : Condition) → Among condition conditions → Among condition asked.conditions)
+      → passes conditions (map chosen combination) ≡ true → list_all (is_true_or_asked schema kept given combination) conditions ≡ true
+  all_asked combination [] there stand unseen among h = refl
+  all_asked combination (condition ∷ conditions) there stand unseen among h =
       let both : BothHold (is_true_in (map chosen combination) condition) (passes conditions (map chosen combination)) = both_hold _ _ h in
-      hold_both _ _ (condition_asked combination condition there unseen.0 both.one) (all_asked combination conditions there unseen.1 both.other)
+      hold_both _ _ (condition_asked combination condition there stand unseen.0 (among condition (inl refl)) both.one)
+      (all_asked combination conditions there stand unseen.1 (λ other a. among other (inr a)) both.other)
 
   compares_there : (tables : List ℕ) → ((table : ℕ) → Among table asked.from → Among table tables) → (conditions : List Condition) → Each (ComparesFrom schema asked.from) conditions → Each (ComparesFrom schema tables) conditions
   compares_there tables within [] e = tt
-  compares_there tables within (Compare f operator value ∷ conditions) e = (within f.table e.0, compares_there tables within conditions e.1)
+  compares_there tables within (OneOf first others ∷ conditions) e = ((within first.field.table e.0.0, e.0.1), compares_there tables within conditions e.1)
   compares_there tables within (Join one other ∷ conditions) e = (tt, compares_there tables within conditions e.1)
 
   module _ (sound : IsSound schema asked) (tables : List ℕ) (distinct : Distinct tables) (within : (table : ℕ) → Among table asked.from → Among table tables) where
@@ -323,13 +397,15 @@ module _ (schema : Schema) (database : Database) (is : IsDatabase schema databas
         all_true combination asked.conditions picked.there (all_stand combination picked.there both.one)
         (subst (λ (ts : List ℕ). Each (ComparesFrom schema ts) asked.conditions) (sym picked.tables_are) (compares_there tables within asked.conditions sound.compared))
         sound.joined (λ condition a. a) both.other)
-        (λ h. hold_both _ _ (stand_all combination picked.there (kept_stands combination picked h)) (all_asked combination asked.conditions picked.there sound.joined h))
+        (λ h.
+        let stand : Each Stands combination = kept_stands combination picked h in
+        hold_both _ _ (stand_all combination picked.there stand) (all_asked combination asked.conditions picked.there stand sound.joined (λ condition a. a) h))
 
     values_are : (combination : List Pick) (select : List Field) → Each IsThere combination → Each Stands combination → ((f : Field) → Among f select → Among f asked.select) → map (λ column. unwrap_or (known_in schema kept given combination column) no_value) select ≡ projection select (map chosen combination)
     values_are combination [] there stand among = refl
     values_are combination (f ∷ select) there stand among =
         ap (λ (o : Option Value). unwrap_or o no_value ∷ map (λ column. unwrap_or (known_in schema kept given combination column) no_value) select)
-        (known_agrees combination f there (λ v. (stand, field_selected f asked.select (among f (inl refl)))))
+        (known_agrees combination f there (λ v. (stand, hold_both _ _ v (left_true _ _ (field_selected f asked.select (among f (inl refl)))))))
         ∙ ap (λ (values : Row). unwrap_or (value_in (map chosen combination) f) no_value ∷ values) (values_are combination select there stand (λ g a. among g (inr a)))
 
     -- the same rows from picks and from rows

@@ -1,25 +1,26 @@
 -- What the limits of an accepted schema leave: the asks that a key may send fit a frame, and so does a row of a reply.
 use Rattle.std.proofs.Common.{◌≡◌, ℕ, zero, suc, ◌+◌, ◌-◌, ◌*◌, ◌/◌, ◌^◌, ◌<◌, ◌≤◌, Bool, true, false, ◌&&◌, ◌||◌, not, List, [], ◌∷◌, ◌++◌, length, replicate, slice_get, map, sym, ◌∙◌, ap, subst, refl, arith, lit<, length-append, Option, Some, None, option_map, mod-lt}
-use Rattle.std.specs.Prelude.{◌==◌, nat_lt, nat_le, flat_map, sum}
+use Rattle.std.specs.Prelude.{◌==◌, nat_lt, nat_le, flat_map, sum, if◌then◌else◌}
 use Rattle.std.specs.List.{list_all, list_any}
 use Rattle.std.specs.Int.{bytes_high_first, byte_at, to_be_bytes, w64}
 use Rattle.std.proofs.lemmas.Bool.{ltb-true, leb-true, le-leb}
 use Rattle.std.proofs.lemmas.Bool.Decides.{nat_tests}
 use Rattle.std.proofs.lemmas.Option.{slice_get-map}
 use Rattle.std.proofs.lemmas.List.Sums.{sum_by-cons}
-use Rattle.ghost_model.specs.core.Schema.{Schema, Kind, Integer, Chars, IntegerOrNull, CharsOrNull, Column, columns_or_none, columns_of, column_at, is_shown, is_visible}
-use Rattle.ghost_model.specs.refusals.SchemaGrammar.{To, ColumnDeclaration, CharColumn, IntegerColumn, TableText, SchemaText}
+use Rattle.ghost_model.specs.core.Schema.{Schema, Kind, Integer, Chars, IntegerOrNull, CharsOrNull, plain_of, Column, columns_or_none, columns_of, column_at, is_shown, is_visible}
+use Rattle.ghost_model.specs.refusals.SchemaGrammar.{To, ColumnDeclaration, CharColumn, IntegerColumn, NullableColumn, TableText, SchemaText}
 use Rattle.ghost_model.specs.refusals.SchemaMeaning.{columns_written, column_of, table_of, schema_of}
 use Rattle.ghost_model.specs.refusals.SchemaFaults.{is_over, is_table_over, is_column_over, MeansSchema}
 use Rattle.ghost_model.specs.laws.SchemaTrees.{IsTree}
 use Rattle.ghost_model.specs.refusals.Tokens.{is_printable, is_between, number_of}
 use Rattle.ghost_model.specs.core.Values.{Value, Null, Number, Text}
-use Rattle.ghost_model.specs.core.Query.{Operator, Equal, Unequal, Less, AtMost, More, AtLeast}
+use Rattle.ghost_model.specs.core.Query.{Equal, Unequal, Less, AtMost, More, AtLeast, Test, Compared, IsNull, IsNotNull}
+use Rattle.ghost_model.specs.core.Groups.{ends}
 use Rattle.ghost_model.specs.core.Database.{is_of_kind, is_text}
 use Rattle.ghost_model.specs.forms.Cells.{cell_width, encode_cell, above_lowest, padded}
-use Rattle.ghost_model.specs.core.Channel.{Ask, Test, AskFrame}
+use Rattle.ghost_model.specs.core.Channel.{Ask, ColumnTest, AskFrame}
 use Rattle.ghost_model.specs.forms.Frames.{AreBytes, IsFrame}
-use Rattle.ghost_model.specs.core.Asks.{kind_or_none, kind_at, operator_code, test_bytes, ask_payload, ascend_from, is_proper_ask, row_width}
+use Rattle.ghost_model.specs.core.Asks.{kind_or_none, kind_at, test_code, code_byte, literal_cell, fits_kind, test_bytes, ask_payload, ascend_from, is_proper_ask, row_width}
 use Rattle.ghost_model.proofs.ChannelLemmas.Tests.{false_is_not, BothHold, both_hold, hold_both}
 use Rattle.ghost_model.proofs.ChannelLemmas.Asks.{cell_length}
 use Rattle.ghost_model.proofs.SchemaRuleLemmas.{kept_rules}
@@ -44,7 +45,9 @@ within : (most n : ℕ) → not (is_between 1 most n) ≡ false → n ≤ most
 within most n e = grind (arith, nat_tests)
 
 narrow_column : (tables : SchemaText) (column : ColumnDeclaration) → is_column_over column ≡ false → cell_width (column_of tables column).kind ≤ 65
-narrow_column tables (CharColumn name digits hidden) e = omega (arith, within 64 (number_of digits) (neither _ _ e).1)
+narrow_column tables (CharColumn name digits false hidden) e = omega (arith, within 64 (number_of digits) (neither _ _ e).1)
+narrow_column tables (CharColumn name digits true hidden) e = omega (arith, within 64 (number_of digits) (neither _ _ e).1)
+narrow_column tables (NullableColumn name hidden) e = omega arith
 narrow_column tables (IntegerColumn name primary None hidden) e = omega arith
 narrow_column tables (IntegerColumn name primary (Some (To table says_id)) hidden) e = omega arith
 
@@ -135,31 +138,59 @@ cell_bytes (CharsOrNull most) (Number _) e = absurd (false_is_not e)
 cell_bytes (CharsOrNull most) (Text text) e = cons_bytes 1 (padded most text) (lit< tt) (text_cell_bytes most text e)
 cell_bytes (CharsOrNull most) Null e = zero_bytes (suc most)
 
-code_byte : (operator : Operator) → operator_code operator < 256
-code_byte Equal = lit< tt
-code_byte Unequal = lit< tt
-code_byte Less = lit< tt
-code_byte AtMost = lit< tt
-code_byte More = lit< tt
-code_byte AtLeast = lit< tt
+-- the code of a test and its literal's cell
+code_below : (test : Test) → test_code test ≤ 8
+code_below (Compared Equal literal) = lit< tt
+code_below (Compared Unequal literal) = lit< tt
+code_below (Compared Less literal) = lit< tt
+code_below (Compared AtMost literal) = lit< tt
+code_below (Compared More literal) = lit< tt
+code_below (Compared AtLeast literal) = lit< tt
+code_below IsNull = lit< tt
+code_below IsNotNull = lit< tt
+
+with_mark : (n : ℕ) (more : Bool) → n ≤ 8 → n + (if more then 128 else 0) < 256
+with_mark n true h = omega (arith, h)
+with_mark n false h = omega (arith, h)
+
+code_is_byte : (test : ColumnTest) → code_byte test < 256
+code_is_byte test = with_mark (test_code test.test) test.more (code_below test.test)
+
+literal_bytes : (kind : Kind) (test : Test) → fits_kind kind test ≡ true → AreBytes (literal_cell kind test)
+literal_bytes kind (Compared operator literal) e = cell_bytes (plain_of kind) literal e
+literal_bytes kind IsNull e = no_bytes
+literal_bytes kind IsNotNull e = no_bytes
+
+plain_width : (kind : Kind) → cell_width (plain_of kind) ≤ cell_width kind
+plain_width Integer = omega arith
+plain_width (Chars most) = omega arith
+plain_width IntegerOrNull = omega arith
+plain_width (CharsOrNull most) = omega arith
+
+literal_length : (kind : Kind) (test : Test) → fits_kind kind test ≡ true → length (literal_cell kind test) ≤ cell_width kind
+literal_length kind (Compared operator literal) e = omega (arith, cell_length (plain_of kind) literal e, plain_width kind)
+literal_length kind IsNull e = omega arith
+literal_length kind IsNotNull e = omega arith
 
 -- the tests of a proper ask
-record AllSix (a b c d e f : Bool) : Type 0 where
+record AllSeven (a b c d e f g : Bool) : Type 0 where
   first : a ≡ true
   second : b ≡ true
   third : c ≡ true
   fourth : d ≡ true
   fifth : e ≡ true
   sixth : f ≡ true
+  seventh : g ≡ true
 
-all_six : (a b c d e f : Bool) → (a && b && c && d && e && f) ≡ true → AllSix a b c d e f
-all_six true true true true true true h = record { first = refl; second = refl; third = refl; fourth = refl; fifth = refl; sixth = refl }
-all_six true true true true true false h = absurd (false_is_not h)
-all_six true true true true false f h = absurd (false_is_not h)
-all_six true true true false e f h = absurd (false_is_not h)
-all_six true true false d e f h = absurd (false_is_not h)
-all_six true false c d e f h = absurd (false_is_not h)
-all_six false b c d e f h = absurd (false_is_not h)
+all_seven : (a b c d e f g : Bool) → (a && b && c && d && e && f && g) ≡ true → AllSeven a b c d e f g
+all_seven true true true true true true true h = record { first = refl; second = refl; third = refl; fourth = refl; fifth = refl; sixth = refl; seventh = refl }
+all_seven true true true true true true false h = absurd (false_is_not h)
+all_seven true true true true true false g h = absurd (false_is_not h)
+all_seven true true true true false f g h = absurd (false_is_not h)
+all_seven true true true false e f g h = absurd (false_is_not h)
+all_seven true true false d e f g h = absurd (false_is_not h)
+all_seven true false c d e f g h = absurd (false_is_not h)
+all_seven false b c d e f g h = absurd (false_is_not h)
 
 shown_within : (columns : List Column) (place : ℕ) → is_shown (slice_get columns place) ≡ true → place < length columns
 shown_within [] place e = absurd (false_is_not e)
@@ -200,42 +231,49 @@ module _ (schema : Schema) (small : IsSmall schema) where
       let seen : BothHold (is_visible schema table column) (list_all (is_visible schema table) columns) = both_hold _ _ v in
       cons_bytes column columns (visible_byte table column seen.one) (columns_bytes table columns seen.other)
 
-  abbrev AreSeen : ℕ → List Test → Type 0
+  abbrev AreSeen : ℕ → List ColumnTest → Type 0
   AreSeen table tests = list_all (λ test. is_visible schema table test.column) tests ≡ true
 
-  abbrev AreOfKind : ℕ → List Test → Type 0
-  AreOfKind table tests = list_all (λ test. is_of_kind (kind_at schema table test.column) test.value) tests ≡ true
+  abbrev AreOfKind : ℕ → List ColumnTest → Type 0
+  AreOfKind table tests = list_all (λ test. fits_kind (kind_at schema table test.column) test.test) tests ≡ true
 
-  tests_bytes : (table : ℕ) (tests : List Test) → AreSeen table tests → AreOfKind table tests → AreBytes (flat_map (test_bytes schema table) tests)
+  tests_bytes :
+      (table : ℕ) (tests : List ColumnTest) → AreSeen table tests → AreOfKind table tests
+      → AreBytes (flat_map (test_bytes schema table) tests)
   tests_bytes table [] v k = no_bytes
   tests_bytes table (test ∷ tests) v k =
       let seen : BothHold (is_visible schema table test.column) (list_all (λ test. is_visible schema table test.column) tests) = both_hold _ _ v in
-      let kinds : BothHold (is_of_kind (kind_at schema table test.column) test.value) (list_all (λ test. is_of_kind (kind_at schema table test.column) test.value) tests) = both_hold _ _ k in
-      let cell : List ℕ = encode_cell (kind_at schema table test.column) test.value in
+      let kinds : BothHold (fits_kind (kind_at schema table test.column) test.test) (list_all (λ test. fits_kind (kind_at schema table test.column) test.test) tests) =
+      both_hold _ _ k in
+      let cell : List ℕ = literal_cell (kind_at schema table test.column) test.test in
       let more : List ℕ = flat_map (test_bytes schema table) tests in
-      cons_bytes test.column (operator_code test.operator ∷ (cell ++ more)) (visible_byte table test.column seen.one)
-      (cons_bytes (operator_code test.operator) (cell ++ more) (code_byte test.operator)
-      (append_bytes cell more (cell_bytes (kind_at schema table test.column) test.value kinds.one)
+      cons_bytes test.column (code_byte test ∷ (cell ++ more)) (visible_byte table test.column seen.one)
+      (cons_bytes (code_byte test) (cell ++ more) (code_is_byte test)
+      (append_bytes cell more (literal_bytes (kind_at schema table test.column) test.test kinds.one)
       (tests_bytes table tests seen.other kinds.other)))
 
-  tests_length : (table : ℕ) (tests : List Test) → AreOfKind table tests → length (flat_map (test_bytes schema table) tests) ≤ 67 * length tests
+  tests_length :
+      (table : ℕ) (tests : List ColumnTest) → AreOfKind table tests
+      → length (flat_map (test_bytes schema table) tests) ≤ 67 * length tests
   tests_length table [] k = omega arith
   tests_length table (test ∷ tests) k =
-      let kinds : BothHold (is_of_kind (kind_at schema table test.column) test.value) (list_all (λ test. is_of_kind (kind_at schema table test.column) test.value) tests) = both_hold _ _ k in
-      let cell : List ℕ = encode_cell (kind_at schema table test.column) test.value in
-      let size : length (encode_cell (kind_at schema table test.column) test.value) ≡ cell_width (kind_at schema table test.column) = cell_length (kind_at schema table test.column) test.value kinds.one in
+      let kinds : BothHold (fits_kind (kind_at schema table test.column) test.test) (list_all (λ test. fits_kind (kind_at schema table test.column) test.test) tests) =
+      both_hold _ _ k in
+      let size : length (literal_cell (kind_at schema table test.column) test.test) ≤ cell_width (kind_at schema table test.column) =
+      literal_length (kind_at schema table test.column) test.test kinds.one in
       let rest : length (flat_map (test_bytes schema table) tests) ≤ 67 * length tests = tests_length table tests kinds.other in
-      omega (arith, size, rest, small.narrow table test.column, length-append (encode_cell (kind_at schema table test.column) test.value) (flat_map (test_bytes schema table) tests))
+      omega (arith, size, rest, small.narrow table test.column, length-append (literal_cell (kind_at schema table test.column) test.test) (flat_map (test_bytes schema table) tests))
 
   not_zero : (n : ℕ) → 0 < n → not (n == 0) ≡ true
   not_zero n h = grind (arith, nat_tests)
 
   abbrev Parts : Ask → Type 0
-  Parts ask = AllSix (nat_lt ask.table (length schema)) (list_all (is_visible schema ask.table) ask.columns) (ascend_from 0 ask.columns) (nat_le (length ask.tests) 16)
-      (list_all (λ test. is_visible schema ask.table test.column) ask.tests) (list_all (λ test. is_of_kind (kind_at schema ask.table test.column) test.value) ask.tests)
+  Parts ask = AllSeven (nat_lt ask.table (length schema)) (list_all (is_visible schema ask.table) ask.columns) (ascend_from 0 ask.columns) (nat_le (length ask.tests) 16)
+      (list_all (λ test. is_visible schema ask.table test.column) ask.tests) (list_all (λ test. fits_kind (kind_at schema ask.table test.column) test.test) ask.tests)
+      (ends (λ one. one.more) ask.tests)
 
   parts_of : (ask : Ask) → is_proper_ask schema ask ≡ true → Parts ask
-  parts_of ask e = all_six _ _ _ _ _ _ e
+  parts_of ask e = all_seven _ _ _ _ _ _ _ e
 
   -- the frame of an ask that a key may send
   pub ask_is_frame : (ask : Ask) (serial : ℕ) → is_proper_ask schema ask ≡ true → 0 < serial → serial < 2 ^ 32 → IsFrame (AskFrame serial (ask_payload schema ask))

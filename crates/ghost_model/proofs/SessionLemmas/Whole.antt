@@ -9,10 +9,13 @@ use Rattle.std.proofs.lemmas.Bool.Decides.{nat_tests}
 use Rattle.std.proofs.lemmas.Bool.{eqb-true, lt-ltb}
 use Rattle.ghost_model.specs.core.Schema.{Schema, Column, columns_of, column_at, places_from, is_shown, is_visible, is_empty, places_of}
 use Rattle.ghost_model.specs.core.Values.{Value, Row, Rows, Database}
-use Rattle.ghost_model.specs.core.Query.{Query, Field, Condition, Compare, Join}
-use Rattle.ghost_model.specs.core.Channel.{Ask, Test}
-use Rattle.ghost_model.specs.core.Asks.{ask_for, is_needed, test_of, is_wanted}
-use Rattle.ghost_model.specs.laws.ShortWords.{tests_of, is_field, is_from, meets_test}
+use Rattle.ghost_model.specs.core.Query.{Query, Member, members_of_group, Condition, OneOf, Join}
+use Rattle.ghost_model.specs.core.Groups.{each_of, each_group}
+use Rattle.ghost_model.specs.core.Channel.{Ask, ColumnTest}
+use Rattle.ghost_model.specs.core.Asks.{ask_for, is_needed, column_test, test_of, is_column, is_mixed, names_column, is_wanted}
+use Rattle.ghost_model.specs.core.Asks as asks
+use Rattle.ghost_model.specs.core.Meaning.{meets_test}
+use Rattle.ghost_model.specs.laws.ShortWords.{tests_of, is_from}
 use Rattle.ghost_model.specs.core.Database.{rows_of, IsDatabase}
 use Rattle.ghost_model.specs.core.Split.{Public, hidden_of, public_of, value_at, visible_places, RowValues, replied, meets_tests, replies_from, visible_rows}
 use Rattle.ghost_model.specs.laws.SplitByFlags.{hidden_flags, visible_values, rows_by}
@@ -21,6 +24,8 @@ use Rattle.ghost_model.specs.core.Replies.{Reply, hidden_value, row_replied, rep
 use Rattle.ghost_model.specs.laws.SessionLaws.{whole_reply, whole_replies}
 use Rattle.ghost_model.proofs.ChannelLemmas.Tests.{false_is_not, BothHold, both_hold, hold_both}
 use Rattle.ghost_model.proofs.MeaningLemmas.OneRow.{Among, among-filter}
+use Rattle.ghost_model.proofs.SessionLemmas.Accepted.{Each}
+use Rattle.ghost_model.proofs.SessionLemmas.Members.{says_more, each_group_agrees, no_group_fails}
 use Rattle.ghost_model.proofs.SessionLemmas.Values.{hidden_is_known, visible_of_row, row_is_replied, if_met, AllThere, value_asked}
 
 -- places_of of a list
@@ -45,10 +50,6 @@ some_within : {X : Type 0} (xs : List X) (place : ℕ) (x : X) → slice_get xs 
 some_within [] place x e = absurd (cc)
 some_within (y ∷ ys) zero x e = omega arith
 some_within (y ∷ ys) (suc place) x e = let later : place < length ys = some_within ys place x e in omega (arith, later)
-
-all_of_none : {X : Type 0} (test : X → Bool) (xs : List X) → is_empty xs ≡ true → list_all test xs ≡ true
-all_of_none test [] e = refl
-all_of_none test (x ∷ xs) e = absurd (false_is_not e)
 
 no_need : (a b : Bool) → not (a && b) ≡ false → b ≡ true
 no_need true true e = refl
@@ -92,41 +93,57 @@ among_any x [] h = absurd h
 among_any x (y ∷ ys) (inl same) = ap (λ (v : Bool). v || list_any (λ other. other == x) ys) (ap (λ (n : ℕ). n == x) same ∙ same_number x)
 among_any x (y ∷ ys) (inr later) = either (y == x) (list_any (λ other. other == x) ys) (among_any x ys later)
 
-all_wanted : (schema : Schema) (select : List Field) (table : ℕ) (columns : List ℕ) → list_all (is_visible schema table) (filter (is_wanted schema select table) columns) ≡ true
-all_wanted schema select table [] = refl
-all_wanted schema select table (column ∷ columns) =
-    (elim (is_wanted schema select table column) as (λ v. is_wanted schema select table column ≡ v → list_all (is_visible schema table) (if v then column ∷ filter (is_wanted schema select table) columns else filter (is_wanted schema select table) columns) ≡ true) [
-      | true ↦ λ e. hold_both (is_visible schema table column) _ (both_hold (is_visible schema table column) (list_any (is_field table column) select) e).one (all_wanted schema select table columns)
-      | false ↦ λ e. all_wanted schema select table columns
+all_wanted :
+    (schema : Schema) (asked : Query) (table : ℕ) (columns : List ℕ)
+    → list_all (is_visible schema table) (filter (is_wanted schema asked table) columns) ≡ true
+all_wanted schema asked table [] = refl
+all_wanted schema asked table (column ∷ columns) =
+    (elim (is_wanted schema asked table column) as (λ v. is_wanted schema asked table column ≡ v → list_all (is_visible schema table) (if v then column ∷ filter (is_wanted schema asked table) columns else filter (is_wanted schema asked table) columns) ≡ true) [
+      | true ↦ λ e. hold_both (is_visible schema table column) _ (both_hold (is_visible schema table column) (list_any (is_column table column) asked.select || list_any (λ condition. is_mixed schema table condition && names_column table column condition) asked.conditions) e).one (all_wanted schema asked table columns)
+      | false ↦ λ e. all_wanted schema asked table columns
     ]) refl
 
 module _ (schema : Schema) (table : ℕ) where
-  abbrev are_visible : List Test → Bool
-  are_visible tests = list_all (λ (test : Test). is_visible schema table test.column) tests
+  abbrev are_visible : List ColumnTest → Bool
+  are_visible tests = list_all (λ (test : ColumnTest). is_visible schema table test.column) tests
 
-  visible_if : (b : Bool) (test : Test) → (b ≡ true → is_visible schema table test.column ≡ true) → are_visible (if b then test ∷ [] else []) ≡ true
-  visible_if true test h = hold_both (is_visible schema table test.column) true (h refl) refl
-  visible_if false test h = refl
+  shown_column : (one : Member) → asks.is_shown schema table one ≡ true → is_visible schema table one.field.column ≡ true
+  shown_column one h = (both_hold (one.field.table == table) (is_visible schema table one.field.column) h).other
+
+  visible_group :
+      (first : Member) (others : List Member) → each_of (asks.is_shown schema table) first others ≡ true
+      → are_visible (map column_test (members_of_group first others)) ≡ true
+  visible_group first [] h = hold_both (is_visible schema table first.field.column) true (shown_column first h) refl
+  visible_group first (next ∷ others) h =
+      let both : BothHold (asks.is_shown schema table first) (each_of (asks.is_shown schema table) next others) = both_hold _ _ h in
+      hold_both (is_visible schema table first.field.column) _ (shown_column first both.one) (visible_group next others both.other)
+
+  visible_if :
+      (b : Bool) (tests : List ColumnTest) → (b ≡ true → are_visible tests ≡ true) → are_visible (if b then tests else []) ≡ true
+  visible_if true tests h = h refl
+  visible_if false tests h = refl
 
   visible_test : (condition : Condition) → are_visible (test_of schema table condition) ≡ true
-  visible_test (Compare field operator value) =
-      visible_if (field.table == table && is_visible schema table field.column) (record { column = field.column; operator = operator; value = value })
-      (λ e. (both_hold (field.table == table) (is_visible schema table field.column) e).other)
+  visible_test (OneOf first others) =
+      visible_if (each_of (asks.is_shown schema table) first others) (map column_test (members_of_group first others)) (visible_group first others)
   visible_test (Join left right) = refl
 
   visible_tests : (conditions : List Condition) → are_visible (tests_of schema table conditions) ≡ true
   visible_tests [] = refl
   visible_tests (condition ∷ conditions) =
-      list_all-append (λ (test : Test). is_visible schema table test.column) (test_of schema table condition) (tests_of schema table conditions)
+      list_all-append (λ (test : ColumnTest). is_visible schema table test.column) (test_of schema table condition) (tests_of schema table conditions)
       ∙ hold_both _ _ (visible_test condition) (visible_tests conditions)
 
 module _ (schema : Schema) (database : Database) (is : IsDatabase schema database) (asked : Query) where
   abbrev pub public : Public
   public = public_of schema database
 
+  abbrev pub holds_in : Row → ColumnTest → Bool
+  holds_in row test = meets_test test.test (slice_get row test.column)
+
   -- the conditions of a table hold in a row
   abbrev pub stands_by : (table : ℕ) → Row → Bool
-  stands_by table row = list_all (λ (test : Test). meets_test test (slice_get row test.column)) (tests_of schema table asked.conditions)
+  stands_by table row = each_group says_more (holds_in row) (tests_of schema table asked.conditions)
 
   abbrev pub shown_part : (table : ℕ) → Row → Row
   shown_part table row = visible_values (hidden_flags (columns_of schema table)) (drop 1 row)
@@ -172,15 +189,23 @@ module _ (schema : Schema) (database : Database) (is : IsDatabase schema databas
       let both : BothHold (nat_lt 0 (suc column)) (is_shown (column_at schema table (suc column))) = both_hold _ _ v in
       visible_of_row (columns_of schema table) row column (is.widths table (suc place) row h) both.other
 
+  values_alike :
+      (table place : ℕ) (row : Row) (tests : List ColumnTest) → slice_get (rows_of database table) place ≡ Some row
+      → list_all (λ (test : ColumnTest). is_visible schema table test.column) tests ≡ true
+      → Each (λ (test : ColumnTest). meets_test test.test (value_at (visible_places schema table) (shown_part table row) test.column) ≡ holds_in row test) tests
+  values_alike table place row [] h v = tt
+  values_alike table place row (test ∷ tests) h v =
+      let both : BothHold (is_visible schema table test.column) (list_all (λ (test : ColumnTest). is_visible schema table test.column) tests) =
+      both_hold _ _ v in
+      (ap (λ (o : Option Value). meets_test test.test o) (visible_value table place test.column row h both.one), values_alike table place row tests h both.other)
+
   tests_met :
-      (table place : ℕ) (row : Row) (tests : List Test) → slice_get (rows_of database table) place ≡ Some row
-      → list_all (λ (test : Test). is_visible schema table test.column) tests ≡ true
-      → meets_tests (visible_places schema table) tests (shown_part table row) ≡ list_all (λ (test : Test). meets_test test (slice_get row test.column)) tests
-  tests_met table place row [] h v = refl
-  tests_met table place row (test ∷ tests) h v =
-      let both : BothHold (is_visible schema table test.column) (list_all (λ (test : Test). is_visible schema table test.column) tests) = both_hold _ _ v in
-      ap (λ (o : Option Value). meets_test test o && meets_tests (visible_places schema table) tests (shown_part table row)) (visible_value table place test.column row h both.one)
-      ∙ ap (λ (b : Bool). meets_test test (slice_get row test.column) && b) (tests_met table place row tests h both.other)
+      (table place : ℕ) (row : Row) (tests : List ColumnTest) → slice_get (rows_of database table) place ≡ Some row
+      → list_all (λ (test : ColumnTest). is_visible schema table test.column) tests ≡ true
+      → meets_tests (visible_places schema table) tests (shown_part table row) ≡ each_group says_more (holds_in row) tests
+  tests_met table place row tests h v =
+      each_group_agrees says_more (λ test. meets_test test.test (value_at (visible_places schema table) (shown_part table row) test.column)) (holds_in row) tests
+      (values_alike table place row tests h v)
 
   -- a row in the whole reply of its table
   row_in_reply :
@@ -217,8 +242,8 @@ module _ (schema : Schema) (database : Database) (is : IsDatabase schema databas
       (elim (is_needed (ask_for schema asked table)) as (λ v. is_needed (ask_for schema asked table) ≡ v → stands_in (suc place) (reply_about table (whole_replies schema public asked)) ≡ stands_by table row) [
         | true ↦ λ e. ap (λ (o : Option Reply). stands_in (suc place) o) (about_needed table (filter (is_from asked) (places_of schema)) e (table_stands table place row h among)) ∙ stood table place row h
         | false ↦ λ e. ap (λ (o : Option Reply). stands_in (suc place) o) (about_unneeded table (filter (is_from asked) (places_of schema)) e)
-            ∙ sym (all_of_none (λ (test : Test). meets_test test (slice_get row test.column)) (tests_of schema table asked.conditions)
-            (no_need (is_empty (filter (is_wanted schema asked.select table) (places_of (columns_of schema table)))) (is_empty (tests_of schema table asked.conditions)) e))
+            ∙ sym (no_group_fails says_more (holds_in row) (tests_of schema table asked.conditions)
+            (no_need (is_empty (filter (is_wanted schema asked table) (places_of (columns_of schema table)))) (is_empty (tests_of schema table asked.conditions)) e))
       ]) refl
 
   all_there : (table place : ℕ) (row : Row) (columns : List ℕ) → slice_get (rows_of database table) place ≡ Some row → list_all (is_visible schema table) columns ≡ true → AllThere (value_at (visible_places schema table) (shown_part table row)) columns
@@ -232,16 +257,16 @@ module _ (schema : Schema) (database : Database) (is : IsDatabase schema databas
 
   replied_is :
       (table place column : ℕ) (row : Row) → slice_get (rows_of database table) place ≡ Some row → is_visible schema table column ≡ true
-      → Among table asked.from → stands_by table row ≡ true → list_any (is_field table column) asked.select ≡ true
+      → Among table asked.from → stands_by table row ≡ true → is_wanted schema asked table column ≡ true
       → replied_value (whole_replies schema public asked) table (suc place) column ≡ slice_get row column
-  replied_is table place column row h v among stands selected =
+  replied_is table place column row h v among stands wants =
       let ask : Ask = ask_for schema asked table in
       let shown : BothHold (nat_lt 0 column) (is_shown (column_at schema table column)) = both_hold _ _ v in
       let within : column < length (columns_of schema table) = shown_within (columns_of schema table) column shown.other in
-      let wanted : Among column (filter (is_wanted schema asked.select table) (places_of (columns_of schema table))) =
-      among-filter (is_wanted schema asked.select table) column (places_of (columns_of schema table))
+      let wanted : Among column (filter (is_wanted schema asked table) (places_of (columns_of schema table))) =
+      among-filter (is_wanted schema asked table) column (places_of (columns_of schema table))
       (subst (λ (n : ℕ). Among n (places_of (columns_of schema table))) (omega arith) (place_stands 0 column (columns_of schema table) within))
-      (hold_both _ _ v selected) in
+      wants in
       let needed : is_needed (ask_for schema asked table) ≡ true = some_need column ask.columns (is_empty ask.tests) wanted in
       let met : meets_tests (visible_places schema table) (tests_of schema table asked.conditions) (shown_part table row) ≡ true =
       tests_met table place row (tests_of schema table asked.conditions) h (visible_tests schema table asked.conditions) ∙ stands in
@@ -251,14 +276,14 @@ module _ (schema : Schema) (database : Database) (is : IsDatabase schema databas
       ∙ (ap (λ (o : Option RowValues). option_and_then given o) (row_in_reply table place row h)
       ∙ (ap (λ (b : Bool). option_and_then given (if b then Some (replied (visible_places schema table) ask (suc place) (shown_part table row)) else None)) met
       ∙ (value_asked (value_at (visible_places schema table) (shown_part table row)) ask.columns column
-      (all_there table place row ask.columns h (all_wanted schema asked.select table (places_of (columns_of schema table)))) wanted
+      (all_there table place row ask.columns h (all_wanted schema asked table (places_of (columns_of schema table)))) wanted
       ∙ visible_value table place column row h v)))
 
   -- what the key must have been told to know a visible column of a row
   pub record IsTold (table column : ℕ) (row : Row) : Type 0 where
     pub from : Among table asked.from
     pub stands : stands_by table row ≡ true
-    pub selected : list_any (is_field table column) asked.select ≡ true
+    pub wanted : is_wanted schema asked table column ≡ true
 
   pub known_is :
       (table place column : ℕ) (row : Row) → slice_get (rows_of database table) place ≡ Some row
@@ -268,5 +293,5 @@ module _ (schema : Schema) (database : Database) (is : IsDatabase schema databas
   known_is table place (suc column) row h told =
       value_by (is_visible schema table (suc column)) (replied_value (whole_replies schema public asked) table (suc place) (suc column))
       (hidden_value schema (hidden_of schema database) table (suc place) (suc column)) (slice_get row (suc column))
-      (λ v. let t : IsTold table (suc column) row = told v in replied_is table place (suc column) row h v t.from t.stands t.selected)
+      (λ v. let t : IsTold table (suc column) row = told v in replied_is table place (suc column) row h v t.from t.stands t.wanted)
       (λ v. hidden_is_known schema database is table place column row h (not_shown column (is_shown (column_at schema table (suc column))) v))

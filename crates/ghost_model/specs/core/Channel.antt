@@ -1,9 +1,8 @@
 -- What goes over the channel, as data: what both sides know beforehand (the catalog), what the key asks, the frames
 -- that carry it, and the moves of one end with their answers.
-use Rattle.std.specs.Prelude.{ℕ, List, slice_index}
+use Rattle.std.specs.Prelude.{ℕ, Bool, List, slice_index}
 use Rattle.ghost_model.specs.core.Schema.{Schema}
-use Rattle.ghost_model.specs.core.Values.{Value}
-use Rattle.ghost_model.specs.core.Query.{Operator}
+use Rattle.ghost_model.specs.core.Query.{Test}
 
 -- schema, number of rows of each table, generation, and version of the format
 pub record Catalog : Type 0 where
@@ -16,17 +15,17 @@ pub record Catalog : Type 0 where
 abbrev pub count_of : Catalog → (table : ℕ) → ℕ
 count_of cat table = slice_index cat.counts table
 
--- a condition of an ask: a visible column of its table, an operator and a literal
-pub record Test : Type 0 where
+-- a condition of an ask: a test of a visible column of its table, and whether the next one is of its group
+pub record ColumnTest : Type 0 where
   pub column : ℕ
-  pub operator : Operator
-  pub value : Value
+  pub test : Test
+  pub more : Bool
 
--- an ask: one table, the columns whose cells are wanted (ascending) and the conditions that the rows meet
+-- an ask: one table, the columns whose cells are wanted (ascending) and the conditions, of each group of which a row meets one
 pub record Ask : Type 0 where
   pub table : ℕ
   pub columns : List ℕ
-  pub tests : List Test
+  pub tests : List ColumnTest
 
 -- frames of the key (HelloFrame to ByeFrame) and of the host (WelcomeFrame to SorryFrame). AskFrame, WelcomeFrame and
 -- RowsFrame carry their payload's bytes, WelcomeFrame those after its first byte, which is 1 in the last WELCOME frame

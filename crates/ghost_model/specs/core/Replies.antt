@@ -1,6 +1,7 @@
 -- What a text answers by the replies that came, whoever sent them. The key knows the identifiers and the hidden columns
--- of all rows, and of each asked table the rows of its reply. So it is the plain meaning from another source: a condition on
--- a visible column gives way to "the row of each asked table stands in its reply", and a visible value is the replied one.
+-- of all rows, and of each asked table the rows of its reply. So it is the plain meaning from another source: a visible group,
+-- whose columns are of one table, gives way to "the row of each asked table stands in its reply", and a visible value is the
+-- replied one.
 use Rattle.std.specs.Prelude.{ℕ, zero, suc, pos, Bool, true, ◌==◌, List, [], ◌∷◌, ◌++◌, length, map, filter_map, take, drop, Option, Some, None, is_some, slice_get, option_and_then, option_to_list, unwrap_or, if◌then◌else◌}
 use Rattle.ghost_model.specs.core.Schema.{Schema, Kind, columns_of, places_from, is_visible}
 use Rattle.ghost_model.specs.core.Values.{Value, Number, Row}

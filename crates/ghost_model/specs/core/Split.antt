@@ -3,15 +3,17 @@
 -- order, so it tells their number. From the public part follow the visible image, which is the host's file, and the
 -- rows that an ask is to be replied with.
 use Rattle.std.specs.Prelude.{◌≡◌, ℕ, ◌+◌, pos, Bool, true, false, not, ◌==◌, List, [], ◌∷◌, ◌++◌, length, map, drop, filter, flat_map, Option, Some, None, slice_get, unwrap_or, IsTrue, if◌then◌else◌}
-use Rattle.std.specs.List.{list_all, zip, enumerate_from}
-use Rattle.std.specs.Option.{option_map_or, option_or, some_prefix}
+use Rattle.std.specs.List.{zip, enumerate_from}
+use Rattle.std.specs.Option.{option_or, some_prefix}
 use Rattle.std.specs.Cmp.Lexicographic.{pointwise}
 use Rattle.ghost_model.specs.core.Schema.{Schema, Table, Column, Kind, columns_of, places_from}
 use Rattle.ghost_model.specs.core.Values.{Value, Number, Text, Row, Rows, Database}
-use Rattle.ghost_model.specs.core.Database.{is_of_kind, holds}
+use Rattle.ghost_model.specs.core.Database.{is_of_kind}
+use Rattle.ghost_model.specs.core.Groups.{each_group}
+use Rattle.ghost_model.specs.core.Meaning.{meets_test}
 use Rattle.ghost_model.specs.forms.Cells.{encode_cell}
 use Rattle.ghost_model.specs.forms.Catalog.{catalog_bytes, IsCatalog}
-use Rattle.ghost_model.specs.core.Channel.{Catalog, Ask, Test}
+use Rattle.ghost_model.specs.core.Channel.{Catalog, Ask, ColumnTest}
 use Rattle.ghost_model.specs.core.Asks.{RowCells, kinds_of}
 
 -- for each table its rows, of which each has the values of the visible columns in order
@@ -75,10 +77,10 @@ rejoined schema public kept =
 abbrev pub public_rows : Public → (table : ℕ) → Rows
 public_rows public table = unwrap_or (slice_get public.visible table) []
 
--- whether a visible row meets every condition of an ask
-abbrev pub meets_tests : (places : List ℕ) → List Test → Row → Bool
+-- whether a visible row meets one condition of each group of an ask
+abbrev pub meets_tests : (places : List ℕ) → List ColumnTest → Row → Bool
 meets_tests places tests row =
-    list_all (λ test. option_map_or (λ value. holds test.operator value test.value) (value_at places row test.column) false) tests
+    each_group (λ one. one.more) (λ one. meets_test one.test (value_at places row one.column)) tests
 
 -- a row of a reply: its identifier and the values of the asked columns
 pub record RowValues : Type 0 where

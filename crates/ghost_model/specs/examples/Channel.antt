@@ -1,10 +1,11 @@
 -- Frames, asks, journals and what the host sends, for telling sessions. Bytes stand in hexadecimal.
-use Rattle.std.specs.Prelude.{◌≡◌, ℕ, zero, suc, flat_map, ◌+◌, pos, negsuc, List, [], ◌∷◌, ◌++◌, codes, length, map, take, drop, Option, Some, None, Result, Ok, Err}
+use Rattle.std.specs.Prelude.{◌≡◌, ℕ, Bool, true, false, zero, suc, flat_map, ◌+◌, pos, negsuc, List, [], ◌∷◌, ◌++◌, codes, length, map, take, drop, Option, Some, None, Result, Ok, Err}
+use Rattle.std.specs.List.{range_with_len}
 use Rattle.hex.specs.Hex.{decode_of, encode_lower}
 use Rattle.hex.specs.declared.error.FromHexError.{FromHexError}
 use Rattle.ghost_model.specs.core.Values.{Number, Text}
 use Rattle.ghost_model.specs.core.Query as query
-use Rattle.ghost_model.specs.core.Channel.{Frame, HelloFrame, AskFrame, MoreFrame, ByeFrame, WelcomeFrame, RowsFrame, DoneFrame, SorryFrame, Catalog, Ask, Test, Move, Dial, Send, Take, Close, Answer, Made, Piece, Entry, Journal}
+use Rattle.ghost_model.specs.core.Channel.{Frame, HelloFrame, AskFrame, MoreFrame, ByeFrame, WelcomeFrame, RowsFrame, DoneFrame, SorryFrame, Catalog, Ask, ColumnTest, Move, Dial, Send, Take, Close, Answer, Made, Piece, Entry, Journal}
 use Rattle.ghost_model.specs.core.Asks.{NumberedAsk, asked, asked_of, asks_of, ask_payload, RowCells}
 use Rattle.ghost_model.specs.readings.AskReading.{ask_in}
 use Rattle.ghost_model.specs.core.Moves.{lines, sent}
@@ -86,7 +87,7 @@ abbrev pub topic_query : query.Query
 topic_query = record {
   from = 0 ∷ [];
   select = field 0 2 ∷ [];
-  conditions = query.Compare (field 0 1) query.Equal (Text (codes "a")) ∷ [];
+  conditions = query.compared (field 0 1) query.Equal (Text (codes "a")) ∷ [];
 }
 
 abbrev pub entry : Move → Answer → Entry
@@ -153,8 +154,8 @@ cardio_query = record {
   from = 2 ∷ 0 ∷ [];
   select = field 2 0 ∷ field 0 1 ∷ [];
   conditions =
-      query.Join (field 2 3) (field 0 0) ∷ query.Compare (field 0 1) query.Equal (Text (codes "cardio"))
-      ∷ query.Compare (field 2 2) query.Equal (Text (codes "flu")) ∷ [];
+      query.Join (field 2 3) (field 0 0) ∷ query.compared (field 0 1) query.Equal (Text (codes "cardio"))
+      ∷ query.compared (field 2 2) query.Equal (Text (codes "flu")) ∷ [];
 }
 
 abbrev pub name_text : List ℕ
@@ -164,7 +165,7 @@ abbrev pub name_query : query.Query
 name_query = record {
   from = 1 ∷ [];
   select = field 1 2 ∷ [];
-  conditions = query.Compare (field 1 2) query.Equal (Text (codes "Ann")) ∷ [];
+  conditions = query.compared (field 1 2) query.Equal (Text (codes "Ann")) ∷ [];
 }
 
 -- SELECT day FROM visit
@@ -178,7 +179,7 @@ abbrev pub late_query : query.Query
 late_query = record {
   from = 2 ∷ [];
   select = field 2 0 ∷ field 2 1 ∷ [];
-  conditions = query.Compare (field 2 1) query.AtLeast (Number (pos 2)) ∷ [];
+  conditions = query.compared (field 2 1) query.AtLeast (Number (pos 2)) ∷ [];
 }
 
 -- SELECT patient.id FROM patient WHERE age >= -9223372036854775808
@@ -186,7 +187,7 @@ abbrev pub any_age_query : query.Query
 any_age_query = record {
   from = 1 ∷ [];
   select = field 1 0 ∷ [];
-  conditions = query.Compare (field 1 1) query.AtLeast (Number (negsuc 9223372036854775807)) ∷ [];
+  conditions = query.compared (field 1 1) query.AtLeast (Number (negsuc 9223372036854775807)) ∷ [];
 }
 
 -- SELECT day, specialty, day FROM visit, doctor WHERE doc = doctor.id AND visit.id < 3 AND day BETWEEN 2 AND 5
@@ -195,8 +196,8 @@ both_query = record {
   from = 2 ∷ 0 ∷ [];
   select = field 2 1 ∷ field 0 1 ∷ field 2 1 ∷ [];
   conditions =
-      query.Join (field 2 3) (field 0 0) ∷ query.Compare (field 2 0) query.Less (Number (pos 3))
-      ∷ query.Compare (field 2 1) query.AtLeast (Number (pos 2)) ∷ query.Compare (field 2 1) query.AtMost (Number (pos 5)) ∷ [];
+      query.Join (field 2 3) (field 0 0) ∷ query.compared (field 2 0) query.Less (Number (pos 3))
+      ∷ query.compared (field 2 1) query.AtLeast (Number (pos 2)) ∷ query.compared (field 2 1) query.AtMost (Number (pos 5)) ∷ [];
 }
 
 -- the payloads of the asks of a query over the clinic
@@ -214,12 +215,15 @@ pub record AsksOfQueries : Type 0 where
       ≡ map (asked 1) (asks_of clinic_schema cardio_query) ++ map (asked 4) (asks_of clinic_schema late_query)
   pub two_tables_in_their_own_order : payloads both_query ≡ codes "00010100" ∷ codes "020101020106800000000000000201048000000000000005" ∷ []
 
+abbrev pub day_test : query.Test → (more : Bool) → ColumnTest
+day_test test more = record { column = 1; test = test; more = more }
+
 -- the ask that bytes in hexadecimal spell over the clinic
 abbrev pub ask_read : List ℕ → Option Ask
 ask_read text = ask_in clinic_schema (hex text)
 
-abbrev pub cardio_test : Test
-cardio_test = record { column = 1; operator = query.Equal; value = Text (codes "cardio") }
+abbrev pub cardio_test : ColumnTest
+cardio_test = record { column = 1; test = query.Compared query.Equal (Text (codes "cardio")); more = false }
 
 pub record AsksOfBytes : Type 0 where
   pub an_ask :
@@ -231,7 +235,19 @@ pub record AsksOfBytes : Type 0 where
   pub the_identifier : ask_read (codes "00010000") ≡ None
   pub a_column_twice : ask_read (codes "0002010100") ≡ None
   pub a_condition_on_the_identifier : ask_read (codes "02000100018000000000000001") ≡ None
-  pub no_such_operator : ask_read (codes "02000101078000000000000002") ≡ None
+  pub null : ask_read (codes "0200010107") ≡ Some (record { table = 2; columns = []; tests = day_test query.IsNull false ∷ [] })
+  pub a_group : ask_read (codes "020002018801018000000000000002")
+      ≡ Some (record { table = 2; columns = []; tests = day_test query.IsNotNull true ∷ day_test (query.Compared query.Equal (Number (pos 2))) false ∷ [] })
+  pub a_cell_behind_null : ask_read (codes "02000101078000000000000002") ≡ None
+  pub no_cell : ask_read (codes "0200010101") ≡ None
+  pub code_0 : ask_read (codes "02000101008000000000000002") ≡ None
+  pub code_9 : ask_read (codes "02000101098000000000000002") ≡ None
+  pub code_9_alone : ask_read (codes "0200010109") ≡ None
+  pub code_0_in_a_group : ask_read (codes "02000201800107") ≡ None
+  pub code_9_in_a_group : ask_read (codes "02000201890107") ≡ None
+  pub a_group_without_its_last : ask_read (codes "0200010187") ≡ None
+  pub last_of_two_without_another : ask_read (codes "02000201070188") ≡ None
+  pub seventeen_conditions : ask_read (codes "020011" ++ flat_map (λ one. codes "0107") (range_with_len 1 17)) ≡ None
   pub no_such_cell : ask_read (codes "00000101016300610000000000") ≡ None
   pub a_byte_too_many : ask_read (codes "02000000") ≡ None
   pub a_byte_too_few : ask_read (codes "0200") ≡ None

@@ -10,6 +10,7 @@ use Rattle.ghost_model.specs.core.Printed.{field_text}
 use Rattle.ghost_model.specs.core.Split.{Public, is_open, is_closed, part_of, column_places, asked_value, rejoined_row, public_of, image, SpellsImage}
 use Rattle.ghost_model.specs.core.Database.{database_of, integer_of, value_of_field, is_of_kind, order_of, holds, leads, records_of}
 use Rattle.ghost_model.specs.refusals.LoadFaults.{LoadFault, Header, RowLimit, FieldCount, BadId, BadInt, BadChars, BadReference, place, load_fault, load_faults, value_faults, row_faults}
+use Rattle.ghost_model.specs.examples.Groups.{nullable_notes_schema, nullable_notes}
 use Rattle.ghost_model.specs.examples.Clinic.{id_column, number_column, text_column, hidden_text_column, key_column, patient_table, clinic_schema, clinic_catalog, clinic, number}
 
 -- lines that each end with a line feed
@@ -46,6 +47,21 @@ pub record ClinicIsSpelled : Type 0 where
   pub to_patient : leads clinic_schema clinic 2 2 1 ≡ Some 2
   pub to_itself : leads clinic_schema clinic 2 4 2 ≡ Some 4
   pub not_upwards : leads clinic_schema clinic 0 1 2 ≡ None
+
+-- the file of the notes whose topic and body may be NULL, with these rows
+abbrev pub notes : List (List ℕ) → List (List ℕ)
+notes rows = lines (codes "id,topic,body" ∷ rows) ∷ []
+
+abbrev pub note_rows : List (List ℕ)
+note_rows = codes "1,a,x" ∷ codes "2,,y" ∷ codes "3,a," ∷ codes "4,b,z" ∷ []
+
+-- an empty field of a column that may be NULL is NULL, also in quotes
+pub record NullIsSpelled : Type 0 where
+  pub spelled : database_of nullable_notes_schema (notes note_rows) ≡ nullable_notes
+  pub no_fault : load_faults nullable_notes_schema (notes note_rows) ≡ []
+  pub in_quotes : database_of nullable_notes_schema (notes ((codes "1,a," ++ 34 ∷ 34 ∷ []) ∷ []))
+      ≡ ((number 1 ∷ Text (codes "a") ∷ Null ∷ []) ∷ []) ∷ []
+  pub no_identifier : load_fault nullable_notes_schema (notes (codes ",a,x" ∷ [])) ≡ Some (BadId (place 0 2 0))
 
 -- what an INTEGER field spells
 pub record IntegersOfFields : Type 0 where

@@ -1,7 +1,7 @@
 -- The two parts of the clinic, what its public part makes, and what texts over the clinic and the notes print.
-use Rattle.std.specs.Prelude.{◌≡◌, ℕ, negsuc, List, [], ◌∷◌, ◌++◌, length, drop, flat_map, codes}
+use Rattle.std.specs.Prelude.{◌≡◌, ℕ, false, negsuc, List, [], ◌∷◌, ◌++◌, length, drop, flat_map, codes}
 use Rattle.ghost_model.specs.core.Values.{Value, Number, Text, Row}
-use Rattle.ghost_model.specs.core.Query.{Equal, AtLeast}
+use Rattle.ghost_model.specs.core.Query.{Compared, Equal, AtLeast}
 use Rattle.ghost_model.specs.core.Channel.{Ask}
 use Rattle.ghost_model.specs.core.Asks.{row_bytes}
 use Rattle.ghost_model.specs.core.Split.{RowValues, public_of, hidden_of, rejoined, image, visible_rows, reply_rows}
@@ -20,12 +20,12 @@ specialties_of_cardio =
     record {
       table = 0;
       columns = 1 ∷ [];
-      tests = record { column = 1; operator = Equal; value = Text (codes "cardio") } ∷ [];
+      tests = record { column = 1; test = Compared Equal (Text (codes "cardio")); more = false } ∷ [];
     }
 
 abbrev pub late_visits : Ask
 late_visits =
-    record { table = 2; columns = []; tests = record { column = 1; operator = AtLeast; value = number 5 } ∷ [] }
+    record { table = 2; columns = []; tests = record { column = 1; test = Compared AtLeast (number 5); more = false } ∷ [] }
 
 abbrev pub cardio : ℕ → RowValues
 cardio identifier = record { identifier = identifier; values = one (Text (codes "cardio")) }

@@ -1,12 +1,13 @@
--- What telling query texts mean over the clinic's schema, and why others are refused.
+-- What telling query texts mean over the clinic's schema and over notes, and why others are refused.
 use Rattle.std.specs.Prelude.{◌≡◌, ℕ, negsuc, List, [], ◌∷◌, ◌++◌, replicate, codes, Some, None, Result, Ok, Err}
 use Rattle.ghost_model.specs.core.Values.{Number, Text}
-use Rattle.ghost_model.specs.core.Query.{Field, Condition, Query, Equal, Unequal, Less, AtMost, More, AtLeast, Compare, Join, top_of}
+use Rattle.ghost_model.specs.core.Query.{Field, IsNull, IsNotNull, Condition, Query, Equal, Unequal, Less, AtMost, More, AtLeast, compared, Join, top_of}
 use Rattle.ghost_model.specs.refusals.Grammar.{IsSyntaxFault}
 use Rattle.ghost_model.specs.refusals.QueryGrammar.{spelling}
 use Rattle.ghost_model.specs.refusals.QueryMeaning.{Refusal, Syntax, Limit, UnknownTable, UnknownColumn, Ambiguous, KindMismatch, BadLiteral, NotLinked, field, Means, IsRefused}
 use Rattle.ghost_model.specs.readings.QueryReading.{reading}
 use Rattle.ghost_model.specs.examples.Clinic.{clinic_schema, note_schema, number}
+use Rattle.ghost_model.specs.examples.Groups.{alone, nullable_notes_schema}
 
 abbrev pub reads : List ℕ → Result Query Refusal
 reads text = reading clinic_schema text
@@ -27,22 +28,22 @@ pub record OneRefusalEach : Type 0 where
 pub record ClinicQueries : Type 0 where
   pub visible_and_hidden_over_a_join : reads (codes "SELECT visit.id, specialty FROM visit, doctor WHERE doc = doctor.id AND specialty = 'cardio' AND purpose = 'flu'")
       ≡ Ok (query (2 ∷ 0 ∷ []) (field 2 0 ∷ field 0 1 ∷ [])
-      (Join (field 2 3) (field 0 0) ∷ Compare (field 0 1) Equal (Text (codes "cardio")) ∷ Compare (field 2 2) Equal (Text (codes "flu")) ∷ []))
+      (Join (field 2 3) (field 0 0) ∷ compared (field 0 1) Equal (Text (codes "cardio")) ∷ compared (field 2 2) Equal (Text (codes "flu")) ∷ []))
   pub hidden_alone : reads (codes "SELECT name FROM patient WHERE name = 'Ann'")
-      ≡ Ok (query (1 ∷ []) (field 1 2 ∷ []) (Compare (field 1 2) Equal (Text (codes "Ann")) ∷ []))
+      ≡ Ok (query (1 ∷ []) (field 1 2 ∷ []) (compared (field 1 2) Equal (Text (codes "Ann")) ∷ []))
   pub visible_alone : reads (codes "SELECT visit.id, day FROM visit WHERE day >= 2")
-      ≡ Ok (query (2 ∷ []) (field 2 0 ∷ field 2 1 ∷ []) (Compare (field 2 1) AtLeast (number 2) ∷ []))
+      ≡ Ok (query (2 ∷ []) (field 2 0 ∷ field 2 1 ∷ []) (compared (field 2 1) AtLeast (number 2) ∷ []))
   pub below_the_root : reads (codes "SELECT doctor.id FROM doctor WHERE country = 'ES'")
-      ≡ Ok (query (0 ∷ []) (field 0 0 ∷ []) (Compare (field 0 2) Equal (Text (codes "ES")) ∷ []))
+      ≡ Ok (query (0 ∷ []) (field 0 0 ∷ []) (compared (field 0 2) Equal (Text (codes "ES")) ∷ []))
   pub identifiers_alone : reads (codes " SELECT patient.id FROM patient") ≡ Ok (query (1 ∷ []) (field 1 0 ∷ []) [])
   pub lowest_integer : reads (codes "SELECT patient.id FROM patient WHERE age >= -9223372036854775808")
       ≡ Ok (query (1 ∷ []) (field 1 0 ∷ [])
-      (Compare (field 1 1) AtLeast (Number (negsuc 9223372036854775807)) ∷ []))
+      (compared (field 1 1) AtLeast (Number (negsuc 9223372036854775807)) ∷ []))
   pub hidden_over_a_join : reads (codes "SELECT visit.id FROM visit, doctor WHERE doc = doctor.id AND country = 'ES'")
       ≡ Ok (query (2 ∷ 0 ∷ []) (field 2 0 ∷ [])
-      (Join (field 2 3) (field 0 0) ∷ Compare (field 0 2) Equal (Text (codes "ES")) ∷ []))
+      (Join (field 2 3) (field 0 0) ∷ compared (field 0 2) Equal (Text (codes "ES")) ∷ []))
   pub of_the_notes : reading note_schema (codes "SELECT body FROM note WHERE topic = 'a'")
-      ≡ Ok (query (0 ∷ []) (field 0 2 ∷ []) (Compare (field 0 1) Equal (Text (codes "a")) ∷ []))
+      ≡ Ok (query (0 ∷ []) (field 0 2 ∷ []) (compared (field 0 1) Equal (Text (codes "a")) ∷ []))
   pub identifiers_of_the_notes : reading note_schema (codes "SELECT id FROM note") ≡ Ok (query (0 ∷ []) (field 0 0 ∷ []) [])
   pub top_is_the_root : top_of clinic_schema (query (0 ∷ 2 ∷ 1 ∷ []) [] []) ≡ Some 2
   pub top_is_below_the_root : top_of clinic_schema (query (1 ∷ []) [] []) ≡ Some 1
@@ -67,24 +68,24 @@ pub record QuerySpellings : Type 0 where
       ≡ Ok (query (1 ∷ 2 ∷ []) (field 1 0 ∷ field 1 1 ∷ field 1 2 ∷ field 2 0 ∷ field 2 1 ∷ field 2 2 ∷ field 2 3 ∷ field 2 4 ∷ [])
       (Join (field 1 0) (field 2 4) ∷ []))
   pub words_without_case : reads (codes "select Patient.AGE from PATIENT wHere Name <> 'Ann'")
-      ≡ Ok (query (1 ∷ []) (field 1 1 ∷ []) (Compare (field 1 2) Unequal (Text (codes "Ann")) ∷ []))
+      ≡ Ok (query (1 ∷ []) (field 1 1 ∷ []) (compared (field 1 2) Unequal (Text (codes "Ann")) ∷ []))
   pub between_is_two_conditions : reads (codes "SELECT id FROM visit WHERE day BETWEEN -3 AND +4 AND day < 5")
       ≡ Ok (query (2 ∷ []) (field 2 0 ∷ [])
-      (Compare (field 2 1) AtLeast (Number (negsuc 2)) ∷ Compare (field 2 1) AtMost (number 4) ∷ Compare (field 2 1) Less (number 5) ∷ []))
+      (compared (field 2 1) AtLeast (Number (negsuc 2)) ∷ compared (field 2 1) AtMost (number 4) ∷ compared (field 2 1) Less (number 5) ∷ []))
   pub between_texts : reads (codes "SELECT id FROM patient WHERE name BETWEEN 'A' AND 'C'")
       ≡ Ok (query (1 ∷ []) (field 1 0 ∷ [])
-      (Compare (field 1 2) AtLeast (Text (codes "A")) ∷ Compare (field 1 2) AtMost (Text (codes "C")) ∷ []))
+      (compared (field 1 2) AtLeast (Text (codes "A")) ∷ compared (field 1 2) AtMost (Text (codes "C")) ∷ []))
   pub no_space_where_none_is_needed : reads (codes "SELECT age,id FROM patient WHERE age<=1AND age>0002")
       ≡ Ok (query (1 ∷ []) (field 1 1 ∷ field 1 0 ∷ [])
-      (Compare (field 1 1) AtMost (number 1) ∷ Compare (field 1 1) More (number 2) ∷ []))
+      (compared (field 1 1) AtMost (number 1) ∷ compared (field 1 1) More (number 2) ∷ []))
   pub a_sign_is_a_token : reads (codes "SELECT age FROM patient WHERE age = - 5 AND age = -0")
       ≡ Ok (query (1 ∷ []) (field 1 1 ∷ [])
-      (Compare (field 1 1) Equal (Number (negsuc 4)) ∷ Compare (field 1 1) Equal (number 0) ∷ []))
+      (compared (field 1 1) Equal (Number (negsuc 4)) ∷ compared (field 1 1) Equal (number 0) ∷ []))
   pub points_are_tokens : reads (codes "SELECT visit . id FROM visit") ≡ Ok (query (2 ∷ []) (field 2 0 ∷ []) [])
   pub a_quote_stands_twice : reads (codes "SELECT age FROM patient WHERE name = 'it''s'")
-      ≡ Ok (query (1 ∷ []) (field 1 1 ∷ []) (Compare (field 1 2) Equal (Text (codes "it's")) ∷ []))
+      ≡ Ok (query (1 ∷ []) (field 1 1 ∷ []) (compared (field 1 2) Equal (Text (codes "it's")) ∷ []))
   pub a_quote_counts_once : reads (codes "SELECT age FROM patient WHERE name = ''''''''''''''''''")
-      ≡ Ok (query (1 ∷ []) (field 1 1 ∷ []) (Compare (field 1 2) Equal (Text (codes "''''''''")) ∷ []))
+      ≡ Ok (query (1 ∷ []) (field 1 1 ∷ []) (compared (field 1 2) Equal (Text (codes "''''''''")) ∷ []))
   pub a_join_may_be_repeated : reads (codes "SELECT day FROM visit, doctor WHERE doctor.id = doc AND visit.doc = doctor.id")
       ≡ Ok (query (2 ∷ 0 ∷ []) (field 2 1 ∷ [])
       (Join (field 0 0) (field 2 3) ∷ Join (field 2 3) (field 0 0) ∷ []))
@@ -95,7 +96,37 @@ pub record QuerySpellings : Type 0 where
       (Join (field 2 4) (field 1 0) ∷ Join (field 2 3) (field 0 0) ∷ []))
   pub keys_take_integers : reads (codes "SELECT doc FROM visit WHERE pat = 2 AND id > 1")
       ≡ Ok (query (2 ∷ []) (field 2 3 ∷ [])
-      (Compare (field 2 4) Equal (number 2) ∷ Compare (field 2 0) More (number 1) ∷ []))
+      (compared (field 2 4) Equal (number 2) ∷ compared (field 2 0) More (number 1) ∷ []))
+
+abbrev pub reads_notes : List ℕ → Result Query Refusal
+reads_notes text = reading nullable_notes_schema text
+
+-- the identifiers of the notes under conditions
+abbrev pub notes_under : List Condition → Query
+notes_under conditions = query (0 ∷ []) (field 0 0 ∷ []) conditions
+
+-- what IS NULL and IS NOT NULL mean, and where the words may not stand
+pub record TestsOfNull : Type 0 where
+  pub null_and_not_null : reads_notes (codes "SELECT id, topic FROM note WHERE body IS NOT NULL AND topic IS NULL")
+      ≡ Ok (query (0 ∷ []) (field 0 0 ∷ field 0 1 ∷ []) (alone (field 0 2) IsNotNull ∷ alone (field 0 1) IsNull ∷ []))
+  pub words_without_case : reads_notes (codes "SELECT id FROM note WHERE note.body is Not null")
+      ≡ Ok (notes_under (alone (field 0 2) IsNotNull ∷ []))
+  pub beside_a_comparison : reads_notes (codes "SELECT id FROM note WHERE topic BETWEEN 'a' AND 'b' AND body IS NULL")
+      ≡ Ok (notes_under
+      (compared (field 0 1) AtLeast (Text (codes "a")) ∷ compared (field 0 1) AtMost (Text (codes "b")) ∷ alone (field 0 2) IsNull ∷ []))
+  pub of_a_column_without_null : reads (codes "SELECT id FROM patient WHERE id IS NULL")
+      ≡ Ok (query (1 ∷ []) (field 1 0 ∷ []) (alone (field 1 0) IsNull ∷ []))
+  pub null_is_no_literal : reads_notes (codes "SELECT id FROM note WHERE topic = NULL") ≡ Err (Syntax 34)
+  pub a_text_after_is : reads_notes (codes "SELECT id FROM note WHERE topic IS 'x'") ≡ Err (Syntax 35)
+  pub a_text_after_not : reads_notes (codes "SELECT id FROM note WHERE topic IS NOT 'x'") ≡ Err (Syntax 39)
+  pub not_without_is : reads_notes (codes "SELECT id FROM note WHERE topic NOT NULL") ≡ Err (Syntax 32)
+  pub not_twice : reads_notes (codes "SELECT id FROM note WHERE topic IS NOT NOT NULL") ≡ Err (Syntax 39)
+  pub null_is_no_name : reads_notes (codes "SELECT null FROM note") ≡ Err (Syntax 7)
+  pub unknown_column : reads_notes (codes "SELECT id FROM note WHERE x IS NULL") ≡ Err UnknownColumn
+  pub each_counts : reads_notes (codes "SELECT id FROM note WHERE id IS NULL AND id IS NULL AND id IS NULL AND id IS NULL AND id IS NULL AND id IS NULL AND id IS NULL AND id IS NULL AND id IS NULL AND id IS NULL AND id IS NULL AND id IS NULL AND id IS NULL AND id IS NULL AND id IS NULL AND id IS NULL AND id IS NULL")
+      ≡ Err Limit
+  pub sixteen : reads_notes (codes "SELECT id FROM note WHERE id IS NULL AND id IS NULL AND id IS NULL AND id IS NULL AND id IS NULL AND id IS NULL AND id IS NULL AND id IS NULL AND id IS NULL AND id IS NULL AND id IS NULL AND id IS NULL AND id IS NULL AND id IS NULL AND id IS NULL AND id IS NULL")
+      ≡ Ok (notes_under (replicate 16 (alone (field 0 0) IsNull)))
 
 -- the first token that no text has
 pub record QuerySyntaxFaults : Type 0 where
@@ -185,7 +216,7 @@ pub record QueryRulesInOrder : Type 0 where
   pub literal_before_unlinked : reads (codes "SELECT age FROM patient, doctor WHERE age = 9223372036854775808")
       ≡ Err BadLiteral
   pub leading_zeros : reads (codes "SELECT age FROM patient WHERE age = 00000000009223372036854775807")
-      ≡ Ok (query (1 ∷ []) (field 1 1 ∷ []) (Compare (field 1 1) Equal (number 9223372036854775807) ∷ []))
+      ≡ Ok (query (1 ∷ []) (field 1 1 ∷ []) (compared (field 1 1) Equal (number 9223372036854775807) ∷ []))
   pub two_tops : reads (codes "SELECT age FROM patient, doctor") ≡ Err NotLinked
   pub no_join : reads (codes "SELECT visit.id FROM visit, doctor") ≡ Err NotLinked
   pub one_join_of_two : reads (codes "SELECT day FROM visit, doctor, patient WHERE doc = doctor.id")

@@ -1,12 +1,15 @@
 -- Schemas of texts, and the faults of texts that mean none: the offset of the token at which a text leaves the grammar,
 -- the place of each rule that is broken, and which of two broken rules is named.
-use Rattle.std.specs.Prelude.{◌≡◌, ℕ, nat_le, true, false, length, List, [], ◌∷◌, ◌++◌, flat_map, replicate, codes, Ok, Err}
+use Rattle.std.specs.Prelude.{◌≡◌, ℕ, nat_le, true, false, length, List, [], ◌∷◌, ◌++◌, flat_map, replicate, codes, None, Ok, Err}
 use Rattle.ghost_model.specs.readings.SchemaReading.{schema_reading}
 use Rattle.ghost_model.specs.refusals.SchemaFaults.{most_schema_bytes, BadSyntax, OverLimit, DuplicateName, NoId, UnknownChild, TwoParents, Cycle, NotOneRoot, MeansSchema, IsSchemaFault}
 use Rattle.ghost_model.specs.refusals.Grammar.{IsSyntaxFault}
 use Rattle.ghost_model.specs.refusals.SchemaGrammar.{schema_spelling}
 use Rattle.ghost_model.specs.examples.Tokens.{spaces}
 use Rattle.ghost_model.specs.examples.Clinic.{clinic_schema, id_column, text_column, key_column}
+use Rattle.ghost_model.specs.examples.Groups.{nullable_notes_schema}
+use Rattle.ghost_model.specs.forms.Catalog.{canonical_text}
+use Rattle.ghost_model.specs.core.Schema.{IntegerOrNull}
 
 abbrev pub clinic_text : List ℕ
 clinic_text =
@@ -39,6 +42,21 @@ pub record SchemasOfTexts : Type 0 where
       ≡ Ok
       (record { name = codes "a"; columns = id_column ∷ key_column (codes "a") 1 ∷ [] }
       ∷ record { name = codes "b"; columns = id_column ∷ text_column (codes "c") 64 ∷ [] } ∷ [])
+  pub columns_with_null :
+      schema_reading (codes "CREATE TABLE note (id INTEGER PRIMARY KEY, topic CHAR(4) NULL, body CHAR(8) NULL HIDDEN);")
+      ≡ Ok nullable_notes_schema
+  pub numbers_with_null :
+      schema_reading (with_id (codes "t") (codes ", c INT NULL, d INTEGER null HIDDEN"))
+      ≡ Ok
+      (record {
+        name = codes "t";
+        columns =
+            id_column ∷ record { name = codes "c"; kind = IntegerOrNull; hidden = false; child = None }
+            ∷ record { name = codes "d"; kind = IntegerOrNull; hidden = true; child = None } ∷ [];
+      } ∷ [])
+  pub null_in_its_own_text :
+      canonical_text nullable_notes_schema
+      ≡ codes "CREATE TABLE note (id INTEGER PRIMARY KEY, topic CHAR(4) NULL, body CHAR(8) NULL HIDDEN);\n"
   pub longest_name :
       schema_reading (with_id (long_name 32) [])
       ≡ Ok (record { name = long_name 32; columns = id_column ∷ [] } ∷ [])
@@ -63,6 +81,11 @@ pub record SyntaxFaultsOfSchemas : Type 0 where
   pub a_sign : schema_reading (codes "CREATE TABLE t (c CHAR(-1));") ≡ Err (BadSyntax 23)
   pub half_a_key : schema_reading (codes "CREATE TABLE t (id INT PRIMARY, x INT);") ≡ Err (BadSyntax 30)
   pub null : schema_reading (with_id (codes "t") (codes " NULL")) ≡ Err (BadSyntax 39)
+  pub null_before_a_reference : schema_reading (with_id (codes "t") (codes ", c INT NULL REFERENCES u")) ≡ Err (BadSyntax 51)
+  pub null_after_a_reference : schema_reading (with_id (codes "t") (codes ", c INT REFERENCES u NULL")) ≡ Err (BadSyntax 59)
+  pub null_after_hidden : schema_reading (with_id (codes "t") (codes ", c INT HIDDEN NULL")) ≡ Err (BadSyntax 53)
+  pub null_twice : schema_reading (with_id (codes "t") (codes ", c CHAR(2) NULL NULL")) ≡ Err (BadSyntax 55)
+  pub not_null : schema_reading (with_id (codes "t") (codes ", c INT NOT NULL")) ≡ Err (BadSyntax 46)
   pub a_key_of_text : schema_reading (codes "CREATE TABLE t (c CHAR(2) PRIMARY KEY);") ≡ Err (BadSyntax 26)
   pub a_text_that_refers : schema_reading (codes "CREATE TABLE t (c CHAR(2) REFERENCES u);") ≡ Err (BadSyntax 26)
   pub hidden_stands_last : schema_reading (codes "CREATE TABLE t (c INT HIDDEN REFERENCES u);") ≡ Err (BadSyntax 29)
@@ -98,6 +121,7 @@ pub record NamesOfSchemas : Type 0 where
   pub another_name : schema_reading (codes "CREATE TABLE t (key1 INT PRIMARY KEY);") ≡ Err (NoId 0)
   pub no_key : schema_reading (codes "CREATE TABLE t (id INT);") ≡ Err (NoId 0)
   pub a_text : schema_reading (codes "CREATE TABLE t (id CHAR(3));") ≡ Err (NoId 0)
+  pub an_identifier_with_null : schema_reading (codes "CREATE TABLE t (id INTEGER NULL);") ≡ Err (NoId 0)
   pub a_hidden_identifier : schema_reading (with_id (codes "t") (codes " HIDDEN")) ≡ Err (NoId 0)
   pub an_identifier_that_refers : schema_reading (with_id (codes "t") (codes " REFERENCES nowhere")) ≡ Err (NoId 0)
   pub a_later_key : schema_reading (two_tables [] (codes ", c INT PRIMARY KEY")) ≡ Err (NoId 1)

@@ -1,12 +1,12 @@
 -- Telling texts and their tokens, and telling scripts and their texts.
 use Rattle.std.specs.Prelude.{◌≡◌, ℕ, true, false, List, [], ◌∷◌, ◌++◌, codes, Some, None, length, nat_le, replicate, flat_map}
-use Rattle.ghost_model.specs.refusals.Tokens.{Word, Reserved, Name, Digits, Quoted, Open, Closing, Comma, Point, Semicolon, Star, PlusSign, MinusSign, EqualSign, UnequalSign, LessSign, AtMostSign, MoreSign, AtLeastSign, NoToken, EndOfText, SelectWord, AndWord, IntegerWord, TableWord, symbols, offset_of}
+use Rattle.ghost_model.specs.refusals.Tokens.{Word, Reserved, Name, Digits, Quoted, Open, Closing, Comma, Point, Semicolon, Star, PlusSign, MinusSign, EqualSign, UnequalSign, LessSign, AtMostSign, MoreSign, AtLeastSign, NoToken, EndOfText, SelectWord, AndWord, IntegerWord, NullWord, TableWord, symbols, offset_of}
 use Rattle.ghost_model.specs.laws.Spelled.{text_of}
 use Rattle.ghost_model.specs.core.Texts.{texts_of, most_script_bytes, most_texts}
 
 pub record TokensOfTexts : Type 0 where
   pub no_bytes : symbols [] ≡ EndOfText ∷ []
-  pub words_without_case : symbols (codes "Select aGe NULL") ≡ Word SelectWord ∷ Name (codes "age") ∷ Reserved ∷ EndOfText ∷ []
+  pub words_without_case : symbols (codes "Select aGe NULL") ≡ Word SelectWord ∷ Name (codes "age") ∷ Word NullWord ∷ EndOfText ∷ []
   pub int_is_integer : symbols (codes "INT integer") ≡ Word IntegerWord ∷ Word IntegerWord ∷ EndOfText ∷ []
   pub words_of_later_grammars_are_no_names : symbols (codes "count by OR max") ≡ Reserved ∷ Reserved ∷ Reserved ∷ Reserved ∷ EndOfText ∷ []
   pub other_words_are_names : symbols (codes "distinct ORDER as id") ≡ Name (codes "distinct") ∷ Name (codes "order") ∷ Name (codes "as") ∷ Name (codes "id") ∷ EndOfText ∷ []
@@ -46,7 +46,7 @@ pub record OffsetsOfTokens : Type 0 where
 -- a text for a list of symbols
 pub record TextsOfSymbols : Type 0 where
   pub words_and_signs : text_of (Word SelectWord ∷ Name (codes "age") ∷ LessSign ∷ EqualSign ∷ Digits (codes "5") ∷ []) ≡ codes "select age < = 5 "
-  pub a_literal : text_of (Quoted (codes "it's") ∷ Reserved ∷ NoToken ∷ []) ≡ codes "'it''s' NULL ? "
+  pub a_literal : text_of (Quoted (codes "it's") ∷ Reserved ∷ NoToken ∷ []) ≡ codes "'it''s' MAX ? "
 
 -- so many spaces, and so many texts of one letter
 abbrev pub spaces : ℕ → List ℕ

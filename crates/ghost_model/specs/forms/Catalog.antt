@@ -1,6 +1,6 @@
 -- What both sides of the channel know beforehand, as bytes. The canonical text of a schema has one line a table, names
--- in lower case, one space between words, `REFERENCES` with the child's name and `(id)` at a foreign key, and then HIDDEN
--- at each hidden column. The catalog's bytes are `GHOSTDB`, the
+-- in lower case, one space between words, NULL after the kind of a column that may be NULL, `REFERENCES` with the child's name
+-- and `(id)` at a foreign key, and then HIDDEN at each hidden column. The catalog's bytes are `GHOSTDB`, the
 -- version of the format, the generation, the length of the canonical text, that text, and each table's number of rows.
 use Rattle.std.specs.Prelude.{ℕ, Bool, true, false, ◌||◌, ◌==◌, List, [], ◌∷◌, ◌++◌, length, drop, flat_map, codes, decimal, Option, Some, None, slice_get, ◌≡◌, ◌<◌, ◌^◌, nat_le}
 use Rattle.std.specs.List.{list_all}

@@ -1,10 +1,10 @@
 -- What the rules leave: each schema that a text means is a tree within the limits. It has at most 12 tables with at most
 -- 24 columns each; names are names that a text can write, of at most 32 bytes, and no two tables and no two columns of a
 -- table share one; a column of texts holds at least 1 and at most 64 bytes. Every table begins with its identifier,
--- foreign keys are hidden integers, at most one of them names a table, following parents never returns, and exactly one
+-- foreign keys are hidden integers and never NULL, at most one of them names a table, following parents never returns, and exactly one
 -- table, the root, has no parent.
 use Rattle.std.specs.Prelude.{◌≡◌, ℕ, ◌<◌, ◌≤◌, true, false, List, length, codes, Some, None, slice_get}
-use Rattle.ghost_model.specs.core.Schema.{Integer, Chars, CharsOrNull, is_nullable, Column, Table, Schema, columns_of, column_at, ancestor}
+use Rattle.ghost_model.specs.core.Schema.{Integer, Chars, CharsOrNull, Column, Table, Schema, columns_of, column_at, ancestor}
 use Rattle.ghost_model.specs.laws.Spelled.{is_name}
 use Rattle.ghost_model.specs.refusals.SchemaFaults.{references_naming, roots_of, MeansSchema}
 
@@ -38,9 +38,6 @@ pub record IsTree (schema : Schema) : Type 0 where
   pub nullable_text_lengths :
       (table column most : ℕ) (held : Column)
       → column_at schema table column ≡ Some held → held.kind ≡ CharsOrNull most → (1 ≤ most) × (most ≤ 64)
-  -- for now no column may be NULL
-  pub not_null :
-      (table column : ℕ) (held : Column) → column_at schema table column ≡ Some held → is_nullable held.kind ≡ false
   pub references_are_integers :
       (table column child : ℕ) (held : Column)
       → column_at schema table column ≡ Some held → held.child ≡ Some child → held.kind ≡ Integer

@@ -9,7 +9,7 @@ use Rattle.ghost_model.specs.refusals.QueryGrammar.{QueryText}
 use Rattle.ghost_model.specs.core.Schema.{Schema, Column, columns_of, places_where, first_of, is_empty}
 use Rattle.ghost_model.specs.core.Values.{Value, Row, Rows, Database}
 use Rattle.ghost_model.specs.core.Query.{Query, Field, Operator, Condition, is_among}
-use Rattle.ghost_model.specs.core.Channel.{Catalog, Test, Frame, Move, Answer, Entry, Journal, Ask}
+use Rattle.ghost_model.specs.core.Channel.{Catalog, ColumnTest, Frame, Move, Answer, Entry, Journal, Ask}
 use Rattle.ghost_model.specs.core.Database.{value_at_row, holds, integer_of}
 use Rattle.ghost_model.specs.core.Meaning.{compares}
 use Rattle.ghost_model.specs.core.Asks.{NumberedAsk, test_of, RowCells, kinds_of}
@@ -107,7 +107,7 @@ name_of column = column.name
 abbrev pub is_field : (table column : ℕ) → Field → Bool
 is_field table column field = field.table == table && field.column == column
 
-abbrev pub tests_of : Schema → (table : ℕ) → List Condition → List Test
+abbrev pub tests_of : Schema → (table : ℕ) → List Condition → List ColumnTest
 tests_of schema table conditions = flat_map (test_of schema table) conditions
 
 abbrev pub most_tests : ℕ
@@ -167,9 +167,6 @@ abbrev pub structures_of : Schema → (table : ℕ) → List Structure
 structures_of schema table =
     map (ColumnFile table) (hidden_columns schema table)
     ++ (SubtreeTable table ∷ (map (ClimbingIndex table) (hidden_columns schema table) ++ IdIndex table ∷ []))
-
-abbrev pub meets_test : Test → Option Value → Bool
-meets_test test found = option_map_or (λ value. holds test.operator value test.value) found false
 
 abbrev pub reply_row : Schema → Ask → RowValues → RowCells
 reply_row schema ask row = record { identifier = row.identifier; cells = cells (kinds_of schema ask) row.values }

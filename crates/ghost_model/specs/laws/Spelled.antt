@@ -4,7 +4,7 @@
 -- the tokens of every text are such symbols and then its end.
 use Rattle.std.specs.Prelude.{◌≡◌, ℕ, Bool, true, false, not, ◌&&◌, ◌||◌, ◌==◌, List, [], ◌∷◌, ◌++◌, flat_map, if◌then◌else◌, codes, bytes_eq, is_none}
 use Rattle.std.specs.List.{list_any, list_all}
-use Rattle.ghost_model.specs.refusals.Tokens.{Symbol, Word, Reserved, Name, Digits, Quoted, Open, Closing, Comma, Point, Semicolon, Star, PlusSign, MinusSign, EqualSign, UnequalSign, LessSign, AtMostSign, MoreSign, AtLeastSign, NoToken, EndOfText, begins_name, is_name_byte, is_numeral, is_printable, in_lower_case, Keyword, AndWord, BetweenWord, CharWord, CreateWord, FromWord, HiddenWord, IntegerWord, PrimaryKeyWord, PrimaryWord, ReferencesWord, SelectWord, TableWord, WhereWord, keyword_of, other_reserved, symbols}
+use Rattle.ghost_model.specs.refusals.Tokens.{Symbol, Word, Reserved, Name, Digits, Quoted, Open, Closing, Comma, Point, Semicolon, Star, PlusSign, MinusSign, EqualSign, UnequalSign, LessSign, AtMostSign, MoreSign, AtLeastSign, NoToken, EndOfText, begins_name, is_name_byte, is_numeral, is_printable, in_lower_case, Keyword, AndWord, BetweenWord, CharWord, CreateWord, FromWord, HiddenWord, IntegerWord, IsWord, NotWord, NullWord, PrimaryKeyWord, PrimaryWord, ReferencesWord, SelectWord, TableWord, WhereWord, keyword_of, other_reserved, symbols}
 
 abbrev pub begins_as_name : List ℕ → Bool
 begins_as_name [] = false
@@ -39,6 +39,9 @@ keyword_text CreateWord = codes "create"
 keyword_text FromWord = codes "from"
 keyword_text HiddenWord = codes "hidden"
 keyword_text IntegerWord = codes "integer"
+keyword_text IsWord = codes "is"
+keyword_text NotWord = codes "not"
+keyword_text NullWord = codes "null"
 keyword_text PrimaryKeyWord = codes "key"
 keyword_text PrimaryWord = codes "primary"
 keyword_text ReferencesWord = codes "references"
@@ -49,7 +52,7 @@ keyword_text WhereWord = codes "where"
 -- a symbol as it is written; one of several writings, where there are several
 abbrev pub symbol_text : Symbol → List ℕ
 symbol_text (Word keyword) = keyword_text keyword
-symbol_text Reserved = codes "NULL"
+symbol_text Reserved = codes "MAX"
 symbol_text (Name word) = word
 symbol_text (Digits digits) = digits
 symbol_text (Quoted value) = 39 ∷ (flat_map inside_literal value ++ 39 ∷ [])

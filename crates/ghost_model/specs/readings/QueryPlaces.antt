@@ -3,13 +3,13 @@
 -- places over the tokens of a text tells its tree, or where its fault stands. Nothing in this module need be believed:
 -- the law QueryPlacesAreExact (function `query_places_are_exact`) makes `syntax_of` the tree which the text spells and
 -- the fault that the grammar gives it.
-use Rattle.std.specs.Prelude.{ℕ, List, [], ◌∷◌, ◌++◌, Option, Some, None, option_map, Result, Ok, Err}
+use Rattle.std.specs.Prelude.{ℕ, Bool, true, false, List, [], ◌∷◌, ◌++◌, Option, Some, None, option_map, Result, Ok, Err}
 use Rattle.ghost_model.specs.core.Query as query
 use Rattle.ghost_model.specs.core.Query.{Operator}
-use Rattle.ghost_model.specs.refusals.Tokens.{Symbol, Token, tokens, Word, Name, Digits, Quoted, Comma, Point, Star, PlusSign, MinusSign, EqualSign, UnequalSign, LessSign, AtMostSign, MoreSign, AtLeastSign, EndOfText, SelectWord, FromWord, WhereWord, AndWord, BetweenWord}
+use Rattle.ghost_model.specs.refusals.Tokens.{Symbol, Token, tokens, Word, Name, Digits, Quoted, Comma, Point, Star, PlusSign, MinusSign, EqualSign, UnequalSign, LessSign, AtMostSign, MoreSign, AtLeastSign, EndOfText, SelectWord, FromWord, WhereWord, AndWord, BetweenWord, IsWord, NotWord, NullWord}
 use Rattle.ghost_model.specs.refusals.Grammar.{separated}
 use Rattle.ghost_model.specs.readings.Begun.{begun}
-use Rattle.ghost_model.specs.refusals.QueryGrammar.{ColumnText, Bare, Qualified, Sign, Positive, Negative, LiteralText, Unsigned, Signed, Written, ConditionText, Compares, LiesBetween, Joins, Selection, All, Columns, QueryText, spell_column, spell_sign, spell_operator, spell_literal, spell_condition, spell_table, spell_selection, spelling}
+use Rattle.ghost_model.specs.refusals.QueryGrammar.{ColumnText, Bare, Qualified, Sign, Positive, Negative, LiteralText, Unsigned, Signed, Written, ConditionText, Compares, TestsNull, LiesBetween, Joins, Selection, All, Columns, QueryText, spell_column, spell_sign, spell_operator, spell_literal, spell_not, spell_condition, spell_table, spell_selection, spelling}
 
 -- in a selected column: before it, after its table and the point, and after it
 pub data ColumnPart : Type 0 where
@@ -25,6 +25,7 @@ pub data ConditionPart : Type 0 where
   HasOperator : ColumnText → Operator → ConditionPart
   HasSign : ColumnText → Operator → Sign → ConditionPart
   HasRightPoint : ColumnText → List ℕ → ConditionPart
+  HasIs : ColumnText → (negated : Bool) → ConditionPart
   WantsLow : ColumnText → ConditionPart
   HasLowSign : ColumnText → Sign → ConditionPart
   HasLow : ColumnText → LiteralText → ConditionPart
@@ -70,6 +71,7 @@ in_condition (HasLeft column) = spell_column column
 in_condition (HasOperator column operator) = spell_column column ++ (spell_operator operator ∷ [])
 in_condition (HasSign column operator sign) = spell_column column ++ (spell_operator operator ∷ spell_sign sign ∷ [])
 in_condition (HasRightPoint column table) = spell_column column ++ (EqualSign ∷ Name table ∷ Point ∷ [])
+in_condition (HasIs column negated) = spell_column column ++ (Word IsWord ∷ spell_not negated)
 in_condition (WantsLow column) = spell_column column ++ (Word BetweenWord ∷ [])
 in_condition (HasLowSign column sign) = spell_column column ++ (Word BetweenWord ∷ spell_sign sign ∷ [])
 in_condition (HasLow column low) = spell_column column ++ (Word BetweenWord ∷ spell_literal low)
@@ -112,6 +114,9 @@ step_in_condition AtMostSign (HasLeft column) = Some (HasOperator column query.A
 step_in_condition MoreSign (HasLeft column) = Some (HasOperator column query.More)
 step_in_condition AtLeastSign (HasLeft column) = Some (HasOperator column query.AtLeast)
 step_in_condition (Word BetweenWord) (HasLeft column) = Some (WantsLow column)
+step_in_condition (Word IsWord) (HasLeft column) = Some (HasIs column false)
+step_in_condition (Word NotWord) (HasIs column false) = Some (HasIs column true)
+step_in_condition (Word NullWord) (HasIs column negated) = Some (HasCondition (TestsNull column negated))
 step_in_condition PlusSign (HasOperator column operator) = Some (HasSign column operator Positive)
 step_in_condition MinusSign (HasOperator column operator) = Some (HasSign column operator Negative)
 step_in_condition (Digits digits) (HasOperator column operator) =

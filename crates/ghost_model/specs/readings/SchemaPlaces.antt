@@ -4,9 +4,9 @@
 -- nowhere. Nothing in this module need be believed: the law SchemaPlacesAreExact (function `schema_places_are_exact`)
 -- makes `schema_syntax_of` the tree which the text spells and the fault that the grammar gives it.
 use Rattle.std.specs.Prelude.{ℕ, Bool, true, false, List, [], ◌∷◌, ◌++◌, flat_map, codes, bytes_eq, Option, Some, None, option_map, Result, Ok, Err, if◌then◌else◌}
-use Rattle.ghost_model.specs.refusals.Tokens.{Symbol, Token, Word, Name, Digits, Open, Closing, Comma, Semicolon, EndOfText, CharWord, CreateWord, HiddenWord, IntegerWord, PrimaryKeyWord, PrimaryWord, ReferencesWord, TableWord, tokens}
+use Rattle.ghost_model.specs.refusals.Tokens.{Symbol, Token, Word, Name, Digits, Open, Closing, Comma, Semicolon, EndOfText, CharWord, CreateWord, HiddenWord, IntegerWord, NullWord, PrimaryKeyWord, PrimaryWord, ReferencesWord, TableWord, tokens}
 use Rattle.ghost_model.specs.readings.Begun.{begun}
-use Rattle.ghost_model.specs.refusals.SchemaGrammar.{Reference, To, ColumnDeclaration, CharColumn, IntegerColumn, TableText, SchemaText, spell_if, spell_declaration, spell_heading, spell_declared_table, schema_spelling}
+use Rattle.ghost_model.specs.refusals.SchemaGrammar.{Reference, To, ColumnDeclaration, CharColumn, IntegerColumn, NullableColumn, TableText, SchemaText, spell_if, spell_declaration, spell_heading, spell_declared_table, schema_spelling}
 
 -- within a column. A column that may stand as it is is `WholeColumn`, also where more may follow
 pub data InColumn : Type 0 where
@@ -65,12 +65,15 @@ abbrev pub after_integer : (name : List ℕ) (primary : Bool) → Option Referen
 after_integer name primary reference (Word HiddenWord) = Some (WholeColumn (IntegerColumn name primary reference true))
 after_integer name primary None (Word ReferencesWord) = Some (AfterReferences name primary)
 after_integer name false None (Word PrimaryWord) = Some (AfterPrimary name)
+after_integer name false None (Word NullWord) = Some (WholeColumn (NullableColumn name false))
 after_integer name primary (Some (To table false)) Open = Some (OpensId name primary table)
 after_integer _ _ _ _ = None
 
 -- where a symbol leads after what may stand as a column
 abbrev pub after_column : ColumnDeclaration → Symbol → Option InColumn
-after_column (CharColumn name digits false) (Word HiddenWord) = Some (WholeColumn (CharColumn name digits true))
+after_column (CharColumn name digits nullable false) (Word HiddenWord) = Some (WholeColumn (CharColumn name digits nullable true))
+after_column (CharColumn name digits false false) (Word NullWord) = Some (WholeColumn (CharColumn name digits true false))
+after_column (NullableColumn name false) (Word HiddenWord) = Some (WholeColumn (NullableColumn name true))
 after_column (IntegerColumn name primary reference false) symbol = after_integer name primary reference symbol
 after_column _ _ = None
 
@@ -84,7 +87,7 @@ step_in (Named name) (Word CharWord) = Some (AfterChar name)
 step_in (Named name) (Word IntegerWord) = Some (WholeColumn (IntegerColumn name false None false))
 step_in (AfterChar name) Open = Some (AfterOpen name)
 step_in (AfterOpen name) (Digits digits) = Some (AfterLength name digits)
-step_in (AfterLength name digits) Closing = Some (WholeColumn (CharColumn name digits false))
+step_in (AfterLength name digits) Closing = Some (WholeColumn (CharColumn name digits false false))
 step_in (AfterPrimary name) (Word PrimaryKeyWord) = Some (WholeColumn (IntegerColumn name true None false))
 step_in (AfterReferences name primary) (Name table) =
     Some (WholeColumn (IntegerColumn name primary (Some (To table false)) false))

@@ -1,10 +1,10 @@
 -- The grammar of a query text: the tree of a text, and the symbols that spell it, with one equation for each
 -- alternative. A text selects all columns or names some, names its tables, and may have conditions joined by AND. A
 -- sign is a symbol of its own and stands before digits alone. Names stand in lower case, as symbols have them.
-use Rattle.std.specs.Prelude.{ℕ, List, [], ◌∷◌, ◌++◌}
+use Rattle.std.specs.Prelude.{ℕ, Bool, true, false, List, [], ◌∷◌, ◌++◌}
 use Rattle.ghost_model.specs.core.Query as query
 use Rattle.ghost_model.specs.core.Query.{Operator}
-use Rattle.ghost_model.specs.refusals.Tokens.{Symbol, Word, Name, Digits, Quoted, Comma, Point, Star, PlusSign, MinusSign, EqualSign, UnequalSign, LessSign, AtMostSign, MoreSign, AtLeastSign, EndOfText, SelectWord, FromWord, WhereWord, AndWord, BetweenWord}
+use Rattle.ghost_model.specs.refusals.Tokens.{Symbol, Word, Name, Digits, Quoted, Comma, Point, Star, PlusSign, MinusSign, EqualSign, UnequalSign, LessSign, AtMostSign, MoreSign, AtLeastSign, EndOfText, SelectWord, FromWord, WhereWord, AndWord, BetweenWord, IsWord, NotWord, NullWord}
 use Rattle.ghost_model.specs.refusals.Grammar.{separated}
 
 -- a column, alone or after its table
@@ -21,9 +21,10 @@ pub data LiteralText : Type 0 where
   Signed : Sign → List ℕ → LiteralText
   Written : List ℕ → LiteralText
 
--- a column and a literal, a column between two literals, or two columns that are equal
+-- a column and a literal, a column that is NULL or is not, a column between two literals, or two columns that are equal
 pub data ConditionText : Type 0 where
   Compares : ColumnText → Operator → LiteralText → ConditionText
+  TestsNull : ColumnText → (negated : Bool) → ConditionText
   LiesBetween : ColumnText → LiteralText → LiteralText → ConditionText
   Joins : ColumnText → ColumnText → ConditionText
 
@@ -60,9 +61,16 @@ spell_literal (Unsigned digits) = Digits digits ∷ []
 spell_literal (Signed sign digits) = spell_sign sign ∷ Digits digits ∷ []
 spell_literal (Written text) = Quoted text ∷ []
 
+-- NOT, where it is written
+abbrev pub spell_not : Bool → List Symbol
+spell_not false = []
+spell_not true = Word NotWord ∷ []
+
 abbrev pub spell_condition : ConditionText → List Symbol
 spell_condition (Compares column operator literal) =
     spell_column column ++ (spell_operator operator ∷ spell_literal literal)
+spell_condition (TestsNull column negated) =
+    spell_column column ++ (Word IsWord ∷ (spell_not negated ++ (Word NullWord ∷ [])))
 spell_condition (LiesBetween column low high) =
     spell_column column ++ (Word BetweenWord ∷ (spell_literal low ++ (Word AndWord ∷ spell_literal high)))
 spell_condition (Joins left right) = spell_column left ++ (EqualSign ∷ spell_column right)

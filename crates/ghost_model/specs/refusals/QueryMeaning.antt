@@ -7,10 +7,11 @@ use Rattle.std.specs.List.{list_any, list_all}
 use Rattle.ghost_model.specs.core.Schema.{Schema, Kind, Integer, Chars, IntegerOrNull, CharsOrNull, columns_of, column_at, column_kind, places_where, places_of, first_of, is_empty, is_table, parent}
 use Rattle.ghost_model.specs.refusals.Tokens.{number_of}
 use Rattle.ghost_model.specs.core.Values.{Value, Number, Text, fits_integer}
-use Rattle.ghost_model.specs.core.Query.{Field, AtMost, AtLeast, Condition, Compare, Join, Query, is_among, is_some_among, top_of}
+use Rattle.ghost_model.specs.core.Query.{Field, AtMost, AtLeast, Test, Compared, IsNull, IsNotNull, Member, Condition, OneOf, Join, tested, compared, Query, is_among, is_some_among, top_of}
+use Rattle.ghost_model.specs.core.Groups.{some_of}
 use Rattle.ghost_model.specs.refusals.Rules.{broken_if, MeetsAll, BreaksFirst}
 use Rattle.ghost_model.specs.refusals.Grammar.{Spells, IsSyntaxFault}
-use Rattle.ghost_model.specs.refusals.QueryGrammar.{ColumnText, Bare, Qualified, Sign, Positive, Negative, LiteralText, Unsigned, Signed, Written, ConditionText, Compares, LiesBetween, Joins, Selection, All, Columns, QueryText, spelling}
+use Rattle.ghost_model.specs.refusals.QueryGrammar.{ColumnText, Bare, Qualified, Sign, Positive, Negative, LiteralText, Unsigned, Signed, Written, ConditionText, Compares, TestsNull, LiesBetween, Joins, Selection, All, Columns, QueryText, spelling}
 
 -- why a text is refused, in the order in which the rules are tested; a syntax fault has its offset in the text
 pub data Refusal : Type 0 where
@@ -58,11 +59,17 @@ value_of_literal (Written text) = Text text
 
 -- the query with its names resolved, where each column of the text has one meaning
 
+abbrev pub null_test : (negated : Bool) → Test
+null_test false = IsNull
+null_test true = IsNotNull
+
 abbrev pub conditions_of : Schema → List ℕ → ConditionText → List Condition
 conditions_of schema from (Compares column operator literal) =
-    map (λ meant. Compare meant operator (value_of_literal literal)) (meanings schema from column)
+    map (λ meant. compared meant operator (value_of_literal literal)) (meanings schema from column)
+conditions_of schema from (TestsNull column negated) =
+    map (λ meant. OneOf (tested meant (null_test negated)) []) (meanings schema from column)
 conditions_of schema from (LiesBetween column low high) =
-    flat_map (λ meant. Compare meant AtLeast (value_of_literal low) ∷ Compare meant AtMost (value_of_literal high) ∷ [])
+    flat_map (λ meant. compared meant AtLeast (value_of_literal low) ∷ compared meant AtMost (value_of_literal high) ∷ [])
     (meanings schema from column)
 conditions_of schema from (Joins left right) =
     flat_map (λ meant. map (Join meant) (meanings schema from right)) (meanings schema from left)
@@ -86,6 +93,7 @@ selection_columns (Columns column more) = column ∷ more
 
 abbrev pub condition_columns : ConditionText → List ColumnText
 condition_columns (Compares column operator literal) = column ∷ []
+condition_columns (TestsNull column negated) = column ∷ []
 condition_columns (LiesBetween column low high) = column ∷ []
 condition_columns (Joins left right) = left ∷ right ∷ []
 
@@ -104,9 +112,10 @@ column_name (Qualified table name) = name
 abbrev pub table_names : QueryText → List (List ℕ)
 table_names tree = from_names tree ++ flat_map qualifier_of (columns_in tree)
 
--- how many conditions with a literal a condition of a text is
+-- how many tests of a column a condition of a text is
 abbrev pub literal_conditions : ConditionText → ℕ
 literal_conditions (Compares column operator literal) = 1
+literal_conditions (TestsNull column negated) = 1
 literal_conditions (LiesBetween column low high) = 2
 literal_conditions (Joins left right) = 0
 
@@ -115,7 +124,7 @@ abbrev pub selected_count : Schema → QueryText → Selection → ℕ
 selected_count schema tree All = length (selected_fields schema (from_tables schema tree) All)
 selected_count schema tree (Columns column more) = length (column ∷ more)
 
--- the limits of a text: 4,096 bytes, 32 bytes a name, 12 FROM tables, 16 conditions with a literal, 32 columns
+-- the limits of a text: 4,096 bytes, 32 bytes a name, 12 FROM tables, 16 tests of columns, 32 columns
 abbrev pub is_over_limit : Schema → List ℕ → QueryText → Bool
 is_over_limit schema text tree =
     nat_lt 4096 (length text)
@@ -157,10 +166,16 @@ is_too_large (Some (Chars most)) (Text text) = nat_lt most (length text)
 is_too_large (Some (CharsOrNull most)) (Text text) = nat_lt most (length text)
 is_too_large kind value = false
 
--- a test of the kind of a condition's column and its literal
+-- whether the kind of a column and the literal of a test of it fail
+abbrev pub fails_with : (Value → Bool) → Test → Bool
+fails_with fails (Compared operator literal) = fails literal
+fails_with fails IsNull = false
+fails_with fails IsNotNull = false
+
 abbrev pub literal_fails : Schema → (Option Kind → Value → Bool) → Condition → Bool
-literal_fails schema test (Compare column operator value) = test (column_kind schema column.table column.column) value
-literal_fails schema test (Join left right) = false
+literal_fails schema fails (OneOf first others) =
+    some_of (λ one. fails_with (fails (column_kind schema one.field.table one.field.column)) one.test) first others
+literal_fails schema fails (Join left right) = false
 
 -- the top table and the joins
 
@@ -172,12 +187,12 @@ is_reference_to schema key identifier =
 
 -- a condition between two columns is a join, either side first
 abbrev pub is_proper : Schema → Condition → Bool
-is_proper schema (Compare column operator value) = true
+is_proper schema (OneOf first others) = true
 is_proper schema (Join left right) = is_reference_to schema left right || is_reference_to schema right left
 
 -- the join of a table with its parent
 abbrev pub is_join_of : Schema → ℕ → Condition → Bool
-is_join_of schema table (Compare column operator value) = false
+is_join_of schema table (OneOf first others) = false
 is_join_of schema table (Join left right) =
     (is_reference_to schema left right && right.table == table) || (is_reference_to schema right left && left.table == table)
 

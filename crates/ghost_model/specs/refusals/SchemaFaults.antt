@@ -8,7 +8,7 @@ use Rattle.ghost_model.specs.core.Query.{Field}
 use Rattle.ghost_model.specs.core.Schema.{Schema, Table, places_of, is_table, references_to, parent, ancestor}
 use Rattle.ghost_model.specs.refusals.Rules.{broken_if, MeetsAll, BreaksFirst}
 use Rattle.ghost_model.specs.refusals.Grammar.{Spells, IsSyntaxFault}
-use Rattle.ghost_model.specs.refusals.SchemaGrammar.{To, ColumnDeclaration, CharColumn, IntegerColumn, TableText, SchemaText, schema_spelling}
+use Rattle.ghost_model.specs.refusals.SchemaGrammar.{To, ColumnDeclaration, CharColumn, IntegerColumn, NullableColumn, TableText, SchemaText, schema_spelling}
 use Rattle.ghost_model.specs.refusals.SchemaMeaning.{declared_table, columns_written, schema_of}
 
 -- the bytes of a schema's text, at most; a longer one is not read
@@ -32,9 +32,10 @@ abbrev pub is_long : List ℕ → Bool
 is_long name = nat_lt 32 (length name)
 
 abbrev pub is_column_over : ColumnDeclaration → Bool
-is_column_over (CharColumn name digits hidden) = is_long name || not (is_between 1 64 (number_of digits))
+is_column_over (CharColumn name digits nullable hidden) = is_long name || not (is_between 1 64 (number_of digits))
 is_column_over (IntegerColumn name primary None hidden) = is_long name
 is_column_over (IntegerColumn name primary (Some (To table says_id)) hidden) = is_long name || is_long table
+is_column_over (NullableColumn name hidden) = is_long name
 
 abbrev pub is_table_over : TableText → Bool
 is_table_over table =
@@ -45,8 +46,9 @@ is_over tables = nat_lt 12 (length tables) || list_any is_table_over tables
 
 -- DuplicateName: a table has the name of an earlier table, or a column that of an earlier column of its table
 abbrev pub declared_name : ColumnDeclaration → List ℕ
-declared_name (CharColumn name digits hidden) = name
+declared_name (CharColumn name digits nullable hidden) = name
 declared_name (IntegerColumn name primary reference hidden) = name
+declared_name (NullableColumn name hidden) = name
 
 abbrev pub is_this_name : Option (List ℕ) → List ℕ → Bool
 is_this_name None other = false
@@ -66,14 +68,15 @@ is_duplicate tables field =
     (field.column == 0 && repeats (map (λ (table : TableText). table.name) tables) field.table)
     || repeats (map declared_name (columns_at (slice_get tables field.table))) field.column
 
--- NoId: the first column is not `id INTEGER PRIMARY KEY`, without REFERENCES and HIDDEN, or a later one has PRIMARY KEY
+-- NoId: the first column is not `id INTEGER PRIMARY KEY`, without REFERENCES, NULL and HIDDEN, or a later one has PRIMARY KEY
 abbrev pub is_identifier : ColumnDeclaration → Bool
 is_identifier (IntegerColumn name true None false) = bytes_eq name (codes "id")
 is_identifier _ = false
 
 abbrev pub is_primary : ColumnDeclaration → Bool
-is_primary (CharColumn name digits hidden) = false
+is_primary (CharColumn name digits nullable hidden) = false
 is_primary (IntegerColumn name primary reference hidden) = primary
+is_primary (NullableColumn name hidden) = false
 
 abbrev pub table_lacks_id : Option TableText → Bool
 table_lacks_id None = false

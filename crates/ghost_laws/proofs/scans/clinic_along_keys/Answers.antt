@@ -1,5 +1,6 @@
 use Rattle.std.proofs.Common.{refl}
 use Rattle.ghost_model.specs.core.Schema.{places_from}
+use Rattle.ghost_model.specs.core.Groups.{groups_of}
 use Rattle.ghost_model.specs.refusals.Tokens.{tokens_from, quoted_from}
 use Rattle.ghost_model.specs.readings.QueryPlaces.{read_from}
 use Rattle.ghost_model.specs.core.Meaning.{combinations}
@@ -8,7 +9,7 @@ use Rattle.ghost_model.specs.core.Split.{replies_from}
 use Rattle.ghost_laws.proofs.scans.clinic_along_keys.Goals as goal
 
 pub returns : goal.returns
-unfolding places_from tokens_from quoted_from read_from combinations leads_within replies_from
+unfolding groups_of places_from tokens_from quoted_from read_from combinations leads_within replies_from
 returns c = record {
   means = refl;
   plain = refl;

@@ -1,6 +1,7 @@
 use Rattle.std.proofs.Common.{refl}
 use Rattle.std.specs.Fmt.{digits}
 use Rattle.hex.specs.Hex.{encode_with, decode_pairs}
+use Rattle.ghost_model.specs.core.Groups.{groups_of}
 use Rattle.ghost_model.specs.core.Asks.{rows_from}
 use Rattle.ghost_model.specs.readings.AskReading.{tests_in}
 use Rattle.ghost_model.specs.core.Schema.{places_from}
@@ -9,7 +10,7 @@ use Rattle.ghost_model.specs.core.Host.{groups_from, frames_within, bad_with_ref
 use Rattle.ghost_model.proofs.channel.answers_of_the_host.Goals as goal
 
 pub returns : goal.returns
-unfolding digits encode_with decode_pairs rows_from tests_in places_from replies_from groups_from said_with_refusals frames_within bad_with_refusals
+unfolding digits encode_with decode_pairs rows_from tests_in places_from replies_from groups_from said_with_refusals frames_within bad_with_refusals groups_of
 returns c = record {
   a_session = refl;
   conditions_are_met = refl;

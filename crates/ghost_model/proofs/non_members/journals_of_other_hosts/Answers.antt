@@ -14,6 +14,7 @@ use Rattle.ghost_model.specs.refusals.SchemaFaults.{fields_from, MeansSchema}
 use Rattle.ghost_model.specs.refusals.LoadFaults.{files_faults, rows_faults, field_faults, references_from, table_references, row_reference_faults}
 use Rattle.ghost_model.specs.core.NextMove.{hear_all, rows_fit, IsProper}
 use Rattle.ghost_model.specs.core.Meaning.{combinations}
+use Rattle.ghost_model.specs.core.Groups.{groups_of}
 use Rattle.ghost_model.specs.core.Split.{replies_from}
 use Rattle.ghost_model.specs.core.Host.{groups_from, frames_within, said_with_refusals}
 use Rattle.ghost_model.specs.core.Values.{Row, Number}
@@ -58,7 +59,7 @@ unfolding digits encode_with decode_pairs rows_from tests_in places_from hear_al
 lying_is_proper = (refl, (refl, (refl, (refl, (refl, (refl, (refl, (refl, (refl, (refl, (refl, (refl, tt))))))))))))
 
 pub returns : goal.returns
-unfolding digits encode_with decode_pairs rows_from tests_in places_from hear_all rows_fit tokens_from quoted_from read_from combinations replies_from groups_from said_with_refusals frames_within
+unfolding digits encode_with decode_pairs rows_from tests_in places_from hear_all rows_fit tokens_from quoted_from read_from combinations replies_from groups_from said_with_refusals frames_within groups_of
 returns c = record {
   wrong_rows = λ h.
       let clash : 4 ≡ 3 =

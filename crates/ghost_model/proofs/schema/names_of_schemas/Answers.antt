@@ -16,6 +16,7 @@ returns c = record {
   another_name = refl;
   no_key = refl;
   a_text = refl;
+  an_identifier_with_null = refl;
   a_hidden_identifier = refl;
   an_identifier_that_refers = refl;
   a_later_key = refl;
