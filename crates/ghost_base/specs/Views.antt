@@ -6,6 +6,8 @@ use Rattle.ghost_base.specs.declared.kind.Kind.{Kind}
 use Rattle.ghost_base.specs.declared.kind.Kind.TheVariants as kind
 use Rattle.ghost_base.specs.declared.operator.Operator.{Operator}
 use Rattle.ghost_base.specs.declared.operator.Operator.TheVariants as operator
+use Rattle.ghost_base.specs.declared.test.Test.{Test}
+use Rattle.ghost_base.specs.declared.test.Test.TheVariants as test
 use Rattle.ghost_base.specs.declared.value.Value.{Value}
 use Rattle.ghost_base.specs.declared.value.Value.TheVariants as value
 
@@ -27,3 +29,8 @@ operator_of operator.Less = query.Less
 operator_of operator.AtMost = query.AtMost
 operator_of operator.More = query.More
 operator_of operator.AtLeast = query.AtLeast
+
+abbrev pub test_of : Test → query.Test
+test_of (test.Compared operator literal) = query.Compared (operator_of operator) (value_of literal)
+test_of test.IsNull = query.IsNull
+test_of test.IsNotNull = query.IsNotNull

@@ -11,12 +11,14 @@ pub mod laws;
 pub mod limits;
 pub mod operator;
 pub mod runs;
+pub mod test;
 pub mod text;
 pub mod value;
 
 pub use cells::{cell_width, decode_cell, encode_cell, is_of_kind, is_printable_text};
 pub use kind::Kind;
 pub use operator::Operator;
+pub use test::Test;
 pub use text::Text64;
 pub use value::{Value, compare};
 

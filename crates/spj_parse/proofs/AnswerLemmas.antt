@@ -13,14 +13,15 @@ use Rattle.ghost_model.specs.core.Values.{Value, Database, is_null}
 use Rattle.ghost_model.specs.core.Database.{order_of, meets, holds}
 use Rattle.ghost_model.specs.laws.ShortWords as short
 use Rattle.ghost_model.specs.core.Query as query
-use Rattle.ghost_model.specs.core.Query.{Query, Field, Condition, Compare, Join, is_among, is_some_among, top_of}
-use Rattle.ghost_model.specs.refusals.QueryGrammar.{ColumnText, Bare, Qualified, ConditionText, Compares, LiesBetween, Joins, QueryText}
-use Rattle.ghost_model.specs.refusals.QueryMeaning.{field, table_named, fields_named, meanings, conditions_of, resolved, from_tables, is_reference_to, is_proper, is_join_of, lacks_join, is_unlinked, value_of_literal}
+use Rattle.ghost_model.specs.core.Query.{Query, Field, Condition, OneOf, Join, is_among, is_some_among, top_of}
+use Rattle.ghost_model.specs.refusals.QueryGrammar.{ColumnText, Bare, Qualified, ConditionText, Compares, TestsNull, LiesBetween, Joins, QueryText}
+use Rattle.ghost_model.specs.refusals.QueryMeaning.{field, table_named, fields_named, meanings, conditions_of, resolved, from_tables, is_reference_to, is_proper, is_join_of, lacks_join, is_unlinked, value_of_literal, null_test}
 use Rattle.ghost_model.specs.laws.ShortWords.{column_named}
 use Rattle.ghost_model.specs.core.Meaning as meaning
 use Rattle.ghost_model.specs.core.Meaning.{Source, pick, compares, is_kept, answer_of_row, answer_by_top, all_of, answer}
-use Rattle.spj_parse.specs.Resolved.{is_comparison, keys_between, join_by, join_with, join_to, joins_of, linked}
+use Rattle.spj_parse.specs.Resolved.{is_group, keys_between, join_by, join_with, join_to, joins_of, linked}
 use Rattle.spj_parse.proofs.KeyLemmas.{join_is}
+use Rattle.spj_parse.proofs.LinkedLemmas.{filter_same}
 
 -- a combination with the source of its values
 record Combination : Type 0 where
@@ -87,10 +88,10 @@ join_true laws schema tree from row table left right h l r =
 -- the columns of a join are of FROM tables
 
 abbrev within : (from : List ℕ) → Condition → Bool
-within from (Compare place operator value) = true
+within from (OneOf first others) = true
 within from (Join left right) = is_among from left.table && is_among from right.table
 
-both_true : (a b : Bool) → a ≡ true → b ≡ true → (a && b) ≡ true
+pub both_true : (a b : Bool) → a ≡ true → b ≡ true → (a && b) ≡ true
 both_true true b e h = h
 both_true false b e h = absurd (let no : false ≡ true = e in cc)
 
@@ -110,7 +111,7 @@ kept_all : {X : Type 0} (p : X → Bool) (x : X) (rest : List X) (b : Bool) → 
 kept_all p x rest true e h = both_true (p x) (list_all p rest) e h
 kept_all p x rest false e h = h
 
-all_filter : {X : Type 0} (p test : X → Bool) (xs : List X) → list_all p xs ≡ true → list_all p (filter test xs) ≡ true
+pub all_filter : {X : Type 0} (p test : X → Bool) (xs : List X) → list_all p xs ≡ true → list_all p (filter test xs) ≡ true
 all_filter p test [] h = refl
 all_filter p test (x ∷ xs) h = kept_all p x (filter test xs) (test x) (and_parts (p x) (list_all p xs) h).0 (all_filter p test xs (and_parts (p x) (list_all p xs) h).1)
 
@@ -137,7 +138,7 @@ compared_within : (from : List ℕ) (make : Field → Condition) → ((place : F
 compared_within from make h [] = refl
 compared_within from make h (place ∷ fields) = both_true (within from (make place)) (list_all (within from) (map make fields)) (h place) (compared_within from make h fields)
 
-bounds_within : (from : List ℕ) (low high : Value) (fields : List Field) → list_all (within from) (flat_map (λ place. Compare place query.AtLeast low ∷ Compare place query.AtMost high ∷ []) fields) ≡ true
+bounds_within : (from : List ℕ) (low high : Value) (fields : List Field) → list_all (within from) (flat_map (λ place. query.compared place query.AtLeast low ∷ query.compared place query.AtMost high ∷ []) fields) ≡ true
 bounds_within from low high [] = refl
 bounds_within from low high (place ∷ fields) = bounds_within from low high fields
 
@@ -156,7 +157,8 @@ joins_within from (left ∷ lefts) rights h g =
     (rights_within from left rights parts.0 g) (joins_within from lefts rights parts.1 g)
 
 condition_within : (schema : Schema) (from : List ℕ) (condition : ConditionText) → list_all (within from) (conditions_of schema from condition) ≡ true
-condition_within schema from (Compares column operator literal) = compared_within from (λ place. Compare place operator (value_of_literal literal)) (λ place. refl) (meanings schema from column)
+condition_within schema from (Compares column operator literal) = compared_within from (λ place. query.compared place operator (value_of_literal literal)) (λ place. refl) (meanings schema from column)
+condition_within schema from (TestsNull column negated) = compared_within from (λ place. OneOf (query.tested place (null_test negated)) []) (λ place. refl) (meanings schema from column)
 condition_within schema from (LiesBetween column low high) = bounds_within from (value_of_literal low) (value_of_literal high) (meanings schema from column)
 condition_within schema from (Joins left right) = joins_within from (meanings schema from left) (meanings schema from right) (meanings_from schema from left) (meanings_from schema from right)
 
@@ -204,7 +206,7 @@ all_both p q (x ∷ xs) h g =
 
 found_true : ValuesAreOrdered → (schema : Schema) → IsTree schema → (from : List ℕ) (row : Combination) (table : ℕ) (condition : Condition) → is_join_of schema table condition ≡ true → (is_true_in row condition && within from condition) ≡ true
     → list_all (is_true_in row) (join_to schema from table) ≡ true
-found_true laws schema tree from row table (Compare place operator value) h g = absurd (let no : false ≡ true = h in cc)
+found_true laws schema tree from row table (OneOf first others) h g = absurd (let no : false ≡ true = h in cc)
 found_true laws schema tree from row table (Join left right) h g =
     let parts = and_parts (is_true_in row (Join left right)) (within from (Join left right)) g in
     let sides = and_parts (is_among from left.table) (is_among from right.table) parts.1 in
@@ -254,11 +256,11 @@ among_side from table left right (inl e) l r = ap (is_among from) e ∙ r
 among_side from table left right (inr e) l r = ap (is_among from) e ∙ l
 
 conditions_true : ValuesAreOrdered → (schema : Schema) → IsTree schema → (from : List ℕ) (row : Combination) (conditions : List Condition) → list_all (is_proper schema) conditions ≡ true → list_all (within from) conditions ≡ true
-    → list_all (λ table. list_all (is_true_in row) (join_to schema from table)) from ≡ true → list_all (is_true_in row) (filter is_comparison conditions) ≡ true → list_all (is_true_in row) conditions ≡ true
+    → list_all (λ table. list_all (is_true_in row) (join_to schema from table)) from ≡ true → list_all (is_true_in row) (filter is_group conditions) ≡ true → list_all (is_true_in row) conditions ≡ true
 conditions_true laws schema tree from row [] p w j c = refl
-conditions_true laws schema tree from row (Compare place operator value ∷ conditions) p w j c =
-    let parts = and_parts (is_true_in row (Compare place operator value)) (list_all (is_true_in row) (filter is_comparison conditions)) c in
-    both_true (is_true_in row (Compare place operator value)) (list_all (is_true_in row) conditions) parts.0 (conditions_true laws schema tree from row conditions p w j parts.1)
+conditions_true laws schema tree from row (OneOf first others ∷ conditions) p w j c =
+    let parts = and_parts (is_true_in row (OneOf first others)) (list_all (is_true_in row) (filter is_group conditions)) c in
+    both_true (is_true_in row (OneOf first others)) (list_all (is_true_in row) conditions) parts.0 (conditions_true laws schema tree from row conditions p w j parts.1)
 conditions_true laws schema tree from row (Join left right ∷ conditions) p w j c =
     let proper = and_parts (is_proper schema (Join left right)) (list_all (is_proper schema) conditions) p in
     let inside = and_parts (within from (Join left right)) (list_all (within from) conditions) w in
@@ -277,18 +279,14 @@ pub record IsLinked (schema : Schema) (asked : Query) : Type 0 where
 
 same_passes : ValuesAreOrdered → (schema : Schema) → IsTree schema → (asked : Query) → IsLinked schema asked → (row : Combination) → passes (linked schema asked).conditions row ≡ passes asked.conditions row
 same_passes laws schema tree asked h row =
-    list_all-append (is_true_in row) (joins_of schema asked.from) (filter is_comparison asked.conditions)
-    ∙ ap (λ b. b && list_all (is_true_in row) (filter is_comparison asked.conditions)) (all_flat (is_true_in row) (join_to schema asked.from) asked.from)
-    ∙ same_bool (list_all (λ table. list_all (is_true_in row) (join_to schema asked.from table)) asked.from && list_all (is_true_in row) (filter is_comparison asked.conditions)) (list_all (is_true_in row) asked.conditions)
-    (λ e. let parts = and_parts (list_all (λ table. list_all (is_true_in row) (join_to schema asked.from table)) asked.from) (list_all (is_true_in row) (filter is_comparison asked.conditions)) e in
+    list_all-append (is_true_in row) (joins_of schema asked.from) (filter is_group asked.conditions)
+    ∙ ap (λ b. b && list_all (is_true_in row) (filter is_group asked.conditions)) (all_flat (is_true_in row) (join_to schema asked.from) asked.from)
+    ∙ same_bool (list_all (λ table. list_all (is_true_in row) (join_to schema asked.from table)) asked.from && list_all (is_true_in row) (filter is_group asked.conditions)) (list_all (is_true_in row) asked.conditions)
+    (λ e. let parts = and_parts (list_all (λ table. list_all (is_true_in row) (join_to schema asked.from table)) asked.from) (list_all (is_true_in row) (filter is_group asked.conditions)) e in
     conditions_true laws schema tree asked.from row asked.conditions h.proper h.inside parts.0 parts.1)
-    (λ e. both_true (list_all (λ table. list_all (is_true_in row) (join_to schema asked.from table)) asked.from) (list_all (is_true_in row) (filter is_comparison asked.conditions))
+    (λ e. both_true (list_all (λ table. list_all (is_true_in row) (join_to schema asked.from table)) asked.from) (list_all (is_true_in row) (filter is_group asked.conditions))
     (tables_true laws schema tree asked row asked.from h.none_lacks (all_both (is_true_in row) (within asked.from) asked.conditions e h.inside))
-    (all_filter (is_true_in row) is_comparison asked.conditions e))
-
-filter_same : {X : Type 0} (p q : X → Bool) → ((x : X) → p x ≡ q x) → (xs : List X) → filter p xs ≡ filter q xs
-filter_same p q same [] = refl
-filter_same p q same (x ∷ xs) = ap₂ (λ b rest. cond b (x ∷ rest) rest) (same x) (filter_same p q same xs)
+    (all_filter (is_true_in row) is_group asked.conditions e))
 
 rows_same : {X Y : Type 0} (f g : X → List Y) → ((x : X) → f x ≡ g x) → (xs : List X) → flat_map f xs ≡ flat_map g xs
 rows_same f g same [] = refl

@@ -1,5 +1,5 @@
 -- The tests of conditions, over the things that a text names, are those of the query that it means.
-use Rattle.std.proofs.Common.{◌≡◌, ℕ, Bool, true, false, not, ◌&&◌, ◌||◌, nat_lt, List, [], ◌∷◌, ◌++◌, length, map, flat_map, is_none, Ok, refl, ap, ap₂, sym, ◌∙◌, arith}
+use Rattle.std.proofs.Common.{◌≡◌, ℕ, Bool, true, false, not, ◌&&◌, ◌||◌, nat_lt, List, [], ◌∷◌, ◌++◌, length, map, flat_map, Option, Some, None, is_none, Ok, refl, ap, ap₂, sym, ◌∙◌, arith}
 use Rattle.std.specs.Prelude.{option_to_list}
 use Rattle.std.specs.List.{list_any, list_all}
 use Rattle.std.proofs.lemmas.Bool.{lt-ltb}
@@ -7,14 +7,15 @@ use Rattle.std.proofs.lemmas.List.Folds.{list_any-append}
 use Rattle.ghost_model.specs.core.Schema.{Schema, is_empty, first_of, parent}
 use Rattle.ghost_model.specs.core.Query as query
 use Rattle.ghost_model.specs.core.Query.{Field, Condition, is_some_among, top_of}
-use Rattle.ghost_model.specs.refusals.QueryGrammar.{ColumnText, ConditionText, Compares, LiesBetween, Joins, Selection, All, Columns, QueryText}
+use Rattle.ghost_model.specs.refusals.QueryGrammar.{ColumnText, ConditionText, Compares, TestsNull, LiesBetween, Joins, Selection, All, Columns, QueryText}
 use Rattle.ghost_model.specs.readings.QueryPlaces.{syntax_of}
-use Rattle.ghost_model.specs.refusals.QueryMeaning.{meanings, conditions_of, resolved, from_names, from_tables, selection_columns, condition_columns, columns_in, has_repeat, is_proper, is_unlinked, lacks_join}
+use Rattle.ghost_model.specs.refusals.QueryMeaning.{meanings, null_test, conditions_of, resolved, from_names, from_tables, selection_columns, condition_columns, columns_in, has_repeat, is_proper, is_unlinked, lacks_join}
 use Rattle.spj_parse.specs.Links.{lacks_join_in, top_among}
 use Rattle.spj_parse.specs.declared.conditions.ConditionTest.{ConditionTest}
 use Rattle.spj_parse.specs.declared.conditions.ConditionTest.TheVariants as test
 use Rattle.spj_parse.specs.Items.{Selected, From, Where, selection_items, items_of, items_in}
 use Rattle.spj_parse.specs.Conditions.{IsClear, conditions_with, first_alone, conditions_meant, passes_test, item_passes}
+use Rattle.spj_parse.specs.Names.{first_meaning}
 use Rattle.spj_parse.proofs.WalkLemmas.{any_map, any_flat}
 use Rattle.spj_parse.proofs.TreeLemmas.{items_are, any_or, none_of}
 
@@ -43,6 +44,8 @@ same_condition : (schema : Schema) (from : List ℕ) (condition : ConditionText)
     → conditions_meant schema from condition ≡ conditions_of schema from condition
 same_condition schema from (Compares column operator literal) h =
     ap (λ (fields : List Field). conditions_with (λ _. fields) (Compares column operator literal)) (clear schema from column (left_of _ false h))
+same_condition schema from (TestsNull column negated) h =
+    ap (λ (fields : List Field). conditions_with (λ _. fields) (TestsNull column negated)) (clear schema from column (left_of _ false h))
 same_condition schema from (LiesBetween column low high) h =
     ap (λ (fields : List Field). conditions_with (λ _. fields) (LiesBetween column low high)) (clear schema from column (left_of _ false h))
 same_condition schema from (Joins left right) h =
@@ -67,6 +70,23 @@ pub conditions_clear : (schema : Schema) (tree : QueryText) → IsClear schema t
 conditions_clear schema tree h =
     right_of (list_any (is_unclear schema (from_tables schema tree)) (selection_columns tree.selection)) _
     (sym (list_any-append (is_unclear schema (from_tables schema tree)) (selection_columns tree.selection) (flat_map condition_columns tree.conditions)) ∙ all_clear schema tree h)
+
+-- that a column is NULL, or is not, passes no test
+null_passes : (t : ConditionTest) (schema : Schema) (place : Field) (negated : Bool) → passes_test t schema (query.OneOf (query.tested place (null_test negated)) []) ≡ false
+null_passes test.OtherKind schema place true = refl
+null_passes test.OtherKind schema place false = refl
+null_passes test.TooLarge schema place true = refl
+null_passes test.TooLarge schema place false = refl
+null_passes test.Improper schema place negated = refl
+null_passes (test.JoinOf table) schema place negated = refl
+
+nulls_by : (t : ConditionTest) (schema : Schema) (negated : Bool) (found : Option Field)
+    → list_any (passes_test t schema) (map (λ place. query.OneOf (query.tested place (null_test negated)) []) (option_to_list found)) ≡ false
+nulls_by t schema negated None = refl
+nulls_by t schema negated (Some place) = ap (λ b. b || false) (null_passes t schema place negated)
+
+pub nulls_pass_none : (t : ConditionTest) (schema : Schema) (from : List ℕ) (column : ColumnText) (negated : Bool) → list_any (passes_test t schema) (conditions_meant schema from (TestsNull column negated)) ≡ false
+nulls_pass_none t schema from column negated = nulls_by t schema negated (first_meaning schema from column)
 
 -- the tests over the whole text
 

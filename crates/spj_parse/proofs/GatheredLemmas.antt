@@ -13,7 +13,7 @@ use Rattle.ghost_model.specs.laws.ShortWords.{column_named}
 use Rattle.spj_parse.specs.Conditions.{IsClear, first_alone}
 use Rattle.spj_parse.specs.Items.{Item, Selected, From, Where, selection_items, items_of, items_in}
 use Rattle.spj_parse.specs.Names.{first_meaning, fields_in}
-use Rattle.spj_parse.specs.Resolved.{item_fields, is_comparison, joins_of, join_to, join_with, join_by, linked}
+use Rattle.spj_parse.specs.Resolved.{item_fields, is_group, joins_of, join_to, join_with, join_by, linked}
 use Rattle.spj_parse.proofs.TreeLemmas.{items_are}
 use Rattle.spj_parse.proofs.ConditionLemmas.{is_unclear, clear, left_of, right_of, all_clear}
 use Rattle.spj_parse.proofs.ReadingLemmas.{few_tables, few_selected, fewer}
@@ -152,12 +152,12 @@ meaning_held schema from column place f = fields_held schema column from place (
 
 -- a query of its parts
 abbrev pub built : List ℕ → List Field → List Condition → List Condition → Query
-built tables fields joins comparisons = record { from = tables; select = fields; conditions = joins ++ comparisons }
+built tables fields joins members = record { from = tables; select = fields; conditions = joins ++ members }
 
-pub gathered : (schema : Schema) (tree : QueryText) (tables : List ℕ) (fields : List Field) (joins comparisons : List Condition) → tables ≡ from_tables schema tree → fields ≡ selected_fields schema (from_tables schema tree) tree.selection
-    → joins ≡ joins_of schema (from_tables schema tree) → comparisons ≡ filter is_comparison (resolved schema tree).conditions → built tables fields joins comparisons ≡ linked schema (resolved schema tree)
-gathered schema tree tables fields joins comparisons t s j k =
-    ap (λ x. built x fields joins comparisons) t
-    ∙ ap (λ x. built (from_tables schema tree) x joins comparisons) s
-    ∙ ap (λ x. built (from_tables schema tree) (selected_fields schema (from_tables schema tree) tree.selection) x comparisons) j
+pub gathered : (schema : Schema) (tree : QueryText) (tables : List ℕ) (fields : List Field) (joins members : List Condition) → tables ≡ from_tables schema tree → fields ≡ selected_fields schema (from_tables schema tree) tree.selection
+    → joins ≡ joins_of schema (from_tables schema tree) → members ≡ filter is_group (resolved schema tree).conditions → built tables fields joins members ≡ linked schema (resolved schema tree)
+gathered schema tree tables fields joins members t s j k =
+    ap (λ x. built x fields joins members) t
+    ∙ ap (λ x. built (from_tables schema tree) x joins members) s
+    ∙ ap (λ x. built (from_tables schema tree) (selected_fields schema (from_tables schema tree) tree.selection) x members) j
     ∙ ap (λ x. built (from_tables schema tree) (selected_fields schema (from_tables schema tree) tree.selection) (joins_of schema (from_tables schema tree)) x) k

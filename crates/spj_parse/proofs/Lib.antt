@@ -8,10 +8,11 @@ pub mod ConditionLemmas
 pub mod ResolveLemmas
 pub mod ReadingLemmas
 pub mod GatheredLemmas
-pub mod QueryViews
 pub mod ComparedLemmas
 pub mod PartLemmas
 pub mod LinkedLemmas
+pub mod GroupedLemmas
 pub mod KeyLemmas
 pub mod AnswerLemmas
+pub mod QueryViews
 pub mod TopLemmas

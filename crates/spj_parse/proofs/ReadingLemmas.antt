@@ -63,8 +63,8 @@ right_of false b h = h
 pub few_tables : (schema : Schema) (text : List ℕ) (tree : QueryText) → is_over_limit schema text tree ≡ false → length (from_names tree) ≤ 12
 few_tables schema text tree h = ltb-false 12 (length (from_names tree)) (right_of _ (nat_lt 12 (length (from_names tree))) (left_of _ (nat_lt 16 (sum_by literal_conditions tree.conditions)) (left_of _ (nat_lt 32 (selected_count schema tree tree.selection)) h)))
 
-pub few_literals : (schema : Schema) (text : List ℕ) (tree : QueryText) → is_over_limit schema text tree ≡ false → sum_by literal_conditions tree.conditions ≤ 16
-few_literals schema text tree h = ltb-false 16 (sum_by literal_conditions tree.conditions) (right_of _ (nat_lt 16 (sum_by literal_conditions tree.conditions)) (left_of _ (nat_lt 32 (selected_count schema tree tree.selection)) h))
+pub few_tests : (schema : Schema) (text : List ℕ) (tree : QueryText) → is_over_limit schema text tree ≡ false → sum_by literal_conditions tree.conditions ≤ 16
+few_tests schema text tree h = ltb-false 16 (sum_by literal_conditions tree.conditions) (right_of _ (nat_lt 16 (sum_by literal_conditions tree.conditions)) (left_of _ (nat_lt 32 (selected_count schema tree tree.selection)) h))
 
 pub few_selected : (schema : Schema) (text : List ℕ) (tree : QueryText) → is_over_limit schema text tree ≡ false → selected_count schema tree tree.selection ≤ 32
 few_selected schema text tree h = ltb-false 32 (selected_count schema tree tree.selection) (right_of _ (nat_lt 32 (selected_count schema tree tree.selection)) h)

@@ -1,5 +1,5 @@
 -- What is kept of a list, in the room that there is.
-use Rattle.std.proofs.Common.{◌≡◌, ℕ, zero, suc, ◌+◌, ◌<◌, ◌≤◌, min, Bool, true, false, nat_lt, List, [], ◌∷◌, ◌++◌, length, map, take, flat_map, length-append, length-take, get_or, take_all, append_assoc, append-nil, refl, ap, sym, ◌∙◌, arith}
+use Rattle.std.proofs.Common.{◌≡◌, ℕ, zero, suc, ◌+◌, ◌<◌, ◌≤◌, min, Bool, true, false, nat_lt, List, [], ◌∷◌, ◌++◌, length, map, take, flat_map, length-append, length-take, get_or, take_all, append_assoc, append-nil, refl, ap, sym, subst, ◌∙◌, arith}
 use Rattle.std.proofs.lemmas.Bool.{ltb-true, ltb-false}
 use Rattle.std.proofs.lemmas.List.{length-map, map-append, take-append-le}
 use Rattle.ghost_model.specs.core.Query.{Field}
@@ -24,6 +24,12 @@ adds_one {X} {Y} view most old new value room full done h = by (nat_lt (length o
     by false e =
         let past : most ≤ length old = ltb-false (length old) most e in
         ap (map view) (full past) ∙ h ∙ sym (take-append-le most done (view value ∷ []) (omega (arith, past, count)))
+
+-- the same of a value by what it is seen as
+pub adds_lone : {X Y : Type 0} (view : X → Y) (most : ℕ) (old new : List X) (value : X) (seen : Y) → (length old < most → new ≡ old ++ value ∷ []) → (most ≤ length old → new ≡ old)
+    → view value ≡ seen → Adds view most old new (seen ∷ [])
+adds_lone view most old new value seen room full same =
+    subst (λ y. Adds view most old new (y ∷ [])) same (adds_one view most old new value room full)
 
 pub adds_none : {X Y : Type 0} (view : X → Y) (most : ℕ) (kept : List X) → Adds view most kept kept []
 adds_none view most kept done h = h ∙ ap (take most) (sym (append-nil done))

@@ -151,11 +151,11 @@ tables_count schema tree =
     let others : sum_by (λ condition. weight_of count.Tables schema (Where condition)) tree.conditions ≡ 0 = sum_zero tree.conditions in
     sum_items count.Tables schema tree ∙ omega (arith, selection, tables, others)
 
-pub literals_count : (schema : Schema) (tree : QueryText) → sum_by (weight_of count.Literals schema) (items_of tree) ≡ sum_by literal_conditions tree.conditions
-literals_count schema tree =
-    let selection = selection_zero count.Literals schema tree.selection (λ item. refl) refl in
-    let tables : sum_by (λ name. weight_of count.Literals schema (From name)) (from_names tree) ≡ 0 = sum_zero (from_names tree) in
-    sum_items count.Literals schema tree ∙ omega (arith, selection, tables)
+pub tests_count : (schema : Schema) (tree : QueryText) → sum_by (weight_of count.Tests schema) (items_of tree) ≡ sum_by literal_conditions tree.conditions
+tests_count schema tree =
+    let selection = selection_zero count.Tests schema tree.selection (λ item. refl) refl in
+    let tables : sum_by (λ name. weight_of count.Tests schema (From name)) (from_names tree) ≡ 0 = sum_zero (from_names tree) in
+    sum_items count.Tests schema tree ∙ omega (arith, selection, tables)
 
 all_places : {X : Type 0} (at : ℕ) (xs : List X) → length (places_from (λ x. true) at xs) ≡ length xs
 unfolding places_from
@@ -231,8 +231,8 @@ long_name_in schema text tree b h e = e ∙ ap (list_any (breaks_rule rule.LongN
 pub many_tables_in : (schema : Schema) (text : List ℕ) (tree : QueryText) (b : Bool) → syntax_of text ≡ Ok tree → b ≡ nat_lt 12 (sum_by (weight_of count.Tables schema) (items_in text)) → b ≡ nat_lt 12 (length (from_names tree))
 many_tables_in schema text tree b h e = e ∙ ap (nat_lt 12) (ap (sum_by (weight_of count.Tables schema)) (items_are text tree h) ∙ tables_count schema tree)
 
-pub many_literals_in : (schema : Schema) (text : List ℕ) (tree : QueryText) (b : Bool) → syntax_of text ≡ Ok tree → b ≡ nat_lt 16 (sum_by (weight_of count.Literals schema) (items_in text)) → b ≡ nat_lt 16 (sum_by literal_conditions tree.conditions)
-many_literals_in schema text tree b h e = e ∙ ap (nat_lt 16) (ap (sum_by (weight_of count.Literals schema)) (items_are text tree h) ∙ literals_count schema tree)
+pub many_tests_in : (schema : Schema) (text : List ℕ) (tree : QueryText) (b : Bool) → syntax_of text ≡ Ok tree → b ≡ nat_lt 16 (sum_by (weight_of count.Tests schema) (items_in text)) → b ≡ nat_lt 16 (sum_by literal_conditions tree.conditions)
+many_tests_in schema text tree b h e = e ∙ ap (nat_lt 16) (ap (sum_by (weight_of count.Tests schema)) (items_are text tree h) ∙ tests_count schema tree)
 
 pub many_columns_in : (schema : Schema) (text : List ℕ) (tree : QueryText) (b all : Bool) (c : Count) → syntax_of text ≡ Ok tree → all ≡ selects_all (items_in text) → c ≡ columns_or all → b ≡ nat_lt 32 (sum_by (weight_of c schema) (items_in text))
     → b ≡ nat_lt 32 (selected_count schema tree tree.selection)

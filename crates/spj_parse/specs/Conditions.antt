@@ -2,9 +2,9 @@
 use Rattle.std.specs.Prelude.{◌≡◌, Bool, false, not, ℕ, List, [], ◌∷◌, map, flat_map, option_to_list}
 use Rattle.std.specs.List.{list_any}
 use Rattle.ghost_model.specs.core.Schema.{Schema}
-use Rattle.ghost_model.specs.core.Query.{Field, AtMost, AtLeast, Condition, Compare, Join}
-use Rattle.ghost_model.specs.refusals.QueryGrammar.{ColumnText, ConditionText, Compares, LiesBetween, Joins, QueryText}
-use Rattle.ghost_model.specs.refusals.QueryMeaning.{value_of_literal, is_other_kind, is_too_large, literal_fails, is_proper, is_join_of, has_unknown_column, is_ambiguous}
+use Rattle.ghost_model.specs.core.Query.{Field, AtMost, AtLeast, Condition, OneOf, tested, compared, Join}
+use Rattle.ghost_model.specs.refusals.QueryGrammar.{ColumnText, ConditionText, Compares, TestsNull, LiesBetween, Joins, QueryText}
+use Rattle.ghost_model.specs.refusals.QueryMeaning.{value_of_literal, null_test, is_other_kind, is_too_large, literal_fails, is_proper, is_join_of, has_unknown_column, is_ambiguous}
 use Rattle.spj_parse.specs.declared.conditions.ConditionTest.{ConditionTest}
 use Rattle.spj_parse.specs.declared.conditions.ConditionTest.TheVariants as test
 use Rattle.spj_parse.specs.Items.{Item, AllColumns, Selected, From, Where}
@@ -12,9 +12,10 @@ use Rattle.spj_parse.specs.Names.{first_meaning}
 
 -- the conditions that a condition of a text is, where each column means some fields
 abbrev pub conditions_with : (ColumnText → List Field) → ConditionText → List Condition
-conditions_with meant (Compares column operator literal) = map (λ field. Compare field operator (value_of_literal literal)) (meant column)
+conditions_with meant (Compares column operator literal) = map (λ field. compared field operator (value_of_literal literal)) (meant column)
+conditions_with meant (TestsNull column negated) = map (λ field. OneOf (tested field (null_test negated)) []) (meant column)
 conditions_with meant (LiesBetween column low high) =
-    flat_map (λ field. Compare field AtLeast (value_of_literal low) ∷ Compare field AtMost (value_of_literal high) ∷ []) (meant column)
+    flat_map (λ field. compared field AtLeast (value_of_literal low) ∷ compared field AtMost (value_of_literal high) ∷ []) (meant column)
 conditions_with meant (Joins left right) = flat_map (λ field. map (Join field) (meant right)) (meant left)
 
 -- the first meaning alone

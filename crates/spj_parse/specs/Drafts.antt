@@ -40,6 +40,7 @@ literal_of (literal.Written bytes) = grammar.Written (marks.literal_of bytes.now
 abbrev pub condition_of : ConditionDraft → grammar.ConditionText
 condition_of (condition.Compares column operator literal) =
     grammar.Compares (column_of column) (operator_of operator) (literal_of literal)
+condition_of (condition.TestsNull column negated) = grammar.TestsNull (column_of column) negated
 condition_of (condition.LiesBetween column low high) =
     grammar.LiesBetween (column_of column) (literal_of low) (literal_of high)
 condition_of (condition.Joins left right) = grammar.Joins (column_of left) (column_of right)
@@ -65,6 +66,7 @@ condition_part_of (condition_part.HasSign column operator s) =
     places.HasSign (column_of column) (operator_of operator) (sign_of s)
 condition_part_of (condition_part.HasRightPoint left table) =
     places.HasRightPoint (column_of left) (in_lower_case table.now)
+condition_part_of (condition_part.HasIs column negated) = places.HasIs (column_of column) negated
 condition_part_of (condition_part.WantsLow column) = places.WantsLow (column_of column)
 condition_part_of (condition_part.HasLowSign column s) = places.HasLowSign (column_of column) (sign_of s)
 condition_part_of (condition_part.HasLow column low) = places.HasLow (column_of column) (literal_of low)

@@ -3,9 +3,9 @@ use Rattle.std.specs.Prelude.{◌≡◌, Ok, ℕ, ℤ, pos, Bool, true, false, L
 use Rattle.ghost_model.specs.core.Schema.{Schema, columns_of, places_where, first_of, is_table, parent}
 use Rattle.ghost_model.specs.refusals.Tokens.{number_of}
 use Rattle.ghost_model.specs.core.Values.{Value, Number, Text}
-use Rattle.ghost_model.specs.core.Query.{Field, AtMost, AtLeast, Condition, Compare, Join, Query, is_among}
-use Rattle.ghost_model.specs.refusals.QueryGrammar.{ColumnText, LiteralText, Unsigned, Signed, Written, Positive, ConditionText, Compares, LiesBetween, Joins}
-use Rattle.ghost_model.specs.refusals.QueryMeaning.{field, table_named, fields_of, with_sign}
+use Rattle.ghost_model.specs.core.Query.{Field, AtMost, AtLeast, Test, Compared, tested, GroupMember, Condition, OneOf, Join, Query, is_among}
+use Rattle.ghost_model.specs.refusals.QueryGrammar.{ColumnText, LiteralText, Unsigned, Signed, Written, Positive, ConditionText, Compares, TestsNull, LiesBetween, Joins}
+use Rattle.ghost_model.specs.refusals.QueryMeaning.{field, table_named, fields_of, with_sign, null_test}
 use Rattle.ghost_model.specs.readings.QueryReading.{reading}
 use Rattle.tree_schema.specs.Schemas.{IsDeclared}
 use Rattle.spj_parse.specs.Items.{Item, AllColumns, Selected, From, Where}
@@ -32,20 +32,20 @@ join_to schema from table = join_with schema from table (parent schema table)
 abbrev pub joins_of : Schema → (from : List ℕ) → List Condition
 joins_of schema from = flat_map (join_to schema from) from
 
-abbrev pub is_comparison : Condition → Bool
-is_comparison (Compare field operator value) = true
-is_comparison (Join left right) = false
+abbrev pub is_group : Condition → Bool
+is_group (OneOf first others) = true
+is_group (Join left right) = false
 
 abbrev pub is_join : Condition → Bool
-is_join (Compare field operator value) = false
+is_join (OneOf first others) = false
 is_join (Join left right) = true
 
--- the query with each of its joins once, before its comparisons, which stand in their order
+-- the query with each of its joins once, before its groups, which stand in their order
 abbrev pub linked : Schema → Query → Query
 linked schema query = record {
   from = query.from;
   select = query.select;
-  conditions = joins_of schema query.from ++ filter is_comparison query.conditions;
+  conditions = joins_of schema query.from ++ filter is_group query.conditions;
 }
 
 -- the text means a query over the schema, and this is it with each of its joins once
@@ -84,15 +84,22 @@ literal_kept (Unsigned digits) = number_kept (with_sign Positive (number_of digi
 literal_kept (Signed sign digits) = number_kept (with_sign sign (number_of digits))
 literal_kept (Written text) = Text (take 64 text)
 
-abbrev pub comparisons_with : (ColumnText → List Field) → ConditionText → List Condition
-comparisons_with meant (Compares column operator literal) =
-    map (λ field. Compare field operator (literal_kept literal)) (meant column)
-comparisons_with meant (LiesBetween column low high) =
-    flat_map (λ field. Compare field AtLeast (literal_kept low) ∷ Compare field AtMost (literal_kept high) ∷ []) (meant column)
-comparisons_with meant (Joins left right) = []
+-- a test of a column that is a group of its own
+abbrev pub lone : Field → Test → GroupMember
+lone field test = record { member = tested field test; more = false }
 
-abbrev pub item_comparisons : Schema → (from : List ℕ) → Item → List Condition
-item_comparisons schema from AllColumns = []
-item_comparisons schema from (Selected column) = []
-item_comparisons schema from (From name) = []
-item_comparisons schema from (Where condition) = comparisons_with (first_alone schema from) condition
+abbrev pub members_with : (ColumnText → List Field) → ConditionText → List GroupMember
+members_with meant (Compares column operator literal) =
+    map (λ field. lone field (Compared operator (literal_kept literal))) (meant column)
+members_with meant (TestsNull column negated) = map (λ field. lone field (null_test negated)) (meant column)
+members_with meant (LiesBetween column low high) =
+    flat_map
+    (λ field. lone field (Compared AtLeast (literal_kept low)) ∷ lone field (Compared AtMost (literal_kept high)) ∷ [])
+    (meant column)
+members_with meant (Joins left right) = []
+
+abbrev pub item_members : Schema → (from : List ℕ) → Item → List GroupMember
+item_members schema from AllColumns = []
+item_members schema from (Selected column) = []
+item_members schema from (From name) = []
+item_members schema from (Where condition) = members_with (first_alone schema from) condition

@@ -43,10 +43,10 @@ columns_or_none schema (Some table) = length (columns_of schema table)
 abbrev pub width_of : Schema → List ℕ → ℕ
 width_of schema name = columns_or_none schema (table_named schema name)
 
--- how much a thing counts: FROM tables, conditions with a literal, selected columns, or those that `*` stands for
+-- how much a thing counts: FROM tables, tests of columns, selected columns, or those that `*` stands for
 abbrev pub weight_of : Count → Schema → Item → ℕ
 weight_of count.Tables schema (From table) = 1
-weight_of count.Literals schema (Where condition) = literal_conditions condition
+weight_of count.Tests schema (Where condition) = literal_conditions condition
 weight_of count.Columns schema (Selected column) = 1
 weight_of count.AllColumns schema (From table) = width_of schema table
 weight_of _ schema _ = 0

@@ -1,9 +1,9 @@
 -- What the queries and refusals of the code stand for, in the words of the definitions.
-use Rattle.std.specs.Prelude.{ℕ, List, ◌++◌, map}
+use Rattle.std.specs.Prelude.{ℕ, Bool, List, [], ◌∷◌, ◌++◌, map, if◌then◌else◌}
 use Rattle.ghost_model.specs.core.Query as query
 use Rattle.ghost_model.specs.refusals.QueryMeaning as refusal
-use Rattle.ghost_base.specs.Views.{operator_of, value_of}
-use Rattle.spj_parse.specs.declared.query.Comparison.{Comparison}
+use Rattle.ghost_base.specs.Views.{test_of}
+use Rattle.spj_parse.specs.declared.query.Member.{Member}
 use Rattle.spj_parse.specs.declared.query.Field.{Field}
 use Rattle.spj_parse.specs.declared.query.Join.{Join}
 use Rattle.spj_parse.specs.declared.refusal.Refusal.{Refusal}
@@ -12,16 +12,34 @@ use Rattle.spj_parse.specs.declared.refusal.Refusal.TheVariants as told
 abbrev pub field_of : Field → query.Field
 field_of field = record { table = field.table; column = field.column }
 
-abbrev pub comparison_of : Comparison → query.Condition
-comparison_of comparison =
-    query.Compare (field_of comparison.field) (operator_of comparison.operator) (value_of comparison.value)
+abbrev pub member_of : Member → query.GroupMember
+member_of member = record { member = query.tested (field_of member.field) (test_of member.test); more = member.more }
+
+abbrev pub says_more : Member → Bool
+says_more member = member.more
+
+-- the condition that a member is where it stands alone
+abbrev pub alone_of : Member → query.Condition
+alone_of member = query.OneOf (query.tested (field_of member.field) (test_of member.test)) []
+
+-- a member before the others of the first group
+abbrev pub into_first : query.Member → List query.Condition → List query.Condition
+into_first member [] = query.OneOf member [] ∷ []
+into_first member (query.OneOf first others ∷ conditions) = query.OneOf member (first ∷ others) ∷ conditions
+into_first member (query.Join one other ∷ conditions) = query.OneOf member [] ∷ query.Join one other ∷ conditions
+
+-- the conditions that members are in their order
+unfoldable pub grouped : List query.GroupMember → List query.Condition
+grouped [] = []
+grouped (one ∷ members) =
+    if one.more then into_first one.member (grouped members) else query.OneOf one.member [] ∷ grouped members
 
 abbrev pub join_of : Join → query.Condition
 join_of join = query.Join (field_of join.key) (field_of join.identifier)
 
-abbrev pub query_of : List ℕ → List Field → List Join → List Comparison → query.Query
-query_of tables fields joins comparisons =
-    record { from = tables; select = map field_of fields; conditions = map join_of joins ++ map comparison_of comparisons }
+abbrev pub query_of : List ℕ → List Field → List Join → List Member → query.Query
+query_of tables fields joins members =
+    record { from = tables; select = map field_of fields; conditions = map join_of joins ++ grouped (map member_of members) }
 
 abbrev pub refusal_of : Refusal → refusal.Refusal
 refusal_of (told.Syntax at) = refusal.Syntax at

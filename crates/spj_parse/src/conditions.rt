@@ -105,14 +105,9 @@ fn is_join_of(schema: &Schema, table: u8, left: Field, right: Field) -> bool
         || (is_key_to(schema, right, left) && left.table == table)
 }
 
-/// Whether a comparison passes a test, whatever its operator.
-fn comparison_passes(
-    test: ConditionTest,
-    schema: &Schema,
-    field: Field,
-    literal: LiteralDraft,
-) -> bool
-    ensures passes { (operator : query.Operator) → result ≡ passes_test test schema.now (query.Compare (field_of field) operator (meaning.value_of_literal (literal_of literal.entry))) }
+/// Whether a member passes a test, whatever its operator.
+fn member_passes(test: ConditionTest, schema: &Schema, field: Field, literal: LiteralDraft) -> bool
+    ensures passes { (operator : query.Operator) → result ≡ passes_test test schema.now (query.compared (field_of field) operator (meaning.value_of_literal (literal_of literal.entry))) }
 {
     match test {
         ConditionTest::OtherKind => is_other_kind(kind_at(schema, field), literal),
@@ -146,14 +141,15 @@ fn condition_passes(
     match condition {
         ConditionDraft::Compares(column, _, literal) => match first_meaning(schema, from, column) {
             None => false,
-            Some(field) => comparison_passes(test, schema, field, literal),
+            Some(field) => member_passes(test, schema, field, literal),
         },
+        ConditionDraft::TestsNull(_, _) => false,
         ConditionDraft::LiesBetween(column, low, high) => {
             match first_meaning(schema, from, column) {
                 None => false,
                 Some(field) => {
-                    comparison_passes(test, schema, field, low)
-                        || comparison_passes(test, schema, field, high)
+                    member_passes(test, schema, field, low)
+                        || member_passes(test, schema, field, high)
                 }
             }
         }

@@ -23,10 +23,12 @@ pub(crate) enum LiteralDraft<'a> {
     Written(&'a [u8]),
 }
 
-/// A column and a literal, a column between two literals, or two columns that are equal.
+/// A column and a literal, a column that is NULL or, where that is negated, is not, a column between two literals, or two
+/// columns that are equal.
 #[derive(Clone, Copy)]
 pub(crate) enum ConditionDraft<'a> {
     Compares(ColumnDraft<'a>, Operator, LiteralDraft<'a>),
+    TestsNull(ColumnDraft<'a>, bool),
     LiesBetween(ColumnDraft<'a>, LiteralDraft<'a>, LiteralDraft<'a>),
     Joins(ColumnDraft<'a>, ColumnDraft<'a>),
 }

@@ -21,7 +21,7 @@ mod syntax;
 pub mod texts;
 mod walk;
 
-pub use query::{Comparison, Field, Join, Query};
+pub use query::{Field, Join, Member, Query};
 pub use reading::read_query;
 pub use refusal::Refusal;
 pub use texts::{Texts, text_count};

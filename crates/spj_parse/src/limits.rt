@@ -16,11 +16,11 @@ use crate::walk::Walk;
 use ghost_base::limits::{MAX_CONDITIONS, MAX_QUERY, MAX_SELECTED, MAX_TABLES};
 use tree_schema::Schema;
 
-/// What is counted: FROM tables, conditions with a literal, selected columns, or those that `*` stands for.
+/// What is counted: FROM tables, tests of columns, selected columns, or those that `*` stands for.
 #[derive(Clone, Copy)]
 pub(crate) enum Count {
     Tables,
-    Literals,
+    Tests,
     Columns,
     AllColumns,
 }
@@ -35,12 +35,13 @@ fn width_of(schema: &Schema, name: &[u8]) -> usize
     }
 }
 
-/// How many conditions with a literal a condition of a text is; BETWEEN is two.
-fn literals_of(condition: ConditionDraft) -> usize
+/// How many tests of a column a condition of a text is; BETWEEN is two.
+fn tests_of(condition: ConditionDraft) -> usize
     ensures count { result ≡ meaning.literal_conditions (condition_of condition.entry) }
 {
     match condition {
         ConditionDraft::Compares(_, _, _) => 1,
+        ConditionDraft::TestsNull(_, _) => 1,
         ConditionDraft::LiesBetween(_, _, _) => 2,
         ConditionDraft::Joins(_, _) => 0,
     }
@@ -55,8 +56,8 @@ fn weight_of(count: Count, schema: &Schema, item: Item) -> usize
             Item::From(_) => 1,
             _ => 0,
         },
-        Count::Literals => match item {
-            Item::Where(condition) => literals_of(condition),
+        Count::Tests => match item {
+            Item::Where(condition) => tests_of(condition),
             _ => 0,
         },
         Count::Columns => match item {
@@ -140,7 +141,7 @@ pub(crate) fn is_over_limit(schema: &Schema, text: &[u8]) -> bool
     if has_more_than(MAX_TABLES, Count::Tables, schema, text) {
         return true;
     }
-    if has_more_than(MAX_CONDITIONS, Count::Literals, schema, text) {
+    if has_more_than(MAX_CONDITIONS, Count::Tests, schema, text) {
         return true;
     }
     let columns = columns_or(selects_all(text));

@@ -1,14 +1,15 @@
 //! Queries as values of a fixed size.
 
-ghost use Rattle.std.specs.Prelude.{◌≡◌, ℕ, ◌≤◌, List, false, filter, is_none, length, map};
-ghost use Rattle.ghost_model.specs.core.Query.{top_of};
-ghost use Rattle.spj_parse.specs.Resolved.{IsMeant, IsRead, is_comparison, is_join};
-ghost use Rattle.spj_parse.specs.Views.{comparison_of, field_of, join_of, query_of};
+ghost use Rattle.std.specs.Prelude.{◌≡◌, ℕ, ◌≤◌, List, true, false, filter, is_none, length, map};
+ghost use Rattle.ghost_model.specs.core.Groups.{ends};
+ghost use Rattle.ghost_model.specs.core.Query.{top_of, members_in};
+ghost use Rattle.spj_parse.specs.Resolved.{IsMeant, IsRead, is_group, is_join};
+ghost use Rattle.spj_parse.specs.Views.{alone_of, field_of, join_of, member_of, query_of, says_more};
 
 use crate::links::top_among;
 use arrayvec::ArrayVec;
+use ghost_base::Test;
 use ghost_base::limits::{MAX_CONDITIONS, MAX_SELECTED, MAX_TABLES};
-use ghost_base::{Operator, Value};
 use std::marker::Model;
 use tree_schema::Schema;
 
@@ -19,12 +20,18 @@ pub struct Field {
     pub column: u8,
 }
 
-/// A column compared with a literal.
+/// A member of a group of conditions, of which one is to be true: a test of a column. The members of a group stand one after
+/// another.
 #[derive(Clone, Copy, Default)]
-pub struct Comparison {
+pub struct Member {
+    /// The column.
     pub field: Field,
-    pub operator: Operator,
-    pub value: Value,
+
+    /// What is tested of its value.
+    pub test: Test,
+
+    /// Whether the next member is of the same group.
+    pub more: bool,
 }
 
 /// A join of a table with its parent: the parent's foreign key, and the table's identifier.
@@ -34,13 +41,13 @@ pub struct Join {
     pub identifier: Field,
 }
 
-/// A query over a schema, which some text means. A clause sees it with each of its joins once, before its comparisons.
+/// A query over a schema, which some text means. A clause sees it with each of its joins once, before its groups.
 #[derive(Drop)]
 pub struct Query {
     tables: ArrayVec<u8, MAX_TABLES>,
     fields: ArrayVec<Field, MAX_SELECTED>,
     joined: ArrayVec<Join, MAX_TABLES>,
-    compared: ArrayVec<Comparison, MAX_CONDITIONS>,
+    compared: ArrayVec<Member, MAX_CONDITIONS>,
 }
 
 impl Model for Query {
@@ -48,23 +55,26 @@ impl Model for Query {
 
     ghost Value = { query.Query };
 
+    ghost use Rattle.std.specs.Prelude.{◌≡◌, true};
+    ghost use Rattle.ghost_model.specs.core.Groups.{ends};
     ghost use Rattle.spj_parse.specs.Resolved.{IsRead};
-    ghost use Rattle.spj_parse.specs.Views.{query_of};
+    ghost use Rattle.spj_parse.specs.Views.{query_of, says_more};
 
     ghost view = { λ q. query_of q.tables.items q.fields.items q.joined.items q.compared.items };
 
-    ghost invariant = { λ q. IsRead (query_of q.tables.items q.fields.items q.joined.items q.compared.items) };
+    ghost invariant = { λ q. IsRead (query_of q.tables.items q.fields.items q.joined.items q.compared.items) × (ends says_more q.compared.items ≡ true) };
 }
 
 impl Query {
-    /// The query of these parts, which some text means.
+    /// The query of these parts, which some text means. The last member is the last of its group.
     pub(crate) fn of(
         tables: ArrayVec<u8, MAX_TABLES>,
         fields: ArrayVec<Field, MAX_SELECTED>,
         joined: ArrayVec<Join, MAX_TABLES>,
-        compared: ArrayVec<Comparison, MAX_CONDITIONS>,
+        compared: ArrayVec<Member, MAX_CONDITIONS>,
     ) -> Query
         requires read { IsRead (query_of tables.items fields.items joined.items compared.items) }
+        requires ended { ends says_more compared.items ≡ true }
         ensures query { result ≡ query_of tables.items fields.items joined.items compared.items }
     {
         Query {
@@ -100,11 +110,14 @@ impl Query {
         self.joined.as_slice()
     }
 
-    /// The comparisons, in the order of the text; BETWEEN is two.
-    pub fn comparisons(&self) -> &[Comparison]
-        ensures comparisons { map comparison_of result.now ≡ filter is_comparison self.now.conditions }
+    /// The members of all groups, in the order of the text; BETWEEN is two groups. For now each group has one member.
+    pub fn members(&self) -> &[Member]
+        ensures members { map member_of result.now ≡ members_in self.now.conditions }
+        ensures lone { map alone_of result.now ≡ filter is_group self.now.conditions }
         ensures few { length result.now ≤ MAX_CONDITIONS }
     {
+        ghost_model::query::one_reading();
+        ghost_model::query::accepted_queries_are_lone();
         self.compared.as_slice()
     }
 

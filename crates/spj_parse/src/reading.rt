@@ -10,7 +10,7 @@ use crate::limits::is_over_limit;
 use crate::links::is_unlinked;
 use crate::query::Query;
 use crate::refusal::Refusal;
-use crate::resolve::{comparisons, from_tables, joins, selected};
+use crate::resolve::{from_tables, joins, members, selected};
 use crate::rules::{has_unknown_columns, has_unknown_tables, is_ambiguous};
 use crate::syntax::check_syntax;
 use tree_schema::Schema;
@@ -52,6 +52,6 @@ pub fn read_query(schema: &Schema, text: &[u8]) -> Result<Query, Refusal>
     }
     let fields = selected(schema, from, text);
     let joined = joins(schema, from);
-    let compared = comparisons(schema, from, text);
+    let compared = members(schema, from, text);
     Ok(Query::of(tables, fields, joined, compared))
 }

@@ -1,7 +1,7 @@
 //! The query that a text means, gathered thing after thing.
 
 ghost use Rattle.std.specs.Prelude.{◌≡◌, ℕ, ◌<◌, ◌≤◌, IfSome, ◌++◌, ◌∷◌, [], List, flat_map, length, map, option_map, option_to_list, take};
-ghost use Rattle.ghost_base.specs.Views.{operator_of, value_of};
+ghost use Rattle.ghost_base.specs.Views.{test_of, value_of};
 ghost use Rattle.ghost_model.specs.core.Schema as model;
 ghost use Rattle.ghost_model.specs.core.Query as query;
 ghost use Rattle.ghost_model.specs.refusals.QueryMeaning as meaning;
@@ -13,17 +13,17 @@ ghost use Rattle.spj_parse.specs.Conditions.{first_alone};
 ghost use Rattle.spj_parse.specs.Adding.{Adds};
 ghost use Rattle.spj_parse.specs.Items.{items_in};
 ghost use Rattle.spj_parse.specs.Resolved as resolved;
-ghost use Rattle.spj_parse.specs.Views.{comparison_of, field_of, join_of};
+ghost use Rattle.spj_parse.specs.Views.{field_of, join_of, member_of};
 
 use crate::drafts::{ColumnDraft, ConditionDraft, Item, LiteralDraft, Sign};
 use crate::links::is_among;
 use crate::literals::{integer_in, text_in};
 use crate::names::{first_meaning, table_named};
-use crate::query::{Comparison, Field, Join};
+use crate::query::{Field, Join, Member};
 use crate::walk::Walk;
 use arrayvec::ArrayVec;
 use ghost_base::limits::{MAX_COLUMNS, MAX_CONDITIONS, MAX_SELECTED, MAX_TABLES};
-use ghost_base::{Operator, Text64, Value};
+use ghost_base::{Operator, Test, Text64, Value};
 use tree_schema::Schema;
 use tree_schema::schema::schemas_are_trees;
 
@@ -169,54 +169,61 @@ fn literal_value(literal: LiteralDraft) -> Value
     }
 }
 
-/// A comparison, after those before.
-fn add_comparison(
-    kept: &mut ArrayVec<Comparison, MAX_CONDITIONS>,
-    field: Field,
-    operator: Operator,
-    value: Value,
-)
-    ensures added { Adds comparison_of MAX_CONDITIONS kept.old.items kept.new.items (query.Compare (field_of field) (operator_of operator) (value_of value) ∷ []) }
+/// A member that is a group of its own.
+fn lone(field: Field, test: Test) -> Member
+    ensures lone { member_of result ≡ resolved.lone (field_of field) (test_of test) }
 {
-    keep(
-        kept,
-        Comparison {
-            field,
-            operator,
-            value,
-        },
-    );
+    Member {
+        field,
+        test,
+        more: false,
+    }
 }
 
-/// The two comparisons of a BETWEEN, after those before.
-fn add_bounds(
-    kept: &mut ArrayVec<Comparison, MAX_CONDITIONS>,
-    field: Field,
-    low: Value,
-    high: Value,
-)
-    ensures added { Adds comparison_of MAX_CONDITIONS kept.old.items kept.new.items (query.Compare (field_of field) query.AtLeast (value_of low) ∷ query.Compare (field_of field) query.AtMost (value_of high) ∷ []) }
+/// That a value is NULL, or that it is not.
+fn null_test(negated: bool) -> Test
+    ensures test { test_of result ≡ meaning.null_test negated }
 {
-    add_comparison(kept, field, Operator::AtLeast, low);
-    add_comparison(kept, field, Operator::AtMost, high);
+    if negated {
+        Test::IsNotNull
+    } else {
+        Test::IsNull
+    }
 }
 
-/// The comparisons that a condition of a text is, after those before.
-fn add_comparisons(
-    kept: &mut ArrayVec<Comparison, MAX_CONDITIONS>,
+/// The two members of a BETWEEN, after those before.
+fn add_bounds(kept: &mut ArrayVec<Member, MAX_CONDITIONS>, field: Field, low: Value, high: Value)
+    ensures added { Adds member_of MAX_CONDITIONS kept.old.items kept.new.items (resolved.lone (field_of field) (query.Compared query.AtLeast (value_of low)) ∷ resolved.lone (field_of field) (query.Compared query.AtMost (value_of high)) ∷ []) }
+{
+    keep(kept, lone(field, Test::Compared(Operator::AtLeast, low)));
+    keep(kept, lone(field, Test::Compared(Operator::AtMost, high)));
+}
+
+/// The members that a condition of a text is, after those before.
+fn add_members(
+    kept: &mut ArrayVec<Member, MAX_CONDITIONS>,
     schema: &Schema,
     from: &[u8],
     condition: ConditionDraft,
 )
-    ensures added { Adds comparison_of MAX_CONDITIONS kept.old.items kept.new.items (resolved.comparisons_with (first_alone schema.now from.now) (condition_of condition.entry)) }
+    ensures added { Adds member_of MAX_CONDITIONS kept.old.items kept.new.items (resolved.members_with (first_alone schema.now from.now) (condition_of condition.entry)) }
 {
     match condition {
         ConditionDraft::Compares(column, operator, literal) => {
             match first_meaning(schema, from, column) {
                 None => {}
-                Some(field) => add_comparison(kept, field, operator, literal_value(literal)),
+                Some(field) => {
+                    keep(
+                        kept,
+                        lone(field, Test::Compared(operator, literal_value(literal))),
+                    )
+                }
             }
         }
+        ConditionDraft::TestsNull(column, negated) => match first_meaning(schema, from, column) {
+            None => {}
+            Some(field) => keep(kept, lone(field, null_test(negated))),
+        },
         ConditionDraft::LiesBetween(column, low, high) => {
             match first_meaning(schema, from, column) {
                 None => {}
@@ -227,30 +234,21 @@ fn add_comparisons(
     }
 }
 
-/// The comparisons that a thing is, after those before.
-fn add_item(
-    kept: &mut ArrayVec<Comparison, MAX_CONDITIONS>,
-    schema: &Schema,
-    from: &[u8],
-    item: Item,
-)
-    ensures added { Adds comparison_of MAX_CONDITIONS kept.old.items kept.new.items (resolved.item_comparisons schema.now from.now (item_of item.entry)) }
+/// The members that a thing is, after those before.
+fn add_item(kept: &mut ArrayVec<Member, MAX_CONDITIONS>, schema: &Schema, from: &[u8], item: Item)
+    ensures added { Adds member_of MAX_CONDITIONS kept.old.items kept.new.items (resolved.item_members schema.now from.now (item_of item.entry)) }
 {
     match item {
         Item::Star => {}
         Item::Selected(_) => {}
         Item::From(_) => {}
-        Item::Where(condition) => add_comparisons(kept, schema, from, condition),
+        Item::Where(condition) => add_members(kept, schema, from, condition),
     }
 }
 
-/// The comparisons of a text, the first 16.
-pub(crate) fn comparisons(
-    schema: &Schema,
-    from: &[u8],
-    text: &[u8],
-) -> ArrayVec<Comparison, MAX_CONDITIONS>
-    ensures comparisons { map comparison_of result.items ≡ take MAX_CONDITIONS (flat_map (resolved.item_comparisons schema.now from.now) (items_in text.now)) }
+/// The members of a text, the first 16.
+pub(crate) fn members(schema: &Schema, from: &[u8], text: &[u8]) -> ArrayVec<Member, MAX_CONDITIONS>
+    ensures members { map member_of result.items ≡ take MAX_CONDITIONS (flat_map (resolved.item_members schema.now from.now) (items_in text.now)) }
 {
     let mut kept = ArrayVec::new();
     let mut walk = Walk::of(text);

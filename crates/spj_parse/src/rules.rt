@@ -113,6 +113,7 @@ fn condition_breaks(rule: NameRule, schema: &Schema, from: &[u8], condition: Con
 {
     match condition {
         ConditionDraft::Compares(column, _, _) => column_breaks(rule, schema, from, column),
+        ConditionDraft::TestsNull(column, _) => column_breaks(rule, schema, from, column),
         ConditionDraft::LiesBetween(column, _, _) => column_breaks(rule, schema, from, column),
         ConditionDraft::Joins(left, right) => {
             column_breaks(rule, schema, from, left) || column_breaks(rule, schema, from, right)

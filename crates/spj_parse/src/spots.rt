@@ -19,7 +19,7 @@ pub(crate) enum ColumnPart<'a> {
     HasColumn(ColumnDraft<'a>),
 }
 
-/// A place within a condition.
+/// A place within a condition. `HasIs` says whether NOT stands behind IS.
 #[derive(Clone, Copy)]
 pub(crate) enum ConditionPart<'a> {
     WantsLeft,
@@ -28,6 +28,7 @@ pub(crate) enum ConditionPart<'a> {
     HasOperator(ColumnDraft<'a>, Operator),
     HasSign(ColumnDraft<'a>, Operator, Sign),
     HasRightPoint(ColumnDraft<'a>, &'a [u8]),
+    HasIs(ColumnDraft<'a>, bool),
     WantsLow(ColumnDraft<'a>),
     HasLowSign(ColumnDraft<'a>, Sign),
     HasLow(ColumnDraft<'a>, LiteralDraft<'a>),
@@ -91,6 +92,7 @@ fn after_left<'a>(column: ColumnDraft<'a>, token: Token<'a>) -> Option<Condition
         Mark::More => Some(ConditionPart::HasOperator(column, Operator::More)),
         Mark::AtLeast => Some(ConditionPart::HasOperator(column, Operator::AtLeast)),
         Mark::Between => Some(ConditionPart::WantsLow(column)),
+        Mark::Is => Some(ConditionPart::HasIs(column, false)),
         Mark::Point => match column {
             ColumnDraft::Bare(name) => Some(ConditionPart::HasLeftPoint(name)),
             ColumnDraft::Qualified(_, _) => None,
@@ -127,6 +129,25 @@ fn after_operator<'a>(
             ))),
             _ => None,
         },
+        _ => None,
+    }
+}
+
+/// Where a token leads after IS, or after IS NOT.
+fn after_is<'a>(
+    column: ColumnDraft<'a>,
+    negated: bool,
+    token: Token<'a>,
+) -> Option<ConditionPart<'a>>
+    ensures step { option_map condition_part_of result ≡ places.step_in_condition (symbol_of token.entry.mark token.entry.bytes.now) (places.HasIs (column_of column.entry) negated) }
+{
+    match token.mark {
+        Mark::Not => if negated {
+            None
+        } else {
+            Some(ConditionPart::HasIs(column, true))
+        },
+        Mark::Null => Some(ConditionPart::HasCondition(ConditionDraft::TestsNull(column, negated))),
         _ => None,
     }
 }
@@ -182,6 +203,7 @@ fn after_condition<'a>(condition: ConditionDraft<'a>, token: Token<'a>) -> Optio
             ColumnDraft::Qualified(_, _) => None,
         },
         ConditionDraft::Compares(_, _, _) => None,
+        ConditionDraft::TestsNull(_, _) => None,
         ConditionDraft::LiesBetween(_, _, _) => None,
     }
 }
@@ -216,6 +238,7 @@ fn step_in_condition<'a>(part: ConditionPart<'a>, token: Token<'a>) -> Option<Co
             ))),
             _ => None,
         },
+        ConditionPart::HasIs(column, negated) => after_is(column, negated, token),
         ConditionPart::WantsLow(column) => after_between(column, token),
         ConditionPart::HasLowSign(column, sign) => match token.mark {
             Mark::Digits => Some(ConditionPart::HasLow(

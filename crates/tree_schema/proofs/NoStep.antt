@@ -46,22 +46,29 @@ pub after_id : (name table bytes : List ℕ) (primary : Bool) (m : Mark) → m �
 after_id name table bytes primary mark.Closing h = absurd (h refl)
 after_id name table bytes primary _ h = refl
 
-pub after_chars : (name digits bytes : List ℕ) (m : Mark) → m ≢ mark.Hidden → None ≡ places.after_column (grammar.CharColumn name digits false) (symbol_of m bytes)
-after_chars name digits bytes mark.Hidden h = absurd (h refl)
-after_chars name digits bytes _ h = refl
+pub after_chars : (name digits bytes : List ℕ) (nullable : Bool) (m : Mark) → m ≢ mark.Hidden → m ≢ mark.Null → None ≡ places.after_column (grammar.CharColumn name digits nullable false) (symbol_of m bytes)
+after_chars name digits bytes nullable mark.Hidden h g = absurd (h refl)
+after_chars name digits bytes nullable mark.Null h g = absurd (g refl)
+after_chars name digits bytes true _ h g = refl
+after_chars name digits bytes false _ h g = refl
 
-pub after_integer : (name bytes : List ℕ) (primary : Bool) (reference : Option grammar.Reference) (m : Mark) → m ≢ mark.Hidden → m ≢ mark.References → m ≢ mark.Primary → m ≢ mark.Open
+pub after_nullable : (name bytes : List ℕ) (m : Mark) → m ≢ mark.Hidden → None ≡ places.after_column (grammar.NullableColumn name false) (symbol_of m bytes)
+after_nullable name bytes mark.Hidden h = absurd (h refl)
+after_nullable name bytes _ h = refl
+
+pub after_integer : (name bytes : List ℕ) (primary : Bool) (reference : Option grammar.Reference) (m : Mark) → m ≢ mark.Hidden → m ≢ mark.References → m ≢ mark.Primary → m ≢ mark.Null → m ≢ mark.Open
     → None ≡ places.after_integer name primary reference (symbol_of m bytes)
-after_integer name bytes primary reference mark.Hidden h g f e = absurd (h refl)
-after_integer name bytes primary reference mark.References h g f e = absurd (g refl)
-after_integer name bytes primary reference mark.Primary h g f e = absurd (f refl)
-after_integer name bytes primary reference mark.Open h g f e = absurd (e refl)
-after_integer name bytes true None _ h g f e = refl
-after_integer name bytes false None _ h g f e = refl
-after_integer name bytes true (Some (grammar.To table true)) _ h g f e = refl
-after_integer name bytes true (Some (grammar.To table false)) _ h g f e = refl
-after_integer name bytes false (Some (grammar.To table true)) _ h g f e = refl
-after_integer name bytes false (Some (grammar.To table false)) _ h g f e = refl
+after_integer name bytes primary reference mark.Hidden h g f n e = absurd (h refl)
+after_integer name bytes primary reference mark.References h g f n e = absurd (g refl)
+after_integer name bytes primary reference mark.Primary h g f n e = absurd (f refl)
+after_integer name bytes primary reference mark.Null h g f n e = absurd (n refl)
+after_integer name bytes primary reference mark.Open h g f n e = absurd (e refl)
+after_integer name bytes true None _ h g f n e = refl
+after_integer name bytes false None _ h g f n e = refl
+after_integer name bytes true (Some (grammar.To table true)) _ h g f n e = refl
+after_integer name bytes true (Some (grammar.To table false)) _ h g f n e = refl
+after_integer name bytes false (Some (grammar.To table true)) _ h g f n e = refl
+after_integer name bytes false (Some (grammar.To table false)) _ h g f n e = refl
 
 -- a token that is neither comma nor parenthesis goes on in the column
 pub goes_on : (tables : grammar.SchemaText) (name : List ℕ) (columns : List grammar.ColumnDeclaration) (last : grammar.ColumnDeclaration) (bytes : List ℕ) (m : Mark) → m ≢ mark.Comma → m ≢ mark.Closing

@@ -23,9 +23,10 @@ abbrev pub reference_of : ReferenceDraft → grammar.Reference
 reference_of reference = grammar.To (in_lower_case reference.table.now) reference.says_id
 
 abbrev pub column_of : ColumnDraft → grammar.ColumnDeclaration
-column_of (column.Chars name digits hidden) = grammar.CharColumn (in_lower_case name.now) digits.now hidden
+column_of (column.Chars name digits nullable hidden) = grammar.CharColumn (in_lower_case name.now) digits.now nullable hidden
 column_of (column.Integer name primary reference hidden) =
     grammar.IntegerColumn (in_lower_case name.now) primary (option_map reference_of reference) hidden
+column_of (column.IntegerOrNull name hidden) = grammar.NullableColumn (in_lower_case name.now) hidden
 
 abbrev pub table_of : TableDraft → grammar.TableText
 table_of table =

@@ -1,7 +1,6 @@
 //! The tables of a schema, from those that a text declares.
 
 ghost use Rattle.std.specs.Prelude.{◌≡◌, ◌≤◌, ◌<◌, Bool, true, false, length, map};
-ghost use Rattle.ghost_model.specs.core.Schema as schema;
 ghost use Rattle.ghost_model.specs.refusals.Tokens as tokens;
 ghost use Rattle.ghost_model.specs.refusals.SchemaMeaning as meaning;
 ghost use Rattle.ghost_model.specs.refusals.SchemaFaults as faults;
@@ -28,13 +27,17 @@ fn name_of(bytes: &[u8]) -> ArrayVec<u8, MAX_NAME>
     name
 }
 
-/// Texts of at most as many bytes as digits say.
-fn chars_of(digits: &[u8]) -> Kind
+/// Texts of at most as many bytes as digits say, beside which NULL may stand or not.
+fn chars_of(digits: &[u8], nullable: bool) -> Kind
     requires within { tokens.is_between 1 64 (tokens.number_of digits.now) ≡ true }
-    ensures kind { kind_of result ≡ schema.Chars (tokens.number_of digits.now) }
+    ensures kind { kind_of result ≡ meaning.text_kind nullable (tokens.number_of digits.now) }
 {
     match length_of(digits) {
-        Some(most) => Kind::Chars(most),
+        Some(most) => if nullable {
+            Kind::CharsOrNull(most)
+        } else {
+            Kind::Chars(most)
+        },
         None => unreachable!(),
     }
 }
@@ -57,9 +60,9 @@ fn column_in(tables: &[TableDraft], column: ColumnDraft) -> Column
     ensures column { views.column_of result ≡ meaning.column_of (map drafts.table_of tables.now) (drafts.column_of column.entry) }
 {
     match column {
-        ColumnDraft::Chars(name, digits, hidden) => Column {
+        ColumnDraft::Chars(name, digits, nullable, hidden) => Column {
             name: name_of(name),
-            kind: chars_of(digits),
+            kind: chars_of(digits, nullable),
             hidden,
             child: None,
         },
@@ -76,6 +79,12 @@ fn column_in(tables: &[TableDraft], column: ColumnDraft) -> Column
                 hidden: true,
                 child: child_named(tables, to.table),
             },
+        },
+        ColumnDraft::IntegerOrNull(name, hidden) => Column {
+            name: name_of(name),
+            kind: Kind::IntegerOrNull,
+            hidden,
+            child: None,
         },
     }
 }

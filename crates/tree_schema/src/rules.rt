@@ -36,11 +36,13 @@ fn is_column_over(column: &ColumnDraft) -> bool
     ensures over { result ≡ faults.is_column_over (column_of column.now) }
 {
     match *column {
-        ColumnDraft::Chars(name, digits, _) => name.len() > MAX_NAME || length_of(digits).is_none(),
+        ColumnDraft::Chars(name, digits, _, _) => name.len() > MAX_NAME
+            || length_of(digits).is_none(),
         ColumnDraft::Integer(name, _, reference, _) => match reference {
             None => name.len() > MAX_NAME,
             Some(to) => name.len() > MAX_NAME || to.table.len() > MAX_NAME,
         },
+        ColumnDraft::IntegerOrNull(name, _) => name.len() > MAX_NAME,
     }
 }
 
@@ -83,16 +85,17 @@ fn is_over(tables: &[TableDraft]) -> bool
     tables.len() > MAX_TABLES || is_one_table_over(tables)
 }
 
-/// Whether a column is the identifier, without REFERENCES and HIDDEN.
+/// Whether a column is the identifier, without REFERENCES, NULL and HIDDEN.
 fn is_identifier(column: &ColumnDraft) -> bool
     ensures identifier { result ≡ faults.is_identifier (column_of column.now) }
 {
     match *column {
-        ColumnDraft::Chars(_, _, _) => false,
+        ColumnDraft::Chars(_, _, _, _) => false,
         ColumnDraft::Integer(name, primary, reference, hidden) => match reference {
             None => primary && !hidden && is_word(name, b"id"),
             Some(_) => false,
         },
+        ColumnDraft::IntegerOrNull(_, _) => false,
     }
 }
 
@@ -101,8 +104,9 @@ fn is_primary(column: &ColumnDraft) -> bool
     ensures primary { result ≡ faults.is_primary (column_of column.now) }
 {
     match *column {
-        ColumnDraft::Chars(_, _, _) => false,
+        ColumnDraft::Chars(_, _, _, _) => false,
         ColumnDraft::Integer(_, primary, _, _) => primary,
+        ColumnDraft::IntegerOrNull(_, _) => false,
     }
 }
 
@@ -169,8 +173,9 @@ pub(crate) fn column_name<'a>(column: ColumnDraft<'a>) -> &'a [u8]
     ensures name { tokens.in_lower_case result.now ≡ faults.declared_name (column_of column.entry) }
 {
     match column {
-        ColumnDraft::Chars(name, _, _) => name,
+        ColumnDraft::Chars(name, _, _, _) => name,
         ColumnDraft::Integer(name, _, _, _) => name,
+        ColumnDraft::IntegerOrNull(name, _) => name,
     }
 }
 
@@ -250,11 +255,12 @@ fn refers_nowhere(tables: &[TableDraft], column: ColumnDraft) -> bool
     ensures nowhere { result ≡ faults.refers_nowhere (map table_of tables.now) (Some (column_of column.entry)) }
 {
     match column {
-        ColumnDraft::Chars(_, _, _) => false,
+        ColumnDraft::Chars(_, _, _, _) => false,
         ColumnDraft::Integer(_, _, reference, _) => match reference {
             None => false,
             Some(to) => place_named(tables, to.table).is_none(),
         },
+        ColumnDraft::IntegerOrNull(_, _) => false,
     }
 }
 

@@ -19,11 +19,13 @@ pub struct ReferenceDraft<'a> {
     pub says_id: bool,
 }
 
-/// A column as it is written.
+/// A column as it is written: its name, after which comes what else the text says of it. The last says whether HIDDEN is
+/// written, and at a CHAR the one before whether NULL is.
 #[derive(Clone, Copy)]
 pub enum ColumnDraft<'a> {
-    Chars(&'a [u8], &'a [u8], bool),
+    Chars(&'a [u8], &'a [u8], bool, bool),
     Integer(&'a [u8], bool, Option<ReferenceDraft<'a>>, bool),
+    IntegerOrNull(&'a [u8], bool),
 }
 
 /// A table as it is written.
@@ -86,6 +88,14 @@ fn after_integer<'a>(
             },
             Some(_) => None,
         },
+        Mark::Null => match reference {
+            None => if primary {
+                None
+            } else {
+                Some(InColumn::Whole(ColumnDraft::IntegerOrNull(name, false)))
+            },
+            Some(_) => None,
+        },
         Mark::Open => match reference {
             Some(to) => if to.says_id {
                 None
@@ -103,12 +113,19 @@ fn after_column<'a>(column: ColumnDraft<'a>, token: Token<'a>) -> Option<InColum
     ensures { option_map in_column_of result ≡ places.after_column (column_of column.entry) (symbol_of token.entry.mark token.entry.bytes.now) }
 {
     match column {
-        ColumnDraft::Chars(name, digits, hidden) => {
+        ColumnDraft::Chars(name, digits, nullable, hidden) => {
             if hidden {
                 return None;
             }
             match token.mark {
-                Mark::Hidden => Some(InColumn::Whole(ColumnDraft::Chars(name, digits, true))),
+                Mark::Hidden => Some(InColumn::Whole(ColumnDraft::Chars(
+                    name, digits, nullable, true,
+                ))),
+                Mark::Null => if nullable {
+                    None
+                } else {
+                    Some(InColumn::Whole(ColumnDraft::Chars(name, digits, true, false)))
+                },
                 _ => None,
             }
         }
@@ -117,6 +134,15 @@ fn after_column<'a>(column: ColumnDraft<'a>, token: Token<'a>) -> Option<InColum
                 return None;
             }
             after_integer(name, primary, reference, token)
+        }
+        ColumnDraft::IntegerOrNull(name, hidden) => {
+            if hidden {
+                return None;
+            }
+            match token.mark {
+                Mark::Hidden => Some(InColumn::Whole(ColumnDraft::IntegerOrNull(name, true))),
+                _ => None,
+            }
         }
     }
 }
@@ -140,7 +166,7 @@ fn step_in<'a>(last: InColumn<'a>, token: Token<'a>) -> Option<InColumn<'a>>
             _ => None,
         },
         InColumn::AfterLength(name, digits) => match token.mark {
-            Mark::Closing => Some(InColumn::Whole(ColumnDraft::Chars(name, digits, false))),
+            Mark::Closing => Some(InColumn::Whole(ColumnDraft::Chars(name, digits, false, false))),
             _ => None,
         },
         InColumn::AfterPrimary(name) => match token.mark {
@@ -425,6 +451,6 @@ impl<'a> Default for TableDraft<'a> {
 
 impl<'a> Default for ColumnDraft<'a> {
     fn default() -> Self {
-        ColumnDraft::Chars(&[], &[], false)
+        ColumnDraft::Chars(&[], &[], false, false)
     }
 }

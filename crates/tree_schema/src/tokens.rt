@@ -19,7 +19,10 @@ pub enum Mark {
     From,
     Hidden,
     Integer,
+    Is,
     Key,
+    Not,
+    Null,
     Primary,
     References,
     Select,
@@ -140,11 +143,8 @@ fn is_reserved(word: &[u8]) -> bool
         || is_word(word, b"count")
         || is_word(word, b"group")
         || is_word(word, b"in")
-        || is_word(word, b"is")
         || is_word(word, b"max")
         || is_word(word, b"min")
-        || is_word(word, b"not")
-        || is_word(word, b"null")
         || is_word(word, b"or")
         || is_word(word, b"sum")
 }
@@ -170,8 +170,14 @@ fn mark_of_word(word: &[u8]) -> Mark
         Mark::Hidden
     } else if is_word(word, b"integer") {
         Mark::Integer
+    } else if is_word(word, b"is") {
+        Mark::Is
     } else if is_word(word, b"key") {
         Mark::Key
+    } else if is_word(word, b"not") {
+        Mark::Not
+    } else if is_word(word, b"null") {
+        Mark::Null
     } else if is_word(word, b"primary") {
         Mark::Primary
     } else if is_word(word, b"references") {

@@ -1,9 +1,12 @@
-use Rattle.std.proofs.Common.{true, false, refl, sym, ◌∙◌}
+use Rattle.std.proofs.Common.{true, false, refl, ap, sym, ◌∙◌}
 use Rattle.spj_parse.specs.Conditions.{IsClear}
 use Rattle.spj_parse.proofs.ReadingLemmas.{judged_by, from_are, kind_in, literal_in}
 use Rattle.ghost_model.specs.refusals.QueryMeaning.{resolved}
 use Rattle.spj_parse.proofs.GatheredLemmas.{gathered, selected_are, joins_are}
 use Rattle.spj_parse.proofs.ComparedLemmas.{compared_are}
+use Rattle.spj_parse.specs.Views.{grouped}
+use Rattle.spj_parse.proofs.GroupedLemmas.{groups_again, members_end}
+use Rattle.spj_parse.proofs.QueryViews.{ended_by}
 use Rattle.spj_parse.proofs.reading.read_query.Goals as goal
 
 pub returns-then-has_unknown_columns-clause-refusal : goal.returns-then-has_unknown_columns-clause-refusal
@@ -72,6 +75,7 @@ of-requires c =
     let kind = kind_in c.args.schema.now c.args.text.now tree c.as_slice-from.result.now false h f k c.if-any_condition_passes.ensures.passes in
     let literal = literal_in c.args.schema.now c.args.text.now tree c.as_slice-from.result.now false h f k c.if-any_condition_passes-2.ensures.passes in
     let schema_tree = c.schemas_are_trees.ensures c.args.schema.now c.tables.ensures.declared in
+    let members = compared_are c.args.schema.now schema_tree c.args.text.now tree c.as_slice-from.result.now _ h (sym over) f k (sym kind) (sym literal) c.members-compared.ensures.members in
     record {
       read = record {
         schema = c.args.schema.now;
@@ -83,9 +87,10 @@ of-requires c =
           once = gathered c.args.schema.now tree _ _ _ _ (sym c.as_slice-from.ensures.value ∙ f)
               (selected_are c.args.schema.now c.args.text.now tree c.as_slice-from.result.now _ h (sym over) f k c.selected-fields.ensures.fields)
               (joins_are c.args.schema.now c.args.text.now tree c.as_slice-from.result.now _ (sym over) f c.joins-joined.ensures.joins)
-              (compared_are c.args.schema.now schema_tree c.args.text.now tree c.as_slice-from.result.now _ h (sym over) f k (sym kind) (sym literal) c.comparisons-compared.ensures.comparisons);
+              (ap grouped members ∙ groups_again (resolved c.args.schema.now tree).conditions);
         };
       };
+      ended = ended_by c.members-compared.result.items _ members (members_end (resolved c.args.schema.now tree).conditions);
     }
 
 pub returns-clause-meaning : goal.returns-clause-meaning
@@ -100,6 +105,7 @@ returns-clause-meaning c =
     let kind = kind_in c.args.schema.now c.args.text.now tree c.as_slice-from.result.now false h f k c.if-any_condition_passes.ensures.passes in
     let literal = literal_in c.args.schema.now c.args.text.now tree c.as_slice-from.result.now false h f k c.if-any_condition_passes-2.ensures.passes in
     let schema_tree = c.schemas_are_trees.ensures c.args.schema.now c.tables.ensures.declared in
+    let members = compared_are c.args.schema.now schema_tree c.args.text.now tree c.as_slice-from.result.now _ h (sym over) f k (sym kind) (sym literal) c.members-compared.ensures.members in
     record {
       meant = resolved c.args.schema.now tree;
       reads = judged_by c.args.schema.now c.args.text.now tree h false false false false false false false over (c.if-has_unknown_tables.ensures.unknown tree h) column ambiguous kind literal (c.if-is_unlinked.ensures.unlinked tree h f k);
@@ -107,5 +113,5 @@ returns-clause-meaning c =
           ∙ gathered c.args.schema.now tree _ _ _ _ (sym c.as_slice-from.ensures.value ∙ f)
           (selected_are c.args.schema.now c.args.text.now tree c.as_slice-from.result.now _ h (sym over) f k c.selected-fields.ensures.fields)
           (joins_are c.args.schema.now c.args.text.now tree c.as_slice-from.result.now _ (sym over) f c.joins-joined.ensures.joins)
-          (compared_are c.args.schema.now schema_tree c.args.text.now tree c.as_slice-from.result.now _ h (sym over) f k (sym kind) (sym literal) c.comparisons-compared.ensures.comparisons);
+          (ap grouped members ∙ groups_again (resolved c.args.schema.now tree).conditions);
     }
