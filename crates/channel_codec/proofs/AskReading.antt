@@ -1,5 +1,5 @@
 -- Conditions are read one by one, and bytes that name too many columns or conditions spell no ask.
-use Rattle.std.proofs.Common.{◌≡◌, ℕ, zero, suc, ◌+◌, ◌-◌, ◌<◌, ◌≤◌, ◌&&◌, nat_lt, Bool, true, List, [], ◌∷◌, ◌++◌, length, map, take, drop, flat_map, slice_index, Option, Some, None, ap, sym, refl, ◌∙◌, arith, ltb-true, leb-true, append_assoc}
+use Rattle.std.proofs.Common.{◌≡◌, ℕ, zero, suc, ◌+◌, ◌-◌, ◌<◌, ◌≤◌, ◌&&◌, nat_lt, Bool, true, List, [], ◌∷◌, ◌++◌, length, map, take, drop, flat_map, slice_index, Option, Some, None, ap, ap₂, sym, refl, ◌∙◌, arith, ltb-true, leb-true, append_assoc}
 use Rattle.std.specs.Prelude.{slice_get}
 use Rattle.std.proofs.lemmas.List.{map-append, append-nil}
 use Rattle.std.specs.List.{list_all}
@@ -8,45 +8,49 @@ use Rattle.std.proofs.lemmas.Option.{slice_get_within}
 use Rattle.std.proofs.Math.Seq.{drop-append_seam}
 use Rattle.ghost_model.specs.core.Schema.{Schema, Column, Kind, columns_of, column_at, is_visible, is_shown}
 use Rattle.ghost_model.specs.core.Values.{Value}
-use Rattle.ghost_model.specs.core.Query.{Operator}
+use Rattle.ghost_model.specs.core.Query.{Test}
 use Rattle.ghost_model.specs.core.Channel as channel
 use Rattle.ghost_model.specs.forms.Cells.{cell_width}
 use Rattle.ghost_model.specs.readings.CellReading.{decode_cell}
 use Rattle.ghost_model.specs.core.Asks as asks
 use Rattle.ghost_model.specs.readings.AskReading as reading
+use Rattle.ghost_model.specs.readings.AskReading.{test_in, test_width}
 use Rattle.ghost_model.specs.laws.ChannelLaws as laws
 use Rattle.ghost_base.specs.Views as base
-use Rattle.channel_codec.specs.declared.ask.Test.{Test}
-use Rattle.channel_codec.specs.AskViews.{test_view, test_in, test_width}
+use Rattle.channel_codec.specs.declared.ask.ColumnTest.{ColumnTest}
+use Rattle.channel_codec.specs.AskViews.{test_view}
 
-abbrev test_with : ℕ → Operator → Value → channel.Test
-test_with column operator value = record { column = column; operator = operator; value = value }
+abbrev test_with : ℕ → Test → Bool → channel.ColumnTest
+test_with column test more = record { column = column; test = test; more = more }
+
+-- the width of its literal
+pub width_read : (schema : Schema) (table : ℕ) (rest : List ℕ) (width code : ℕ) (kind : Kind) → width ≡ reading.literal_width kind code
+    → code ≡ reading.code_in (slice_index rest 1) → kind ≡ asks.kind_at schema table (slice_index rest 0) → width ≡ test_width schema table rest
+width_read schema table rest width code kind w c k = w ∙ ap₂ reading.literal_width k c
 
 -- a condition that was read is the one that the bytes may spell
-pub test_read : (schema : Schema) (table : ℕ) (rest : List ℕ) (test : Test) (column code width : ℕ) (kind : Kind) (cell : List ℕ)
-    → test.column ≡ column → column ≡ slice_index rest 0 → base.operator_of test.operator ≡ reading.operator_of code → code ≡ slice_index rest 1
-    → kind ≡ asks.kind_at schema table column → width ≡ cell_width kind → cell ≡ take width (drop 2 rest)
-    → base.value_of test.value ≡ reading.value_or_none (decode_cell kind cell)
+pub test_read : (schema : Schema) (table : ℕ) (rest : List ℕ) (test : ColumnTest) (column code width : ℕ) (kind : Kind) (cell : List ℕ)
+    → test.column ≡ column → column ≡ slice_index rest 0 → code ≡ reading.code_in (slice_index rest 1) → test.more ≡ reading.says_more (slice_index rest 1)
+    → kind ≡ asks.kind_at schema table column → width ≡ reading.literal_width kind code → cell ≡ take width (drop 2 rest)
+    → base.test_of test.test ≡ reading.test_with kind code cell
     → test_view test ≡ test_in schema table rest
 test_read schema table rest test column code width kind cell a b c d e f g h =
-    let at_column : test.column ≡ slice_index rest 0 = a ∙ b in
     let of_kind : kind ≡ asks.kind_at schema table (slice_index rest 0) = e ∙ ap (asks.kind_at schema table) b in
-    let bytes : cell ≡ take (test_width schema table rest) (drop 2 rest) = g ∙ ap (λ (n : ℕ). take n (drop 2 rest)) (f ∙ ap cell_width of_kind) in
-    ap (λ (n : ℕ). test_with n (base.operator_of test.operator) (base.value_of test.value)) at_column
-    ∙ (ap (λ (o : Operator). test_with (slice_index rest 0) o (base.value_of test.value)) (c ∙ ap reading.operator_of d)
-    ∙ ap (λ (v : Value). test_with (slice_index rest 0) (reading.operator_of (slice_index rest 1)) v)
-    (h ∙ (ap (λ (k : Kind). reading.value_or_none (decode_cell k cell)) of_kind
-    ∙ ap (λ (bs : List ℕ). reading.value_or_none (decode_cell (asks.kind_at schema table (slice_index rest 0)) bs)) bytes)))
+    let bytes : cell ≡ take (test_width schema table rest) (drop 2 rest) = g ∙ ap (λ (n : ℕ). take n (drop 2 rest)) (width_read schema table rest width code kind f c of_kind) in
+    ap₂ (λ (n : ℕ) (b : Bool). test_with n (base.test_of test.test) b) (a ∙ b) d
+    ∙ ap (λ (t : Test). test_with (slice_index rest 0) t (reading.says_more (slice_index rest 1)))
+    (h ∙ (ap₂ (λ (k : Kind) (n : ℕ). reading.test_with k n cell) of_kind c
+    ∙ ap (reading.test_with (asks.kind_at schema table (slice_index rest 0)) (reading.code_in (slice_index rest 1))) bytes))
 
 no_tests : (schema : Schema) (table : ℕ) (rest : List ℕ) → reading.tests_in schema table 0 rest ≡ []
 unfolding reading.tests_in
 no_tests schema table rest = refl
 
 -- all conditions were read
-pub all_read : (schema : Schema) (table left : ℕ) (rest : List ℕ) (tests : List Test) (all : List channel.Test) → left ≡ 0
+pub all_read : (schema : Schema) (table left : ℕ) (rest : List ℕ) (tests : List ColumnTest) (all : List channel.ColumnTest) → left ≡ 0
     → map test_view tests ++ reading.tests_in schema table left rest ≡ all → map test_view tests ≡ all
 all_read schema table left rest tests all h told =
-    sym (ap (λ (xs : List channel.Test). map test_view tests ++ xs) (ap (λ (n : ℕ). reading.tests_in schema table n rest) h ∙ no_tests schema table rest) ∙ append-nil (map test_view tests)) ∙ told
+    sym (ap (λ (xs : List channel.ColumnTest). map test_view tests ++ xs) (ap (λ (n : ℕ). reading.tests_in schema table n rest) h ∙ no_tests schema table rest) ∙ append-nil (map test_view tests)) ∙ told
 
 tests_more : (schema : Schema) (table left : ℕ) (rest : List ℕ) → 0 < left
     → reading.tests_in schema table left rest ≡ test_in schema table rest ∷ reading.tests_in schema table (left - 1) (drop (2 + test_width schema table rest) rest)
@@ -57,17 +61,17 @@ tests_more schema table (suc left) rest h =
     ap (λ (n : ℕ). test_in schema table rest ∷ reading.tests_in schema table n (drop (2 + test_width schema table rest) rest)) (sym e)
 
 -- one more condition was read
-pub more_read : (schema : Schema) (table left : ℕ) (rest later : List ℕ) (tests new : List Test) (test : Test) (all : List channel.Test)
+pub more_read : (schema : Schema) (table left : ℕ) (rest later : List ℕ) (tests new : List ColumnTest) (test : ColumnTest) (all : List channel.ColumnTest)
     → 0 < left → new ≡ tests ++ test ∷ [] → test_view test ≡ test_in schema table rest → later ≡ drop (2 + test_width schema table rest) rest
     → map test_view tests ++ reading.tests_in schema table left rest ≡ all
     → map test_view new ++ reading.tests_in schema table (left - 1) later ≡ all
 more_read schema table left rest later tests new test all h e t l told =
-    ap (λ (xs : List Test). map test_view xs ++ reading.tests_in schema table (left - 1) later) e
-    ∙ (ap (λ (xs : List channel.Test). xs ++ reading.tests_in schema table (left - 1) later) (map-append test_view tests (test ∷ []))
+    ap (λ (xs : List ColumnTest). map test_view xs ++ reading.tests_in schema table (left - 1) later) e
+    ∙ (ap (λ (xs : List channel.ColumnTest). xs ++ reading.tests_in schema table (left - 1) later) (map-append test_view tests (test ∷ []))
     ∙ (append_assoc (map test_view tests) (test_view test ∷ []) (reading.tests_in schema table (left - 1) later)
-    ∙ (ap (λ (x : channel.Test). map test_view tests ++ x ∷ reading.tests_in schema table (left - 1) later) t
+    ∙ (ap (λ (x : channel.ColumnTest). map test_view tests ++ x ∷ reading.tests_in schema table (left - 1) later) t
     ∙ (ap (λ (bs : List ℕ). map test_view tests ++ test_in schema table rest ∷ reading.tests_in schema table (left - 1) bs) l
-    ∙ (ap (λ (xs : List channel.Test). map test_view tests ++ xs) (sym (tests_more schema table left rest h)) ∙ told)))))
+    ∙ (ap (λ (xs : List channel.ColumnTest). map test_view tests ++ xs) (sym (tests_more schema table left rest h)) ∙ told)))))
 
 -- ---- bytes that spell no ask
 
@@ -89,7 +93,7 @@ pub record IsFew (ask : channel.Ask) : Type 0 where
 
 few : (schema : Schema) (ask : channel.Ask) → ((table : ℕ) → length (columns_of schema table) ≤ 24) → asks.is_proper_ask schema ask ≡ true → IsFew ask
 few schema ask narrow proper =
-    let four = first_so _ _ (first_so _ _ proper) in
+    let four = first_so _ _ (first_so _ _ (first_so _ _ proper)) in
     let three = first_so _ _ four in
     let visible = second_so (nat_lt ask.table (length schema)) _ (first_so _ _ three) in
     let within : (x : ℕ) → is_visible schema ask.table x ≡ true → x < 24 =

@@ -1,21 +1,21 @@
 //! The ask that bytes spell.
 
-ghost use Rattle.std.specs.Prelude.{◌≡◌, ◌≤◌, ◌+◌, true, None, bytes_eq, length, map, take, drop, slice_index, option_map, IfSome, IfNone};
+ghost use Rattle.std.specs.Prelude.{ℕ, List, ◌≡◌, ◌≤◌, ◌+◌, true, None, bytes_eq, length, map, take, drop, slice_index, option_map, IfSome, IfNone};
 ghost use Rattle.ghost_model.specs.core.Asks as asks;
 ghost use Rattle.ghost_model.specs.readings.AskReading as reading;
-ghost use Rattle.ghost_model.specs.core.Schema.{plain_of};
+ghost use Rattle.ghost_model.specs.core.Schema.{Kind as Kinds, plain_of};
 ghost use Rattle.ghost_model.specs.forms.Cells as cells;
 ghost use Rattle.ghost_model.specs.readings.CellReading as cell_reading;
-ghost use Rattle.ghost_base.specs.Views.{kind_of, operator_of, value_of};
-ghost use Rattle.channel_codec.specs.AskViews.{test_view, ask_view, test_in, test_width};
+ghost use Rattle.ghost_base.specs.Views.{kind_of, operator_of, test_of, value_of};
+ghost use Rattle.channel_codec.specs.AskViews.{test_view, ask_view};
 
-use crate::ask::{Ask, Test, is_proper, kind_at, put_ask};
+use crate::ask::{Ask, ColumnTest, is_proper, kind_at, put_ask};
 use crate::bytes::{behind, byte_at, front};
 use crate::frame::PAYLOAD_BYTES;
 use arrayvec::ArrayVec;
 use ghost_base::limits::{MAX_CHARS, MAX_COLUMNS, MAX_CONDITIONS};
 use ghost_base::value::Value;
-use ghost_base::{Kind, Operator, Text64, cell_width, decode_cell};
+use ghost_base::{Kind, Operator, Test, Text64, cell_width, decode_cell};
 use ghost_model::channel::asks_have_one_spelling;
 use tree_schema::Schema;
 use tree_schema::schema::schemas_are_trees;
@@ -45,13 +45,48 @@ fn value_in(kind: Kind, cell: &[u8]) -> Value
     }
 }
 
+/// Whether the byte of a code says that the next condition is of its group, and the code.
+fn code_in(byte: u8) -> (bool, u8)
+    ensures more { result.0 ≡ reading.says_more byte }
+    ensures code { result.1 ≡ reading.code_in byte }
+{
+    if byte >= 128 {
+        (true, byte - 128)
+    } else {
+        (false, byte)
+    }
+}
+
+/// How many bytes a literal's cell has after a code.
+fn literal_width(kind: Kind, code: u8) -> usize
+    ensures width { result ≡ reading.literal_width (kind_of kind) code }
+{
+    if code == 7 || code == 8 {
+        0
+    } else {
+        cell_width(kind.plain())
+    }
+}
+
+/// The test of a code, with the literal of the cell behind it, if it has one.
+fn test_with(code: u8, literal: Value) -> Test
+    ensures test { (kind : Kinds) (cell : List ℕ) → value_of literal ≡ reading.value_or_none (cell_reading.decode_cell (plain_of kind) cell)
+        → test_of result ≡ reading.test_with kind code cell }
+{
+    match code {
+        7 => Test::IsNull,
+        8 => Test::IsNotNull,
+        _ => Test::Compared(operator_in(code), literal),
+    }
+}
+
 /// The conditions, so many, that the front of some bytes may spell.
 fn tests_in(
     schema: &Schema,
     table: usize,
     count: usize,
     bytes: &[u8],
-) -> ArrayVec<Test, MAX_CONDITIONS>
+) -> ArrayVec<ColumnTest, MAX_CONDITIONS>
     requires { count ≤ MAX_CONDITIONS }
     ensures { map test_view result.items ≡ reading.tests_in schema.now table count bytes.now }
 {
@@ -60,15 +95,12 @@ fn tests_in(
     let mut rest = bytes;
     'tests: while left > 0 {
         let column = byte_at(rest, 0);
-        let operator = operator_in(byte_at(rest, 1));
+        let (more, code) = code_in(byte_at(rest, 1));
         let kind = kind_at(schema, table, column as usize);
-        let width = cell_width(kind);
-        let value = value_in(kind, front(behind(rest, 2), width));
-        tests.push(Test {
-            column,
-            operator,
-            value,
-        });
+        let width = literal_width(kind, code);
+        let value = value_in(kind.plain(), front(behind(rest, 2), width));
+        let test = test_with(code, value);
+        tests.push(ColumnTest { column, test, more });
         rest = behind(rest, 2 + width);
         left -= 1;
     }

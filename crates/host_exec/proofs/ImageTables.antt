@@ -12,7 +12,6 @@ use Rattle.ghost_model.specs.core.Asks.{is_proper_ask}
 use Rattle.ghost_model.specs.laws.ShortWords.{rows_or_none}
 use Rattle.ghost_model.specs.core.Host.{host_of}
 use Rattle.ghost_model.specs.core.Split.{Public, public_rows, cells, are_of_kinds, visible_kinds, cells_of_tables, SpellsImage, reply_rows}
-use Rattle.ghost_model.proofs.SessionLemmas.Settings.{tree_of}
 use Rattle.host_exec.specs.RowBytes.{width_before, data_columns, row_width, form_of, replies_at, table_start}
 use Rattle.host_exec.specs.Holdings.{HoldsFile}
 use Rattle.host_exec.proofs.ImageRows.{kinds_in, row_length}
@@ -120,7 +119,7 @@ image_is_held cat public file starts spells at = record {
         → reply_rows cat.schema public ask ≡ replies_at (form_of cat.schema ask) file (slice_index starts ask.table) 0 (slice_index cat.counts ask.table)
     held ask p =
         let table : ℕ = ask.table in
-        let inside : table < length cat.schema = ltb-true table (length cat.schema) (first_so (nat_lt table (length cat.schema)) _ (first_so _ _ (first_so _ _ (first_so _ _ (first_so _ _ p))))) in
+        let inside : table < length cat.schema = ltb-true table (length cat.schema) (first_so (nat_lt table (length cat.schema)) _ (first_so _ _ (first_so _ _ (first_so _ _ (first_so _ _ (first_so _ _ p)))))) in
         let counts : map length public.visible ≡ cat.counts = spells.goes_with.counted in
         let same : length public.visible ≡ length cat.schema = sym (length-map public.visible length) ∙ (ap length counts ∙ spells.catalog.counted) in
         let kinds : HaveKinds cat.schema public.visible = spells.goes_with.kinds in
@@ -136,5 +135,5 @@ image_is_held cat public file starts spells at = record {
         ∙ (ap (drop (length (catalog_bytes cat) + before cat.schema (map length public.visible) table)) spells.spelled
         ∙ (drop-append-add (catalog_bytes cat) (cells_of_tables cat.schema public.visible) (before cat.schema (map length public.visible) table) ∙ cut.is)) in
         let count : length (public_rows public table) ≡ slice_index cat.counts table = sym (count_at public.visible table) ∙ ap (λ (ns : List ℕ). slice_index ns table) counts in
-        let replies = image_replies cat.schema ask file cut.rest (slice_index starts table) 0 (public_rows public table) (tree_of cat spells.catalog) p bytes fits in
+        let replies = image_replies cat.schema ask file cut.rest (slice_index starts table) 0 (public_rows public table) p bytes fits in
         sym replies ∙ ap (replies_at (form_of cat.schema ask) file (slice_index starts table) 0) count

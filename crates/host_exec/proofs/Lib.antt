@@ -1,4 +1,5 @@
 pub mod Widths
+pub mod Checks
 pub mod Rows
 pub mod Windows
 pub mod Ahead

@@ -1,15 +1,11 @@
 -- Rows of the file are gone through one by one.
-use Rattle.std.proofs.Common.{◌≡◌, ℕ, suc, ◌+◌, ◌-◌, ◌*◌, ◌<◌, Bool, true, false, List, [], ◌∷◌, ◌++◌, map, take, drop, flat_map, ap, sym, refl, subst, ◌∙◌, arith, length-append, append_assoc, append-nil}
+use Rattle.std.proofs.Common.{◌≡◌, ℕ, suc, ◌+◌, ◌-◌, ◌*◌, ◌<◌, Bool, true, false, List, [], ◌∷◌, ◌++◌, take, drop, flat_map, ap, sym, refl, subst, ◌∙◌, arith, length-append, append_assoc, append-nil}
 use Rattle.std.specs.Prelude.{if◌then◌else◌}
-use Rattle.std.specs.List.{list_all}
 use Rattle.std.proofs.lemmas.Grind.{flat_map-append}
 use Rattle.ghost_model.specs.core.Asks.{RowCells, row_bytes}
-use Rattle.host_exec.specs.RowBytes.{Form, window, row_at, replies_at, replied, passes}
+use Rattle.host_exec.specs.RowBytes.{Form, window, row_at, replies_at, replied, is_met}
 use Rattle.host_exec.specs.Gathering.{Gathered}
 use Rattle.host_exec.proofs.Windows.{window_front, window_back}
-use Rattle.host_exec.specs.FormViews.{check_view}
-use Rattle.host_exec.specs.declared.form.Check.{Check}
-use Rattle.std.proofs.lemmas.List.Folds.{list_all-map}
 
 -- ---- rows
 
@@ -44,22 +40,22 @@ found_one all left row rows next bytes new h n b = record {
       ∙ (ap (λ (xs : List ℕ). flat_map row_bytes h.found ++ xs) (sym (append-nil (row_bytes row))) ∙ sym (flat_map-append row_bytes h.found (row ∷ []))));
 }
 
-next_rows : (form : Form) (file : List ℕ) (start place count : ℕ) (here : Bool) → list_all (passes (row_at form file start place)) form.tests ≡ here
+next_rows : (form : Form) (file : List ℕ) (start place count : ℕ) (here : Bool) → is_met form (row_at form file start place) ≡ here
     → replies_at form file start place (suc count)
     ≡ (if here then replied form (place + 1) (row_at form file start place) ∷ replies_at form file start (place + 1) count else replies_at form file start (place + 1) count)
 unfolding replies_at
 next_rows form file start place count here e =
     ap (λ (b : Bool). if b then replied form (place + 1) (row_at form file start place) ∷ replies_at form file start (place + 1) count else replies_at form file start (place + 1) count) e
 
-same_row : (form : Form) (file : List ℕ) (start place count : ℕ) (here : Bool) (row : List ℕ) → row ≡ row_at form file start place → list_all (passes row) form.tests ≡ here
+same_row : (form : Form) (file : List ℕ) (start place count : ℕ) (here : Bool) (row : List ℕ) → row ≡ row_at form file start place → is_met form row ≡ here
     → replies_at form file start place (suc count)
     ≡ (if here then replied form (place + 1) row ∷ replies_at form file start (place + 1) count else replies_at form file start (place + 1) count)
 same_row form file start place count here row r e =
-    next_rows form file start place count here (ap (λ (xs : List ℕ). list_all (passes xs) form.tests) (sym r) ∙ e)
+    next_rows form file start place count here (ap (λ (xs : List ℕ). is_met form xs) (sym r) ∙ e)
     ∙ ap (λ (xs : List ℕ). if here then replied form (place + 1) xs ∷ replies_at form file start (place + 1) count else replies_at form file start (place + 1) count) (sym r)
 
 one_row : (form : Form) (file : List ℕ) (start place count : ℕ) (all : List RowCells) (row : List ℕ) (now next : ℕ) (bytes new : List ℕ) (here : Bool)
-    → row ≡ row_at form file start place → list_all (passes row) form.tests ≡ here
+    → row ≡ row_at form file start place → is_met form row ≡ here
     → Gathered all now bytes (replies_at form file start place (suc count))
     → (here ≡ true → (next ≡ now + 1) × (new ≡ bytes ++ row_bytes (replied form (place + 1) row))) → (here ≡ false → (next ≡ now) × (new ≡ bytes))
     → Gathered all next new (replies_at form file start (place + 1) count)
@@ -76,8 +72,8 @@ one_row form file start place count all row now next bytes new false r e h found
 
 pub passed_one : (form : Form) (place count : ℕ) (piece : List ℕ) (rows : ℕ) (bytes : List ℕ) (passed : ℕ) (rest row later : List ℕ) (now next : ℕ) (bytes_now new : List ℕ)
     → Passed form place count piece rows bytes passed rest now bytes_now → passed < count → row ≡ take form.width rest → later ≡ drop form.width rest
-    → (list_all (passes row) form.tests ≡ true → (next ≡ now + 1) × (new ≡ bytes_now ++ row_bytes (replied form (place + passed + 1) row)))
-    → (list_all (passes row) form.tests ≡ false → (next ≡ now) × (new ≡ bytes_now))
+    → (is_met form row ≡ true → (next ≡ now + 1) × (new ≡ bytes_now ++ row_bytes (replied form (place + passed + 1) row)))
+    → (is_met form row ≡ false → (next ≡ now) × (new ≡ bytes_now))
     → Passed form place count piece rows bytes (passed + 1) later next new
 passed_one form place count piece rows bytes passed rest row later now next bytes_now new so_far more r l found gone file start after all e h =
     let before = so_far file start after all e h in
@@ -94,11 +90,5 @@ passed_one form place count piece rows bytes passed rest row later now next byte
     let place_on : place + passed + 1 ≡ place + (passed + 1) = omega arith in
     let gathered : Gathered all now bytes_now (replies_at form file start (place + passed) (suc (left + after))) =
     subst (λ (n : ℕ). Gathered all now bytes_now (replies_at form file start (place + passed) n)) number before.gathered in
-    let step = one_row form file start (place + passed) (left + after) all row now next bytes_now new (list_all (passes row) form.tests) here refl gathered found gone in
+    let step = one_row form file start (place + passed) (left + after) all row now next bytes_now new (is_met form row) here refl gathered found gone in
     record { ahead = behind; gathered = subst (λ (n : ℕ). Gathered all next new (replies_at form file start n (left + after))) place_on step }
-
--- what a test over the checks of the code says of the conditions
-pub tested : (row : List ℕ) (checks kept : List Check) (b : Bool) → kept ≡ checks → b ≡ list_all (λ check. passes row (check_view check)) kept
-    → list_all (passes row) (map check_view checks) ≡ b
-tested row checks kept b same e =
-    list_all-map (passes row) check_view checks ∙ (ap (λ (cs : List Check). list_all (λ check. passes row (check_view check)) cs) (sym same) ∙ sym e)

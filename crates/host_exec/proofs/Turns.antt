@@ -4,7 +4,6 @@ use Rattle.std.specs.List.{concat}
 use Rattle.ghost_model.specs.core.Channel.{Frame, Journal}
 use Rattle.ghost_model.specs.forms.Frames.{frame_bytes}
 use Rattle.ghost_model.specs.core.Host.{Holding, Stand, Response, frames_within, answer_as, refusal, said_with_refusals}
-use Rattle.ghost_model.specs.laws.ShortWords.{said_to}
 use Rattle.ghost_model.specs.core.Host as host
 use Rattle.ghost_model.specs.core.Channel as channel
 use Rattle.ghost_model.specs.core.Moves.{taken, sent}

@@ -4,15 +4,16 @@ ghost use Rattle.std.specs.Prelude.{◌≡◌, ◌≤◌, ◌<◌, ◌+◌, ◌-
 ghost use Rattle.std.specs.List.{list_all};
 ghost use Rattle.ghost_model.specs.core.Asks as asks;
 ghost use Rattle.ghost_model.specs.core.Schema as schemas;
-ghost use Rattle.ghost_base.specs.Views.{kind_of};
+ghost use Rattle.ghost_model.specs.forms.Cells as cells;
+ghost use Rattle.ghost_base.specs.Views.{kind_of, test_of};
 ghost use Rattle.channel_codec.specs.AskViews.{test_view, ask_view, has_kind};
 ghost use Rattle.host_exec.specs.RowBytes as rows;
-ghost use Rattle.host_exec.specs.FormViews.{span_view, check_view, form_view};
+ghost use Rattle.host_exec.specs.FormViews.{span_view, cell_test_view, check_view, form_view};
 
 use arrayvec::ArrayVec;
-use channel_codec::ask::{Ask, Test, kind_at};
-use ghost_base::limits::{MAX_CELL, MAX_COLUMNS, MAX_CONDITIONS};
-use ghost_base::{Operator, cell_width, encode_cell};
+use channel_codec::ask::{Ask, ColumnTest, kind_at};
+use ghost_base::limits::{MAX_CELL, MAX_CHARS, MAX_COLUMNS, MAX_CONDITIONS};
+use ghost_base::{Kind, Operator, Test, cell_width, encode_cell};
 use tree_schema::Schema;
 use tree_schema::schema::schemas_are_trees;
 
@@ -26,17 +27,34 @@ pub struct Span {
     pub size: usize,
 }
 
+/// What is tested of a cell.
+#[derive(Clone, Copy)]
+pub enum CellTest {
+    /// That an operator holds between its value and a literal with this plain cell, which has as many bytes as the plain cells
+    /// of the column.
+    Compared(Operator, [u8; MAX_CHARS]),
+
+    /// That the value is NULL.
+    IsNull,
+
+    /// That it is not NULL.
+    IsNotNull,
+}
+
 /// A condition on the bytes of a row.
 #[derive(Clone, Copy)]
 pub struct Check {
-    /// What holds between the column's cell and the literal's.
-    pub operator: Operator,
-
     /// Where the column's cell stands.
     pub span: Span,
 
-    /// The literal's cell, as many bytes as the column's.
-    pub literal: [u8; MAX_CELL],
+    /// Whether the column may be NULL: then a flag stands before the plain cell.
+    pub nullable: bool,
+
+    /// What is tested of the cell.
+    pub tested: CellTest,
+
+    /// Whether the next condition is of the same group.
+    pub more: bool,
 }
 
 impl Default for Check {
@@ -46,9 +64,10 @@ impl Default for Check {
 
     fn default() -> Check {
         Check {
-            operator: Operator::Equal,
             span: Span { at: 0, size: 0 },
-            literal: [0; MAX_CELL],
+            nullable: false,
+            tested: CellTest::IsNull,
+            more: false,
         }
     }
 }
@@ -62,7 +81,7 @@ pub struct Form {
     /// Where the asked cells stand.
     pub columns: ArrayVec<Span, MAX_COLUMNS>,
 
-    /// The conditions.
+    /// The conditions, of each group of which a row meets one.
     pub checks: ArrayVec<Check, MAX_CONDITIONS>,
 }
 
@@ -108,19 +127,37 @@ fn span_of(schema: &Schema, table: usize, column: u8) -> Span
     Span { at, size }
 }
 
+/// A test of a column of a kind as one of its cell.
+fn cell_test_of(kind: Kind, test: &Test) -> CellTest
+    requires kind { asks.fits_kind (kind_of kind) (test_of test.now) ≡ true }
+    requires narrow { cells.cell_width (schemas.plain_of (kind_of kind)) ≤ MAX_CHARS }
+    ensures { cell_test_view (cells.cell_width (schemas.plain_of (kind_of kind))) result
+        ≡ rows.cell_test (kind_of kind) (test_of test.now) }
+{
+    match test {
+        Test::Compared(operator, value) => {
+            let plain = kind.plain();
+            let width = cell_width(plain);
+            let mut literal = [0; MAX_CHARS];
+            encode_cell(plain, value, &mut literal[..width]);
+            CellTest::Compared(*operator, literal)
+        }
+        Test::IsNull => CellTest::IsNull,
+        Test::IsNotNull => CellTest::IsNotNull,
+    }
+}
+
 /// A condition of an ask over the bytes of rows.
-fn check_of(schema: &Schema, table: usize, test: &Test) -> Check
+fn check_of(schema: &Schema, table: usize, test: &ColumnTest) -> Check
     requires { has_kind schema.now table (test_view test.now) ≡ true }
     ensures { check_view result ≡ rows.test_of schema.now table (test_view test.now) }
 {
     let kind = kind_at(schema, table, test.column as usize);
-    let span = span_of(schema, table, test.column);
-    let mut literal = [0; MAX_CELL];
-    encode_cell(kind, &test.value, &mut literal[..span.size]);
     Check {
-        operator: test.operator,
-        span,
-        literal,
+        span: span_of(schema, table, test.column),
+        nullable: kind.is_nullable(),
+        tested: cell_test_of(kind, &test.test),
+        more: test.more,
     }
 }
 
@@ -139,7 +176,7 @@ fn spans_of(schema: &Schema, table: usize, columns: &[u8]) -> ArrayVec<Span, MAX
 }
 
 /// Some conditions over the bytes of rows.
-fn checks_of(schema: &Schema, table: usize, tests: &[Test]) -> ArrayVec<Check, MAX_CONDITIONS>
+fn checks_of(schema: &Schema, table: usize, tests: &[ColumnTest]) -> ArrayVec<Check, MAX_CONDITIONS>
     requires few { length tests.now ≤ MAX_CONDITIONS }
     requires kinds { list_all (has_kind schema.now table) (map test_view tests.now) ≡ true }
     ensures { map check_view result.items ≡ map (rows.test_of schema.now table) (map test_view tests.now) }
@@ -168,6 +205,7 @@ pub fn row_width(schema: &Schema, table: usize) -> usize
 pub fn form_of(schema: &Schema, ask: &Ask) -> Form
     requires { asks.is_proper_ask schema.now (ask_view ask.now) ≡ true }
     ensures form { form_view result ≡ rows.form_of schema.now (ask_view ask.now) }
+    ensures ended { rows.is_ended (form_view result) ≡ true }
     ensures narrow { result.width ≤ 1560 }
 {
     let table = ask.table as usize;

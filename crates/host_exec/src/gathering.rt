@@ -1,21 +1,21 @@
 //! The rows of one frame of a reply, gathered from the file.
 
-ghost use Rattle.std.specs.Prelude.{◌≡◌, ◌≤◌, ◌<◌, ◌+◌, ◌-◌, ◌*◌, ◌++◌, ◌^◌, ℕ, true, false, List, [], Some, map, flat_map, sum, IfErr, IfOk, is_ok};
-ghost use Rattle.std.specs.List.{list_all};
+ghost use Rattle.std.specs.Prelude.{◌≡◌, ◌≤◌, ◌<◌, ◌+◌, ◌-◌, ◌*◌, ◌++◌, ◌^◌, ◌||◌, ℕ, true, false, List, [], Some, map, flat_map, sum, IfErr, IfOk, is_ok};
 ghost use Rattle.arrayvec.specs.ArrayVec.{array_vec_len};
 ghost use Rattle.ghost_model.specs.core.Asks.{RowCells, row_bytes};
 ghost use Rattle.ghost_model.specs.core.Causes.{HasCause};
+ghost use Rattle.ghost_model.specs.readings.GroupReading.{passes_from};
 ghost use Rattle.edge_traits.specs.Files.{file_of};
 ghost use Rattle.host_exec.specs.RowBytes as rows;
-ghost use Rattle.host_exec.specs.RowBytes.{replies_at};
+ghost use Rattle.host_exec.specs.RowBytes.{is_ended, is_met, replies_at};
 ghost use Rattle.host_exec.specs.Gathering.{Gathered, HasRoom};
 ghost use Rattle.host_exec.specs.Pieces.{HasFit, IsAhead};
 ghost use Rattle.host_exec.specs.FormViews.{span_view, check_view, form_view};
 
-use crate::form::{Check, Form, Span};
+use crate::form::{CellTest, Check, Form, Span};
 use crate::piece::Piece;
 use arrayvec::ArrayVec;
-use channel_codec::bytes::{behind, front};
+use channel_codec::bytes::{behind, byte_at, front};
 use channel_codec::frame::PAYLOAD_BYTES;
 use edge_traits::Failed;
 use edge_traits::depot::Depot;
@@ -23,21 +23,54 @@ use edge_traits::depot::Depot;
 /// Rows of a reply, one after another.
 pub type Rows = ArrayVec<u8, PAYLOAD_BYTES>;
 
+/// Whether a cell is that of NULL, in a column that may be NULL or may not.
+fn is_null(nullable: bool, cell: &[u8]) -> bool
+    ensures { result ≡ rows.is_null_cell nullable cell.now }
+{
+    nullable && byte_at(cell, 0) == 0
+}
+
 /// Whether a row meets a condition.
 fn passes(row: &[u8], check: &Check) -> bool
     ensures { result ≡ rows.passes row.now (check_view check.now) }
 {
     let cell = front(behind(row, check.span.at), check.span.size);
-    check
-        .operator
-        .meets(cell.cmp(&front(&check.literal, check.span.size)))
+    let null = is_null(check.nullable, cell);
+    match &check.tested {
+        CellTest::Compared(operator, literal) => {
+            let flag = check.nullable as usize;
+            let literal = front(literal, check.span.size.saturating_sub(flag));
+            !null && operator.meets(behind(cell, flag).cmp(&literal))
+        }
+        CellTest::IsNull => null,
+        CellTest::IsNotNull => !null,
+    }
 }
 
-/// Whether a row meets each of some conditions.
-fn passes_all(row: &[u8], checks: &[Check]) -> bool
-    ensures { result ≡ list_all (λ check. rows.passes row.now (check_view check)) checks.now }
+/// Whether a row met a condition of a group before, or meets this one.
+fn meets_now(row: &[u8], check: &Check, met: bool) -> bool
+    ensures { result ≡ (met || rows.passes row.now (check_view check.now)) }
 {
-    checks.iter().all(|check| passes(row, check))
+    met || passes(row, check)
+}
+
+/// Whether a row meets one of each group of some conditions, of which the last ends its group.
+fn passes_all(row: &[u8], checks: &[Check]) -> bool
+    ensures { result ≡ passes_from (λ test. test.more) (rows.passes row.now) false (map check_view checks.now) }
+{
+    let mut met = false;
+    let mut rest = checks;
+    'checks: while let Some((check, later)) = rest.split_first() {
+        met = meets_now(row, check, met);
+        if !check.more {
+            if !met {
+                return false;
+            }
+            met = false;
+        }
+        rest = later;
+    }
+    true
 }
 
 /// Adds the cells that stand in a row, one after another.
@@ -88,13 +121,14 @@ impl Batch {
 
 /// Adds the row of the reply that a row of the file gives, where it meets the conditions.
 fn add_row(form: &Form, identifier: u32, row: &[u8], most: u32, batch: &mut Batch)
+    requires ended { is_ended (form_view form.now) ≡ true }
     requires room { HasRoom (form_view form.now) most batch.old }
     requires more { batch.old.rows < most }
     ensures room { HasRoom (form_view form.now) most batch.new }
     ensures one { batch.new.rows ≤ batch.old.rows + 1 }
-    ensures found { list_all (rows.passes row.now) (form_view form.now).tests ≡ true → (batch.new.rows ≡ batch.old.rows + 1)
+    ensures found { is_met (form_view form.now) row.now ≡ true → (batch.new.rows ≡ batch.old.rows + 1)
         × (batch.new.bytes.items ≡ batch.old.bytes.items ++ row_bytes (rows.replied (form_view form.now) identifier row.now)) }
-    ensures passed { list_all (rows.passes row.now) (form_view form.now).tests ≡ false → (batch.new.rows ≡ batch.old.rows)
+    ensures passed { is_met (form_view form.now) row.now ≡ false → (batch.new.rows ≡ batch.old.rows)
         × (batch.new.bytes.items ≡ batch.old.bytes.items) }
 {
     if passes_all(row, &form.checks) {
@@ -106,6 +140,7 @@ fn add_row(form: &Form, identifier: u32, row: &[u8], most: u32, batch: &mut Batc
 /// Adds what so many rows of the file give, the first of them standing at a place of its table, until there are as many
 /// as a frame has; answers how many rows of the file were gone through.
 fn add_rows(form: &Form, place: u32, count: u32, piece: &[u8], most: u32, batch: &mut Batch) -> u32
+    requires ended { is_ended (form_view form.now) ≡ true }
     requires room { HasRoom (form_view form.now) most batch.old }
     requires last { place + count < 2 ^ 32 }
     ensures room { HasRoom (form_view form.now) most batch.new }
@@ -145,6 +180,7 @@ fn gather_piece<D: Depot>(
     requires few { rows ≤ 1_000_000 }
     requires narrow { form.now.width ≤ 1560 }
     requires start { start < 2 ^ 63 }
+    requires ended { is_ended (form_view form.now) ≡ true }
     requires room { HasRoom (form_view form.now) most batch.old }
     requires more { batch.old.rows < most }
     requires fits { HasFit form.now.width piece.old }
@@ -191,6 +227,7 @@ pub fn gather<D: Depot>(
     requires few { rows ≤ 1_000_000 }
     requires narrow { form.now.width ≤ 1560 }
     requires start { start < 2 ^ 63 }
+    requires ended { is_ended (form_view form.now) ≡ true }
     requires room { HasRoom (form_view form.now) most batch.old }
     requires fits { HasFit form.now.width piece.old }
     ensures cause { HasCause (D.faults depot.old) (D.faults depot.new) result }

@@ -3,7 +3,7 @@
 ghost use Rattle.std.specs.Prelude.{◌≡◌, ◌≤◌, ◌<◌, ◌/◌, ◌^◌, true};
 ghost use Rattle.ghost_model.specs.core.Asks as asks;
 ghost use Rattle.channel_codec.specs.AskViews.{ask_view};
-ghost use Rattle.host_exec.specs.RowBytes.{reply_width, form_of};
+ghost use Rattle.host_exec.specs.RowBytes.{reply_width, form_of, is_ended};
 ghost use Rattle.host_exec.specs.FormViews.{form_view};
 ghost use Rattle.host_exec.specs.Pieces.{HasFit};
 
@@ -24,6 +24,7 @@ pub struct Reply {
     pub most: u32,
     pub piece: Piece,
     pub ghost few: { rows ≤ 1_000_000 },
+    pub ghost ended: { is_ended (form_view form) ≡ true },
     pub ghost narrow: { form.width ≤ 1560 },
     pub ghost within: { start < 2 ^ 63 },
     pub ghost full: { most ≡ 2040 / reply_width (form_view form) },

@@ -2,19 +2,23 @@
 use Rattle.std.proofs.Common.{◌≡◌, ◌<◌, ◌≤◌, ◌+◌, ◌||◌, ℕ, Bool, true, false, cond, not, ◌&&◌, ◌==◌, arith, List, [], ◌∷◌, ◌++◌, length, drop, map, filter, flat_map, refl, ap, ap₂, sym, ◌∙◌, append_assoc, append-nil}
 use Rattle.std.specs.List.{list_any}
 use Rattle.std.proofs.lemmas.List.{length-map}
+use Rattle.std.proofs.lemmas.List.Elements.{filter_agree}
 use Rattle.std.proofs.lemmas.Bool.Decides.{nat_tests}
-use Rattle.ghost_model.specs.core.Schema.{Schema, places_from, columns_of, is_empty, places_of}
-use Rattle.ghost_model.specs.core.Query.{Query, Field, Condition, Compare, Join}
-use Rattle.ghost_model.specs.core.Channel.{Ask, Test}
+use Rattle.ghost_model.specs.core.Schema.{Schema, places_from, columns_of, is_empty, is_visible, places_of}
+use Rattle.ghost_model.specs.core.Query.{Query, Field, Member, GroupMember, Condition, OneOf, Join, members_in}
+use Rattle.ghost_model.specs.core.Channel.{Ask, ColumnTest}
 use Rattle.ghost_model.specs.core.Asks as asks
-use Rattle.ghost_model.specs.core.Asks.{test_of, is_wanted, is_needed}
+use Rattle.ghost_model.specs.core.Asks.{column_test, is_column, is_mixed, is_needed, is_shown, is_wanted, names_column}
 use Rattle.ghost_model.specs.laws.ShortWords.{tests_of, is_from}
-use Rattle.spj_parse.specs.Resolved.{is_comparison}
+use Rattle.spj_parse.specs.Resolved.{is_group}
+use Rattle.spj_parse.specs.Views.{alone_of, member_of}
+use Rattle.spj_parse.specs.declared.query.Member as declared_member
 use Rattle.tree_schema.proofs.RuleSteps.{place_next, places_end}
-use Rattle.std.specs.Prelude.{Option, Some, None, is_some, option_to_list, option_map, IfSome}
+use Rattle.std.specs.Prelude.{if◌then◌else◌, Option, Some, None, is_some, option_to_list, option_map, IfSome}
 use Rattle.channel_codec.specs.AskViews.{ask_view}
 use Rattle.channel_codec.specs.declared.ask.Ask as declared
 use Rattle.script_asks.specs.Left.{asks_for, asks_after}
+use Rattle.script_asks.specs.Shown.{is_selected, shown_tests}
 
 pub any_map : {X Y : Type 0} (view : X → Y) (test : Y → Bool) (xs : List X) → list_any (λ x. test (view x)) xs ≡ list_any test (map view xs)
 any_map view test [] = refl
@@ -45,30 +49,72 @@ pub all_columns : {X : Type 0} (test : ℕ → Bool) (xs : List X) (at : ℕ) (f
 all_columns test xs at found past h =
     sym (append-nil found) ∙ (ap (λ (ys : List ℕ). found ++ filter test ys) (sym (places_end xs at past)) ∙ h)
 
--- the conditions that comparisons are, where one more was looked at
-pub more_tests : (schema : Schema) (table : ℕ) (found now this : List Test) (one : Condition) (later all : List Condition) → this ≡ test_of schema table one → now ≡ found ++ this
-    → found ++ flat_map (test_of schema table) (one ∷ later) ≡ flat_map (test_of schema table) all → now ++ flat_map (test_of schema table) later ≡ flat_map (test_of schema table) all
-more_tests schema table found now this one later all its is h =
-    ap (λ (ys : List Test). ys ++ flat_map (test_of schema table) later) (is ∙ ap (λ (ys : List Test). found ++ ys) its)
-    ∙ (append_assoc found (test_of schema table one) (flat_map (test_of schema table) later) ∙ h)
+-- ---- queries whose groups have one member each
 
-pub compared_tests : (schema : Schema) (table : ℕ) (conditions : List Condition) → flat_map (test_of schema table) (filter is_comparison conditions) ≡ tests_of schema table conditions
-compared_tests schema table [] = refl
-compared_tests schema table (Compare place operator value ∷ conditions) = ap (λ rest. test_of schema table (Compare place operator value) ++ rest) (compared_tests schema table conditions)
-compared_tests schema table (Join left right ∷ conditions) = compared_tests schema table conditions
+alone_later : (one : declared_member.Member) (alone : List declared_member.Member) (condition : Condition) (later : List Condition)
+    → alone_of one ∷ map alone_of alone ≡ condition ∷ later → map alone_of alone ≡ later
+alone_later one alone condition later e = cc
 
-abbrev ask_with : (table : ℕ) → List ℕ → List Test → Ask
+none_is_not_one : (condition : Condition) (later : List Condition) → [] ≡ condition ∷ later → ⊥
+none_is_not_one condition later e = cc
+
+alone_is_not_two : (one first next : Member) (others later rest : List _) → OneOf one [] ∷ later ≡ OneOf first (next ∷ others) ∷ rest → ⊥
+alone_is_not_two one first next others later rest e = cc
+
+-- there is no mixed group
+never_mixed : (shown named others : Bool) → others ≡ false → ((shown && not shown && named) || others) ≡ false
+never_mixed true named others e = e
+never_mixed false named others e = e
+
+no_mixed : (schema : Schema) (table column : ℕ) (alone : List declared_member.Member) (conditions : List Condition) → map alone_of alone ≡ filter is_group conditions
+    → list_any (λ condition. is_mixed schema table condition && names_column table column condition) conditions ≡ false
+no_mixed schema table column alone [] e = refl
+no_mixed schema table column alone (Join left right ∷ conditions) e = no_mixed schema table column alone conditions e
+no_mixed schema table column [] (OneOf first others ∷ conditions) e = absurd (none_is_not_one _ _ e)
+no_mixed schema table column (one ∷ alone) (OneOf first (next ∷ others) ∷ conditions) e = absurd (alone_is_not_two _ _ _ _ _ _ e)
+no_mixed schema table column (one ∷ alone) (OneOf first [] ∷ conditions) e =
+    never_mixed (is_shown schema table first) (is_column table column first.field) _ (no_mixed schema table column alone conditions (alone_later one alone _ _ e))
+
+same_column : (visible chosen mixed : Bool) → mixed ≡ false → (visible && chosen) ≡ (visible && (chosen || mixed))
+same_column false chosen mixed e = refl
+same_column true true mixed e = refl
+same_column true false mixed e = sym e
+
+-- the members of visible columns are those of visible groups
+one_shown : (b : Bool) (one : GroupMember) (later : List GroupMember) → map column_test (cond b (one ∷ later) later) ≡ map column_test (cond b (one ∷ []) []) ++ map column_test later
+one_shown true one later = refl
+one_shown false one later = refl
+
+chosen : (b : Bool) (one : GroupMember) → map column_test (cond b (one ∷ []) []) ≡ (if b then column_test one ∷ [] else [])
+chosen true one = refl
+chosen false one = refl
+
+same_tests : (schema : Schema) (table : ℕ) (alone : List declared_member.Member) (conditions : List Condition) → map alone_of alone ≡ filter is_group conditions
+    → shown_tests schema table (members_in conditions) ≡ tests_of schema table conditions
+same_tests schema table alone [] e = refl
+same_tests schema table alone (Join left right ∷ conditions) e = same_tests schema table alone conditions e
+same_tests schema table [] (OneOf first others ∷ conditions) e = absurd (none_is_not_one _ _ e)
+same_tests schema table (one ∷ alone) (OneOf first (next ∷ others) ∷ conditions) e = absurd (alone_is_not_two _ _ _ _ _ _ e)
+same_tests schema table (one ∷ alone) (OneOf first [] ∷ conditions) e =
+    let member : GroupMember = record { member = first; more = false } in
+    one_shown (is_shown schema table first) member (filter (λ other. is_shown schema table other.member) (members_in conditions))
+    ∙ ap₂ (λ (xs ys : List ColumnTest). xs ++ ys) (chosen (is_shown schema table first) member) (same_tests schema table alone conditions (alone_later one alone _ _ e))
+
+abbrev ask_with : (table : ℕ) → List ℕ → List ColumnTest → Ask
 ask_with table columns tests = record { table = table; columns = columns; tests = tests }
 
 -- an ask is that of a query for a table
-pub ask_is : (schema : Schema) (query : Query) (table : ℕ) (columns : List ℕ) (tests : List Test) (fields : List Field) (compared : List Condition)
-    → fields ≡ query.select → compared ≡ filter is_comparison query.conditions
-    → columns ≡ filter (is_wanted schema fields table) (places_of (columns_of schema table)) → tests ≡ flat_map (test_of schema table) compared
+pub ask_is : (schema : Schema) (query : Query) (table : ℕ) (columns : List ℕ) (tests : List ColumnTest) (fields : List Field) (members : List declared_member.Member)
+    → fields ≡ query.select → map member_of members ≡ members_in query.conditions → map alone_of members ≡ filter is_group query.conditions
+    → columns ≡ filter (is_selected schema fields table) (places_of (columns_of schema table)) → tests ≡ shown_tests schema table (map member_of members)
     → ask_with table columns tests ≡ asks.ask_for schema query table
-ask_is schema query table columns tests fields compared f k c t =
+ask_is schema query table columns tests fields members f m alone c t =
     ap₂ (ask_with table)
-    (c ∙ ap (λ (fs : List Field). filter (is_wanted schema fs table) (places_of (columns_of schema table))) f)
-    (t ∙ (ap (flat_map (test_of schema table)) k ∙ compared_tests schema table query.conditions))
+    (c ∙ (ap (λ (fs : List Field). filter (is_selected schema fs table) (places_of (columns_of schema table))) f
+    ∙ filter_agree (is_selected schema query.select table) (is_wanted schema query table)
+    (λ at. same_column (is_visible schema table at) (list_any (is_column table at) query.select) _ (no_mixed schema table at members query.conditions alone))
+    (places_of (columns_of schema table))))
+    (t ∙ (ap (shown_tests schema table) m ∙ same_tests schema table members query.conditions alone))
 
 -- one table and those behind it
 split_needed : (ask : Ask) (later : List Ask) (b : Bool) → is_needed ask ≡ b → filter is_needed (ask ∷ later) ≡ cond b (ask ∷ []) [] ++ filter is_needed later
@@ -117,7 +163,7 @@ not_both : (b : Bool) → not (b && false) ≡ true
 not_both true = refl
 not_both false = refl
 
-pub needs_tests : (table : ℕ) (columns : List ℕ) {X : Type 0} (view : X → Test) (tests : List X) → (length tests == 0) ≡ false → is_needed (ask_with table columns (map view tests)) ≡ true
+pub needs_tests : (table : ℕ) (columns : List ℕ) {X : Type 0} (view : X → ColumnTest) (tests : List X) → (length tests == 0) ≡ false → is_needed (ask_with table columns (map view tests)) ≡ true
 needs_tests table columns view tests some =
     ap (λ (b : Bool). not (is_empty columns && b))
     (sym (none_of_length (map view tests)) ∙ (ap (λ (n : ℕ). n == 0) (length-map tests view) ∙ some))

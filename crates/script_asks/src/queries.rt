@@ -5,14 +5,15 @@ ghost use Rattle.std.specs.List.{list_any};
 ghost use Rattle.ghost_model.specs.laws.ShortWords as short;
 ghost use Rattle.ghost_model.specs.core.Asks as asks;
 ghost use Rattle.ghost_model.specs.core.Schema as schemas;
-ghost use Rattle.spj_parse.specs.Views.{comparison_of, field_of};
+ghost use Rattle.spj_parse.specs.Views.{field_of, member_of};
 ghost use Rattle.channel_codec.specs.AskViews.{ask_view, test_view};
 ghost use Rattle.script_asks.specs.Left.{asks_for, asks_after};
+ghost use Rattle.script_asks.specs.Shown.{is_selected, shown_tests};
 
 use arrayvec::ArrayVec;
-use channel_codec::ask::{Ask, Test};
+use channel_codec::ask::{Ask, ColumnTest};
 use ghost_base::limits::{MAX_COLUMNS, MAX_CONDITIONS, MAX_TABLES};
-use spj_parse::{Comparison, Field, Query};
+use spj_parse::{Field, Member, Query};
 use tree_schema::Schema;
 use tree_schema::schema::schemas_are_trees;
 
@@ -39,7 +40,7 @@ fn selects(select: &[Field], table: usize, column: usize) -> bool
 
 /// Whether a column is visible, and among these that are selected.
 fn is_wanted(schema: &Schema, select: &[Field], table: usize, column: usize) -> bool
-    ensures { result ≡ asks.is_wanted schema.now (map field_of select.now) table column }
+    ensures { result ≡ is_selected schema.now (map field_of select.now) table column }
 {
     schema.is_visible(table, column) && selects(select, table, column)
 }
@@ -64,7 +65,7 @@ fn byte_of(place: usize) -> u8
 
 /// The columns of a table that are visible and selected, ascending.
 fn wanted_columns(schema: &Schema, select: &[Field], table: usize) -> ArrayVec<u8, MAX_COLUMNS>
-    ensures columns { result.items ≡ filter (asks.is_wanted schema.now (map field_of select.now) table) (schemas.places_of (schemas.columns_of schema.now table)) }
+    ensures columns { result.items ≡ filter (is_selected schema.now (map field_of select.now) table) (schemas.places_of (schemas.columns_of schema.now table)) }
 {
     let mut found = ArrayVec::new();
     for at in 0..column_count(schema, table) {
@@ -75,35 +76,35 @@ fn wanted_columns(schema: &Schema, select: &[Field], table: usize) -> ArrayVec<u
     found
 }
 
-/// The condition of an ask for a table that a comparison is, if its column is visible.
-fn test_of(schema: &Schema, comparison: &Comparison, table: usize) -> Option<Test>
-    ensures { option_to_list (option_map test_view result) ≡ asks.test_of schema.now table (comparison_of comparison.now) }
+/// The condition of an ask for a table that a member is, if its column is visible.
+fn test_of(schema: &Schema, member: &Member, table: usize) -> Option<ColumnTest>
+    ensures { option_to_list (option_map test_view result) ≡ shown_tests schema.now table (member_of member.now ∷ []) }
 {
-    let field = comparison.field;
+    let field = member.field;
     if field.table as usize == table && schema.is_visible(table, field.column as usize) {
-        Some(Test {
+        Some(ColumnTest {
             column: field.column,
-            operator: comparison.operator,
-            value: comparison.value,
+            test: member.test,
+            more: member.more,
         })
     } else {
         None
     }
 }
 
-/// The conditions of an ask for a table that these comparisons are, in their order.
+/// The conditions of an ask for a table that these members are, in their order.
 fn tests_for(
     schema: &Schema,
-    compared: &[Comparison],
+    compared: &[Member],
     table: usize,
-) -> ArrayVec<Test, MAX_CONDITIONS>
+) -> ArrayVec<ColumnTest, MAX_CONDITIONS>
     requires few { length compared.now ≤ MAX_CONDITIONS }
-    ensures tests { map test_view result.items ≡ flat_map (asks.test_of schema.now table) (map comparison_of compared.now) }
+    ensures tests { map test_view result.items ≡ shown_tests schema.now table (map member_of compared.now) }
 {
     let mut tests = ArrayVec::new();
     let mut rest = compared;
-    'tests: while let Some((comparison, later)) = rest.split_first() {
-        if let Some(test) = test_of(schema, comparison, table) {
+    'tests: while let Some((member, later)) = rest.split_first() {
+        if let Some(test) = test_of(schema, member, table) {
             tests.push(test);
         }
         rest = later;
@@ -118,7 +119,7 @@ pub fn ask_for(schema: &Schema, query: &Query, table: u8) -> Ask
     Ask {
         table,
         columns: wanted_columns(schema, query.select(), table as usize),
-        tests: tests_for(schema, query.comparisons(), table as usize),
+        tests: tests_for(schema, query.members(), table as usize),
     }
 }
 
