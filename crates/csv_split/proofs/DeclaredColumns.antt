@@ -1,12 +1,12 @@
 -- The columns of a schema's table after its identifier.
-use Rattle.std.proofs.Common.{◌≡◌, ◌≤◌, ◌∙◌, ℕ, suc, true, false, List, [], ◌∷◌, length, drop, Some, sym, ap, refl, arith, lit<}
+use Rattle.std.proofs.Common.{◌≡◌, ◌≤◌, ◌∙◌, ℕ, suc, true, List, [], ◌∷◌, length, drop, Some, sym, ap, refl, arith, lit<}
 use Rattle.std.specs.Prelude.{slice_get}
 use Rattle.std.specs.Cmp.{first_so, second_so}
 use Rattle.std.proofs.lemmas.Slice.Eq.{bytes_eq-Decides}
 use Rattle.std.proofs.lemmas.List.{length-map}
 use Rattle.ghost_model.specs.forms.Cells.{cell_width}
 use Rattle.ghost_model.specs.core.Schema as schema
-use Rattle.ghost_model.specs.core.Schema.{Kind, Integer, Chars, IntegerOrNull, CharsOrNull, is_nullable, column_at}
+use Rattle.ghost_model.specs.core.Schema.{Kind, Integer, Chars, IntegerOrNull, CharsOrNull, plain_of, column_at}
 use Rattle.ghost_model.specs.laws.SchemaTrees.{IsTree}
 use Rattle.ghost_model.specs.laws.Spelled.{is_name}
 use Rattle.ghost_model.specs.refusals.Tokens.{in_lower_case}
@@ -18,11 +18,12 @@ lower : (name : List ℕ) → is_name name ≡ true → in_lower_case name ≡ n
 unfolding is_name
 lower name h = (bytes_eq-Decides (in_lower_case name) name).0 (second_so _ _ (first_so _ _ h))
 
-pub narrow : (kind : Kind) → is_nullable kind ≡ false → ((most : ℕ) → kind ≡ Chars most → (1 ≤ most) × (most ≤ 64)) → cell_width kind ≤ 64
-narrow Integer plain short = lit< tt
-narrow (Chars most) plain short = (short most refl).1
-narrow IntegerOrNull plain short = cc
-narrow (CharsOrNull most) plain short = cc
+pub narrow : (kind : Kind) → ((most : ℕ) → kind ≡ Chars most → (1 ≤ most) × (most ≤ 64)) → ((most : ℕ) → kind ≡ CharsOrNull most → (1 ≤ most) × (most ≤ 64))
+    → cell_width (plain_of kind) ≤ 64
+narrow Integer short nullable = lit< tt
+narrow (Chars most) short nullable = (short most refl).1
+narrow IntegerOrNull short nullable = lit< tt
+narrow (CharsOrNull most) short nullable = (nullable most refl).1
 
 -- no cell is wider than that of the longest text beside which NULL may stand
 pub not_wide : (kind : Kind) → ((most : ℕ) → kind ≡ Chars most → (1 ≤ most) × (most ≤ 64)) → ((most : ℕ) → kind ≡ CharsOrNull most → (1 ≤ most) × (most ≤ 64))
@@ -51,8 +52,9 @@ are_columns tables table all tree is =
     λ column held found. ap (λ columns. slice_get columns (suc column)) (sym is) ∙ further all column held found in
     record {
       few = short all (few_columns tables table all tree is);
-      narrow = λ column held found. narrow held.kind (tree.not_null table (suc column) held (there column held found)) (λ most kind. tree.text_lengths table (suc column) most held (there column held found) kind);
-      plain = λ column held found. tree.not_null table (suc column) held (there column held found);
+      narrow = λ column held found.
+          narrow held.kind (λ most kind. tree.text_lengths table (suc column) most held (there column held found) kind)
+          (λ most kind. tree.nullable_text_lengths table (suc column) most held (there column held found) kind);
       lower = λ column held found. lower held.name (tree.names_are_names table (suc column) held (there column held found));
     }
   where

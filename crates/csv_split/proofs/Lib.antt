@@ -1,6 +1,7 @@
 pub mod Numerals
 pub mod ReadRecords
 pub mod KeptTexts
+pub mod KeptValues
 pub mod CellValues
 pub mod TableRows
 pub mod Judging

@@ -9,7 +9,6 @@ use Rattle.std.proofs.lemmas.List.FromFn.{map-range_with_len_more}
 use Rattle.ghost_model.specs.forms.Cells.{cell_width}
 use Rattle.ghost_model.specs.refusals.LoadFaults.{FieldCount, LoadFault, RowLimit, most_rows, place, row_faults, rows_faults, unless}
 use Rattle.ghost_model.specs.core.Schema as schema
-use Rattle.ghost_model.specs.core.Schema.{is_nullable}
 use Rattle.ghost_model.specs.laws.SchemaTrees.{identifier}
 use Rattle.ghost_model.specs.core.Split.{kind_of_column}
 use Rattle.ghost_model.specs.core.Values.{Value, Number, Row}
@@ -199,9 +198,5 @@ none_made columns cells is =
 
 -- its cells are narrow
 pub narrow_there : (declared : List Column) (i : ℕ) (column : Column) → AreColumns (columns_of declared) → i < length declared → column ≡ get_or declared i column
-    → cell_width (column_of column).kind ≤ 64
+    → cell_width (schema.plain_of (column_of column).kind) ≤ 64
 narrow_there declared i column are within is = are.narrow i (column_of column) (held_there declared i column within is)
-
-pub plain_there : (declared : List Column) (i : ℕ) (column : Column) → AreColumns (columns_of declared) → i < length declared → column ≡ get_or declared i column
-    → is_nullable (column_of column).kind ≡ false
-plain_there declared i column are within is = are.plain i (column_of column) (held_there declared i column within is)

@@ -8,7 +8,9 @@ use Rattle.csv_split.specs.declared.cells.Cells.TheVariants as cells
 abbrev pub kind_in : Cells → Kind
 kind_in (cells.Numbers numbers) = Integer
 kind_in (cells.Texts texts) = Chars texts.width
+kind_in (cells.Nullable flat) = flat.kind
 
 abbrev pub values_in : Cells → List Value
 values_in (cells.Numbers numbers) = map Number numbers.items
 values_in (cells.Texts texts) = map Text texts.texts
+values_in (cells.Nullable flat) = flat.values

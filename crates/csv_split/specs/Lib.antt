@@ -1,6 +1,7 @@
 pub mod Numbers
 pub mod Records
 pub mod Texts
+pub mod FlatCells
 pub mod Faults
 pub mod Cells
 pub mod Tables

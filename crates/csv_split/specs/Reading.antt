@@ -1,5 +1,5 @@
 -- The columns of a table whose identifier is left out, and one more row at the ends of their values.
-use Rattle.std.specs.Prelude.{◌≡◌, ◌≤◌, ℕ, false, List, [], ◌∷◌, ◌++◌, length, map, slice_get, Some}
+use Rattle.std.specs.Prelude.{◌≡◌, ◌≤◌, ℕ, List, [], ◌∷◌, ◌++◌, length, map, slice_get, Some}
 use Rattle.ghost_model.specs.forms.Cells.{cell_width}
 use Rattle.ghost_model.specs.core.Schema as schema
 use Rattle.ghost_model.specs.laws.SchemaTrees.{identifier}
@@ -19,12 +19,10 @@ columns_of declared = map column_of declared
 abbrev pub with_identifier : List schema.Column → List schema.Column
 with_identifier columns = identifier ∷ columns
 
--- columns of a schema after an identifier: not too many, none of which may be NULL, with cells that are not too wide, and names
--- in lower case
+-- columns of a schema after an identifier: not too many, with cells that are not too wide, and names in lower case
 pub record AreColumns (columns : List schema.Column) : Type 0 where
   pub few : length columns ≤ 23
-  pub narrow : (column : ℕ) (held : schema.Column) → slice_get columns column ≡ Some held → cell_width held.kind ≤ 64
-  pub plain : (column : ℕ) (held : schema.Column) → slice_get columns column ≡ Some held → schema.is_nullable held.kind ≡ false
+  pub narrow : (column : ℕ) (held : schema.Column) → slice_get columns column ≡ Some held → cell_width (schema.plain_of held.kind) ≤ 64
   pub lower : (column : ℕ) (held : schema.Column) → slice_get columns column ≡ Some held → in_lower_case held.name ≡ held.name
 
 -- the kinds of cells are those of the columns

@@ -1,6 +1,6 @@
 //! The cells of one column of a table.
 
-ghost use Rattle.std.specs.Prelude.{◌≡◌, ◌<◌, ◌≤◌, ◌^◌, ◌++◌, ◌∷◌, [], false, length, map, slice_get, option_map, OnOk, Err};
+ghost use Rattle.std.specs.Prelude.{◌≡◌, ◌<◌, ◌≤◌, ◌^◌, ◌++◌, ◌∷◌, [], length, map, slice_get, option_map, OnOk, IfOk, Err, IsTrue};
 ghost use Rattle.ghost_model.specs.laws.LoadLaws as load_laws;
 ghost use Rattle.ghost_model.specs.core.Schema as schema;
 ghost use Rattle.ghost_model.specs.core.Values.{Number, Text};
@@ -10,9 +10,11 @@ ghost use Rattle.ghost_model.specs.refusals.LoadFaults as faults;
 ghost use Rattle.ghost_base.specs.Views.{kind_of, value_of};
 ghost use Rattle.csv_split.specs.Cells.{kind_in, values_in};
 ghost use Rattle.csv_split.specs.Faults.{place_of, told};
+ghost use Rattle.csv_split.specs.Wants.{NeverWants};
 
 use crate::faults::{LoadFault, Place};
 use crate::fields::{integer_of, is_text};
+use crate::flat_cells::FlatCells;
 use crate::texts::Texts;
 use ghost_base::{Kind, Text64, Value};
 use std::alloc::Global;
@@ -25,20 +27,24 @@ pub enum Cells {
 
     /// Those of a CHAR column.
     Texts(Texts),
+
+    /// Those of a column that may be NULL.
+    Nullable(FlatCells),
 }
 
 impl Cells {
-    /// No values of a kind, which has no NULL.
+    /// No values of a kind.
     pub fn new(alloc: Global, kind: Kind) -> Cells
-        requires narrow { cells.cell_width (kind_of kind) ≤ 64 }
-        requires plain { schema.is_nullable (kind_of kind) ≡ false }
+        requires narrow { cells.cell_width (schema.plain_of (kind_of kind)) ≤ 64 }
         ensures kind { kind_in result ≡ kind_of kind }
         ensures values { values_in result ≡ [] }
     {
         match kind {
             Kind::Integer => Cells::Numbers(Vec::new(alloc)),
             Kind::Chars(most) => Cells::Texts(Texts::new(alloc, most as usize)),
-            Kind::IntegerOrNull | Kind::CharsOrNull(_) => unreachable!(),
+            Kind::IntegerOrNull | Kind::CharsOrNull(_) => {
+                Cells::Nullable(FlatCells::new(alloc, kind))
+            }
         }
     }
 
@@ -49,6 +55,7 @@ impl Cells {
         match self {
             Cells::Numbers(numbers) => numbers.len(),
             Cells::Texts(texts) => texts.len(),
+            Cells::Nullable(cells) => cells.len(),
         }
     }
 
@@ -59,6 +66,7 @@ impl Cells {
         match self {
             Cells::Numbers(numbers) => number_at(numbers, place),
             Cells::Texts(texts) => text_at(texts, place),
+            Cells::Nullable(cells) => cells.get(place),
         }
     }
 
@@ -73,6 +81,7 @@ impl Cells {
         match self {
             Cells::Numbers(numbers) => take_number(numbers, at, field),
             Cells::Texts(texts) => take_text(texts, at, field),
+            Cells::Nullable(cells) => take_nullable(cells, at, field),
         }
     }
 }
@@ -106,6 +115,46 @@ fn take_text(texts: &mut Texts, at: Place, field: &[u8]) -> Result<(), LoadFault
     match texts.push(field) {
         Ok(()) => Ok(()),
         Err(_) => Err(LoadFault::NoMemory),
+    }
+}
+
+/// Puts the value that a field spells at the end, NULL where the field is empty.
+fn take_nullable(cells: &mut FlatCells, at: Place, field: &[u8]) -> Result<(), LoadFault>
+    requires room { length cells.old.values < 2 ^ 32 }
+    ensures judged { load_laws.Judges told result (faults.value_faults (place_of at) cells.old.kind field.now) }
+    ensures memory { result ≡ Err LoadFault.NoMemory → faults.value_faults (place_of at) cells.old.kind field.now ≡ [] }
+    ensures values { OnOk result (cells.new.values ≡ cells.old.values ++ database.value_of_field cells.old.kind field.now ∷ []) }
+    ensures kind { cells.new.kind ≡ cells.old.kind }
+{
+    let value = value_of_field(cells.kind(), at, field)?;
+    match cells.push(&value) {
+        Ok(()) => Ok(()),
+        Err(_) => Err(LoadFault::NoMemory),
+    }
+}
+
+/// The value that a field spells in a column of a kind, unless the field breaks the kind's rule.
+fn value_of_field(kind: Kind, at: Place, field: &[u8]) -> Result<Value, LoadFault>
+    requires narrow { cells.cell_width (schema.plain_of (kind_of kind)) ≤ 64 }
+    ensures judged { load_laws.Judges told result (faults.value_faults (place_of at) (kind_of kind) field.now) }
+    ensures tells { NeverWants result }
+    ensures value { IfOk result (λ value. value_of value ≡ database.value_of_field (kind_of kind) field.now) }
+    ensures held { IfOk result (λ value. IsTrue (database.is_of_kind (kind_of kind) (value_of value))) }
+{
+    if field.is_empty() && kind.is_nullable() {
+        return Ok(Value::Null);
+    }
+    match kind {
+        Kind::Integer | Kind::IntegerOrNull => match integer_of(field) {
+            Some(number) => Ok(Value::Int(number)),
+            None => Err(LoadFault::BadInt(at)),
+        },
+        Kind::Chars(most) | Kind::CharsOrNull(most) => {
+            if !is_text(most as usize, field) {
+                return Err(LoadFault::BadChars(at));
+            }
+            Ok(Value::Chars(Text64::of(field)))
+        }
     }
 }
 

@@ -4,8 +4,8 @@ ghost use Rattle.std.specs.Prelude.{◌≡◌, pos, ◌≤◌, ◌<◌, ◌*◌,
 ghost use Rattle.ghost_model.specs.forms.Catalog.{catalog_bytes};
 ghost use Rattle.ghost_model.specs.forms.Cells as cells;
 ghost use Rattle.ghost_model.specs.core.Split as parts;
-ghost use Rattle.ghost_model.specs.core.Values.{Number, Text};
-ghost use Rattle.ghost_base.specs.Views.{kind_of};
+ghost use Rattle.ghost_model.specs.core.Values.{Null, Number, Text};
+ghost use Rattle.ghost_base.specs.Views.{kind_of, value_of};
 ghost use Rattle.tree_schema.specs.Views.{column_of};
 ghost use Rattle.csv_split.specs.Cells.{values_in};
 ghost use Rattle.csv_split.specs.ImageLengths.{column_bytes, counted, image_bytes, row_bytes};
@@ -14,6 +14,7 @@ ghost use Rattle.csv_split.specs.Reading.{HaveAll, columns_of};
 ghost use Rattle.csv_split.specs.Tables.{column_values, values_at};
 
 use crate::cells::Cells;
+use crate::flat_cells::FlatCells;
 use crate::part::Part;
 use crate::parts::Public;
 use crate::schema_columns::declared_columns;
@@ -21,8 +22,8 @@ use ghost_base::{Kind, Value, cell_width, encode_cell};
 use std::alloc::{AllocError, Global};
 use tree_schema::{Catalog, Column, Schema, catalog_len, catalog_part};
 
-/// The zero bytes after a text.
-const ZEROS: [u8; 255] = [0; 255];
+/// The zero bytes after a text, or of NULL.
+const ZEROS: [u8; 256] = [0; 256];
 
 /// The visible image of a public part under its catalog, byte for byte the host's file.
 pub fn visible_image(alloc: Global, cat: &Catalog, public: &Public) -> Result<Vec<u8>, AllocError>
@@ -188,6 +189,50 @@ fn put_cell(kind: Kind, column: &Cells, place: usize, out: &mut Vec<u8>) -> Resu
     match column {
         Cells::Numbers(numbers) => put_number(kind, numbers[place], out),
         Cells::Texts(texts) => put_text(kind, texts.get(place), out),
+        Cells::Nullable(cells) => put_stored(kind, cells, place, out),
+    }
+}
+
+/// Puts the cell of a stored value at the end, as it stands where it is of this kind.
+#[tactic(auto, using(crate::proofs::KeptValues::as_stored, crate::proofs::KeptValues::value_got))]
+fn put_stored(
+    kind: Kind,
+    stored: &FlatCells,
+    place: usize,
+    out: &mut Vec<u8>,
+) -> Result<(), AllocError>
+    requires { place < length stored.now.values }
+    ensures { OnOk result (out.new.items ≡ out.old.items ++ cells.encode_cell (kind_of kind) (get_or stored.now.values place (Number (pos 0)))) }
+{
+    if stored.is_of(kind) {
+        return out.extend_from_slice(stored.cell(place));
+    }
+    match stored.get(place) {
+        Some(value) => put_value(kind, &value, out),
+        None => Ok(()),
+    }
+}
+
+/// Puts the cell of a value at the end.
+fn put_value(kind: Kind, value: &Value, out: &mut Vec<u8>) -> Result<(), AllocError>
+    ensures { OnOk result (out.new.items ≡ out.old.items ++ cells.encode_cell (kind_of kind) (value_of value.now)) }
+{
+    match value {
+        Value::Null => put_null(kind, out),
+        Value::Int(number) => put_number(kind, *number, out),
+        Value::Chars(text) => put_text(kind, text.as_bytes(), out),
+    }
+}
+
+/// Puts the cell of NULL at the end.
+fn put_null(kind: Kind, out: &mut Vec<u8>) -> Result<(), AllocError>
+    ensures { OnOk result (out.new.items ≡ out.old.items ++ cells.encode_cell (kind_of kind) Null) }
+{
+    match kind {
+        Kind::Integer | Kind::Chars(_) => Ok(()),
+        Kind::IntegerOrNull | Kind::CharsOrNull(_) => {
+            out.extend_from_slice(zeros(cell_width(kind)))
+        }
     }
 }
 
@@ -234,7 +279,7 @@ fn put_padded(width: u8, text: &[u8], out: &mut Vec<u8>) -> Result<(), AllocErro
 
 /// So many zero bytes.
 fn zeros(count: usize) -> &'static [u8]
-    requires { count ≤ 255 }
+    requires { count ≤ 256 }
     ensures { result.now ≡ replicate count 0 }
 {
     &ZEROS[..count]

@@ -1,13 +1,14 @@
 //! Tables from CSV files, column by column.
 //!
-//! A table's rows stand in columns of flat cells: an INTEGER takes 8 bytes a row, a CHAR(n) n bytes, and the identifier,
-//! which is the row's number, nothing. A clause sees a table as the list of its rows, the identifier first, and tables
-//! as the database. `docs/DATA.md` states what a file may hold and which fault is told.
+//! A table's rows stand in columns of flat cells: an INTEGER takes 8 bytes a row, a CHAR(n) n bytes, either one more where NULL
+//! may stand beside it, and the identifier, which is the row's number, nothing. A clause sees a table as the list of its rows,
+//! the identifier first, and tables as the database. `docs/DATA.md` states what a file may hold and which fault is told.
 #![tactic(auto)]
 
 pub mod cells;
 pub mod faults;
 mod fields;
+pub mod flat_cells;
 mod header;
 pub mod image;
 pub mod laws;
@@ -27,6 +28,7 @@ pub mod texts;
 
 pub use cells::Cells;
 pub use faults::{LoadFault, Place};
+pub use flat_cells::FlatCells;
 pub use image::visible_image;
 pub use loading::{read_table, read_tables};
 pub use part::Part;

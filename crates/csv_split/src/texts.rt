@@ -95,7 +95,7 @@ impl Texts {
 }
 
 /// The cell at a place.
-fn cell_in(cells: &[u8], width: usize, place: usize) -> &[u8]
+pub(crate) fn cell_in(cells: &[u8], width: usize, place: usize) -> &[u8]
     requires { place * width + width ≤ length cells.now }
     ensures { result.now ≡ take width (drop (place * width) cells.now) }
 {

@@ -1,10 +1,10 @@
 -- The cells of a hidden column are those of the values at its place among the hidden ones, which are of its kind.
-use Rattle.std.proofs.Common.{◌≡◌, refl, ap, sym, ◌∙◌, subst, ℕ, suc, ◌+◌, ◌<◌, ◌≤◌, true, false, List, [], length, map, get_or, Option, Some, None, slice_get, option_and_then, arith}
+use Rattle.std.proofs.Common.{◌≡◌, refl, ap, sym, ◌∙◌, subst, ℕ, suc, ◌+◌, ◌<◌, ◌≤◌, true, List, [], length, map, get_or, Option, Some, None, slice_get, option_and_then, arith}
 use Rattle.std.specs.Prelude.{IsTrue}
 use Rattle.std.specs.Option.{option_map_or}
 use Rattle.std.proofs.lemmas.Option.{slice_get-get_or}
 use Rattle.std.proofs.lemmas.List.{get_or-map, length-map}
-use Rattle.ghost_model.specs.core.Schema.{Schema, Column, Kind, Integer, Chars, IntegerOrNull, CharsOrNull, column_at, is_nullable, plain_of}
+use Rattle.ghost_model.specs.core.Schema.{Schema, Column, Kind, column_at, plain_of}
 use Rattle.ghost_model.specs.core.Values.{Value, Row, Rows}
 use Rattle.ghost_model.specs.core.Channel.{Catalog}
 use Rattle.ghost_model.specs.laws.SchemaTrees.{IsTree}
@@ -14,7 +14,7 @@ use Rattle.ghost_model.specs.core.Asks.{kind_or_none, kind_at}
 use Rattle.ghost_model.specs.core.Split as split
 use Rattle.ghost_model.specs.core.Split.{Hidden}
 use Rattle.ghost_model.specs.core.Replies.{hidden_places}
-use Rattle.ghost_model.specs.forms.Layout.{is_hidden, width_at}
+use Rattle.ghost_model.specs.forms.Layout.{is_hidden}
 use Rattle.ghost_model.specs.laws.LayoutLaws.{AreNarrow}
 use Rattle.ghost_model.specs.forms.Flash.{hidden_cells, IsHidden}
 use Rattle.ghost_model.specs.laws.FlashLaws.{GoesWith, hidden_before, CellsFit, HiddenValuesByPlace, HiddenValuesOfDatabases, HiddenPartsGoWithCatalogs, HiddenCellsFit}
@@ -34,26 +34,12 @@ pub width_of_kind : (o : Option Column) → cell_width (kind_or_none o) ≡ widt
 width_of_kind None = refl
 width_of_kind (Some column) = refl
 
--- for now no NULL may stand there
-pub is_plain : (schema : Schema) → IsTree schema → (table column : ℕ) → is_hidden schema table column ≡ true → is_nullable (kind_at schema table column) ≡ false
-is_plain schema tree table column h =
+-- without the byte that tells NULL, its cells have at most 64 bytes
+pub plain_cells_fit : (schema : Schema) → HasNarrowCells schema → (table column : ℕ) → is_hidden schema table column ≡ true
+    → cell_width (plain_of (kind_at schema table column)) ≤ 64
+plain_cells_fit schema cells table column h =
     let there = declared (column_at schema table column) h in
-    ap is_nullable (sym there.2) ∙ tree.not_null table column there.0 there.1
-
-plain_width : (kind : Kind) → is_nullable kind ≡ false → cell_width kind ≡ cell_width (plain_of kind)
-plain_width Integer plain = refl
-plain_width (Chars most) plain = refl
-plain_width IntegerOrNull plain = absurd (cc (plain))
-plain_width (CharsOrNull most) plain = absurd (cc (plain))
-
-pub plain_cells_fit : (schema : Schema) → IsTree schema → HasNarrowCells schema → (table column : ℕ) → is_hidden schema table column ≡ true
-    → width_at schema table column ≤ 64
-plain_cells_fit schema tree cells table column h =
-    let there = declared (column_at schema table column) h in
-    let few = cells table column there.0 there.1 in
-    let same = plain_width there.0.kind (tree.not_null table column there.0 there.1) in
-    let width : width_at schema table column ≡ cell_width there.0.kind = ap width_or_none there.1 in
-    omega (arith, few, same, width)
+    subst (λ k. cell_width (plain_of k) ≤ 64) there.2 (cells table column there.0 there.1)
 
 of_rows : (f g : Row → Option Value) (o : Option Row) → ((row : Row) → f row ≡ g row) → option_and_then f o ≡ option_and_then g o
 of_rows f g None same = refl

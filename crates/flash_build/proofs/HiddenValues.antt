@@ -1,15 +1,14 @@
 -- The cells of a hidden column are those of its values as they lie in memory.
-use Rattle.std.proofs.Common.{◌≡◌, refl, ap, sym, ◌∙◌, subst, ℕ, zero, suc, ◌+◌, ◌<◌, ℤ, true, false, List, [], ◌∷◌, length, map, get_or, Some, None, slice_get, arith}
-use Rattle.std.specs.Prelude.{IsTrue}
+use Rattle.std.proofs.Common.{◌≡◌, refl, ap, sym, ◌∙◌, subst, ℕ, zero, suc, ◌+◌, ◌<◌, ℤ, true, List, [], ◌∷◌, length, map, get_or, None, slice_get, arith}
 use Rattle.std.specs.Option.{option_map}
 use Rattle.std.proofs.lemmas.Option.{slice_get_within, slice_get-map, slice_get-get_or}
 use Rattle.std.proofs.lemmas.List.{length-map}
-use Rattle.ghost_model.specs.core.Schema.{Kind, Integer, Chars, IntegerOrNull, CharsOrNull, is_nullable}
+use Rattle.ghost_model.specs.core.Schema.{Kind, Integer, Chars}
 use Rattle.ghost_model.specs.core.Values.{Value, Number, Text, Rows}
 use Rattle.ghost_model.specs.core.Channel.{Catalog}
 use Rattle.ghost_model.specs.laws.SchemaTrees.{IsTree}
-use Rattle.ghost_model.specs.core.Database.{rows_of, is_text, is_of_kind}
-use Rattle.ghost_model.specs.forms.Cells.{cell_width, encode_cell, padded}
+use Rattle.ghost_model.specs.core.Database.{rows_of}
+use Rattle.ghost_model.specs.forms.Cells.{encode_cell, padded}
 use Rattle.ghost_model.specs.core.Asks.{kind_at}
 use Rattle.ghost_model.specs.core.Split.{Hidden}
 use Rattle.ghost_model.specs.forms.Layout.{is_hidden, count_of}
@@ -18,8 +17,8 @@ use Rattle.ghost_model.specs.forms.Flash.{IsHidden, hidden_cells}
 use Rattle.ghost_model.specs.laws.FlashLaws.{hidden_before, CellsFit, HiddenValuesByPlace, HiddenValuesOfDatabases, HiddenPartsGoWithCatalogs, HiddenCellsFit}
 use Rattle.csv_split.specs.Tables.{IsColumn}
 use Rattle.index_lists.specs.Ranks.{number_cell, number_cells}
-use Rattle.flash_build.specs.Cells.{AreOfKind, AreTexts, cell_at, cells_at, value_at}
-use Rattle.flash_build.proofs.HiddenCells.{cell_if_any, is_plain, of_kind, same_cells, cell_of_row, part_fits}
+use Rattle.flash_build.specs.Cells.{AreHeld, AreOfKind, AreTexts, cell_at, cells_at, value_at}
+use Rattle.flash_build.proofs.HiddenCells.{cell_if_any, of_kind, same_cells, cell_of_row, part_fits}
 
 same_by_place : (xs ys : List (List ℕ)) → length xs ≡ length ys → ((k : ℕ) → k < length xs → get_or xs k [] ≡ get_or ys k []) → xs ≡ ys
 same_by_place [] [] size h = refl
@@ -48,9 +47,8 @@ cells_of_values kind place rows values stand =
 -- values are those of a hidden column, of its kind
 pub record AreValuesOf (cat : Catalog) (hidden : Hidden) (table column : ℕ) (values : List Value) : Type 0 where
   pub cells : map (encode_cell (kind_at cat.schema table column)) values ≡ hidden_cells cat.schema hidden table column
-  pub kinds : (k : ℕ) (v : Value) → slice_get values k ≡ Some v → IsTrue (is_of_kind (kind_at cat.schema table column) v)
+  pub kinds : AreHeld (kind_at cat.schema table column) values
   pub long : length values ≡ count_of cat table
-  pub plain : is_nullable (kind_at cat.schema table column) ≡ false
 
 module _ (cat : Catalog) (hidden : Hidden) (tree : IsTree cat.schema) (narrow : AreNarrow cat) (by_place : HiddenValuesByPlace) (of_databases : HiddenValuesOfDatabases)
     (parts : HiddenPartsGoWithCatalogs) (fits : HiddenCellsFit) (part : IsHidden cat hidden) (table column : ℕ) (h : is_hidden cat.schema table column ≡ true) where
@@ -74,7 +72,6 @@ module _ (cat : Catalog) (hidden : Hidden) (tree : IsTree cat.schema) (narrow : 
             let within : k < length rows = (let low = slice_get_within values k v found in omega (arith, low, at.long)) in
             are.each (k + 1) v (sym (at.placed k within) ∙ found);
         long = sym (length-map values (encode_cell kind)) ∙ (ap length cells ∙ fit.count table column h);
-        plain = is_plain cat.schema tree table column h;
       }
 
   -- a column that is nowhere has no cells
@@ -96,45 +93,13 @@ module _ (cat : Catalog) (hidden : Hidden) (tree : IsTree cat.schema) (narrow : 
       no_cells (c ∷ cs) never = absurd (never (omega arith))
 
 -- integers, and texts
-numbers_of_kind : (kind : Kind) → is_nullable kind ≡ false → (numbers : List ℤ) → ((k : ℕ) (v : Value) → slice_get (map Number numbers) k ≡ Some v → IsTrue (is_of_kind kind v))
-    → map (encode_cell kind) (map Number numbers) ≡ number_cells numbers
-numbers_of_kind kind plain [] are = refl
-numbers_of_kind Integer plain (n ∷ ns) are =
-    let later = numbers_of_kind Integer plain ns (λ k v h. are (suc k) v h) in
-    λ i. number_cell n ∷ later i
-numbers_of_kind (Chars most) plain (n ∷ ns) are = let bad = are 0 (Number n) refl in absurd (cc (bad))
-numbers_of_kind IntegerOrNull plain (n ∷ ns) are = absurd (cc (plain))
-numbers_of_kind (CharsOrNull most) plain (n ∷ ns) are = absurd (cc (plain))
+pub numbers_are : (numbers : List ℤ) → number_cells numbers ≡ map (encode_cell Integer) (map Number numbers)
+numbers_are [] = refl
+numbers_are (n ∷ ns) = ap (λ later. number_cell n ∷ later) (numbers_are ns)
 
-texts_of_kind : (kind : Kind) → is_nullable kind ≡ false → (width : ℕ) → width ≡ cell_width kind → (texts : List (List ℕ)) → ((k : ℕ) (v : Value) → slice_get (map Text texts) k ≡ Some v → IsTrue (is_of_kind kind v))
-    → map (encode_cell kind) (map Text texts) ≡ map (padded width) texts
-texts_of_kind kind plain width is [] are = refl
-texts_of_kind Integer plain width is (t ∷ ts) are = let bad = are 0 (Text t) refl in absurd (cc (bad))
-texts_of_kind IntegerOrNull plain width is (t ∷ ts) are = absurd (cc (plain))
-texts_of_kind (CharsOrNull most) plain width is (t ∷ ts) are = absurd (cc (plain))
-texts_of_kind (Chars most) plain width is (t ∷ ts) are =
-    let here = ap (λ w. padded w t) (sym is) in
-    let later = texts_of_kind (Chars most) plain width is ts (λ k v h. are (suc k) v h) in
-    λ i. here i ∷ later i
+pub texts_are : (width : ℕ) (texts : List (List ℕ)) → map (padded width) texts ≡ map (encode_cell (Chars width)) (map Text texts)
+texts_are width [] = refl
+texts_are width (t ∷ ts) = ap (λ later. padded width t ∷ later) (texts_are width ts)
 
-texts_fit : (kind : Kind) → is_nullable kind ≡ false → (width : ℕ) → width ≡ cell_width kind → (texts : List (List ℕ)) → ((k : ℕ) (v : Value) → slice_get (map Text texts) k ≡ Some v → IsTrue (is_of_kind kind v))
-    → AreTexts width texts
-texts_fit kind plain width is texts are place text at =
-    is_fit kind plain width is text (are place (Text text) (slice_get-map Text texts place ∙ ap (option_map Text) at))
-  where
-    is_fit : (kind : Kind) → is_nullable kind ≡ false → (width : ℕ) → width ≡ cell_width kind → (text : List ℕ) → IsTrue (is_of_kind kind (Text text)) → IsTrue (is_text width text)
-    is_fit Integer plain width is text h = absurd (cc (h))
-    is_fit IntegerOrNull plain width is text h = absurd (cc (plain))
-    is_fit (CharsOrNull most) plain width is text h = absurd (cc (plain))
-    is_fit (Chars most) plain width is text h = subst (λ w. IsTrue (is_text w text)) (sym is) h
-
-module _ (cat : Catalog) (hidden : Hidden) (table column : ℕ) where
-  pub numbers_are : (numbers : List ℤ) → AreValuesOf cat hidden table column (map Number numbers) → number_cells numbers ≡ hidden_cells cat.schema hidden table column
-  numbers_are numbers are = sym (numbers_of_kind (kind_at cat.schema table column) are.plain numbers are.kinds) ∙ are.cells
-
-  pub texts_are : (width : ℕ) → width ≡ cell_width (kind_at cat.schema table column) → (texts : List (List ℕ)) → AreValuesOf cat hidden table column (map Text texts)
-      → map (padded width) texts ≡ hidden_cells cat.schema hidden table column
-  texts_are width is texts are = sym (texts_of_kind (kind_at cat.schema table column) are.plain width is texts are.kinds) ∙ are.cells
-
-  pub all_fit : (width : ℕ) → width ≡ cell_width (kind_at cat.schema table column) → (texts : List (List ℕ)) → AreValuesOf cat hidden table column (map Text texts) → AreTexts width texts
-  all_fit width is texts are = texts_fit (kind_at cat.schema table column) are.plain width is texts are.kinds
+pub all_fit : (width : ℕ) (texts : List (List ℕ)) → AreHeld (Chars width) (map Text texts) → AreTexts width texts
+all_fit width texts held place text at = held place (Text text) (slice_get-map Text texts place ∙ ap (option_map Text) at)

@@ -1,10 +1,10 @@
 -- The foreign keys of a table in memory are those of the database.
-use Rattle.std.proofs.Common.{◌≡◌, refl, ap, sym, ◌∙◌, subst, ℕ, zero, suc, ◌+◌, ◌<◌, ℤ, pos, negsuc, true, not, inl, inr, List, [], ◌∷◌, length, map, get_or, slice_index_or, Option, Some, None, slice_get, option_and_then, arith}
+use Rattle.std.proofs.Common.{◌≡◌, refl, ap, sym, ◌∙◌, subst, ℕ, zero, suc, ◌+◌, ◌<◌, ◌≤◌, ℤ, pos, negsuc, true, not, inl, inr, List, [], ◌∷◌, ◌++◌, append_assoc, length, map, take, get_or, slice_index_or, Option, Some, None, slice_get, option_and_then, arith}
 use Rattle.std.specs.Prelude.{IsTrue, IfSome, IfNone}
 use Rattle.std.specs.Option.{option_map}
 use Rattle.std.proofs.lemmas.Bool.{cases_lt}
 use Rattle.std.proofs.lemmas.Option.{slice_get-get_or, slice_get-map}
-use Rattle.std.proofs.lemmas.List.{length-map, get_or-map}
+use Rattle.std.proofs.lemmas.List.{length-map, get_or-map, take_all}
 use Rattle.ghost_model.specs.core.Schema.{Schema, Table, Column, columns_of, columns_or_none, column_at, first_of, references_to, is_table, is_empty, parent}
 use Rattle.ghost_model.specs.core.Values.{Value, Null, Number, Text, Row, Database}
 use Rattle.ghost_model.specs.core.Channel.{Catalog}
@@ -25,7 +25,7 @@ use Rattle.csv_split.specs.declared.cells.Cells.TheVariants as cells
 use Rattle.csv_split.specs.Cells.{values_in}
 use Rattle.csv_split.specs.Tables.{IsColumn, value_in}
 use Rattle.index_lists.specs.Ranks.{identifier_of}
-use Rattle.flash_build.specs.Cells.{ReadAsNumbers}
+use Rattle.flash_build.specs.Cells.{ReadAsNumbers, numbers_among}
 use Rattle.flash_build.specs.Levels.{AreKeys}
 
 -- a column that is a foreign key is declared, and so hidden
@@ -50,6 +50,41 @@ key_column schema tree table child column (Some held) there h =
       child_of = child_of;
       hidden = ap hidden_or_none declared ∙ tree.references_are_hidden table column child told.1 declared child_of;
     }
+
+-- values each of which is an integer
+all_numbers : (values : List Value) → ((p : ℕ) → p < length values → (n : ℤ) × (slice_get values p ≡ Some (Number n))) → map Number (numbers_among values) ≡ values
+all_numbers [] are = refl
+all_numbers (Null ∷ values) are = let first = are 0 (omega arith) in absurd (cc (first.1))
+all_numbers (Text text ∷ values) are = let first = are 0 (omega arith) in absurd (cc (first.1))
+all_numbers (Number n ∷ values) are = ap (λ later. Number n ∷ later) (all_numbers values (λ p low. are (suc p) (omega (arith, low))))
+
+among_more : (xs ys : List Value) → numbers_among (xs ++ ys) ≡ numbers_among xs ++ numbers_among ys
+among_more [] ys = refl
+among_more (Null ∷ xs) ys = among_more xs ys
+among_more (Number n ∷ xs) ys = ap (λ later. n ∷ later) (among_more xs ys)
+among_more (Text text ∷ xs) ys = among_more xs ys
+
+-- the integers among the values before a place are put
+abbrev pub ArePutSoFar : (values : List Value) (before : List ℤ) (place : ℕ) → (out : List ℤ) → Type 0
+ArePutSoFar values before place out = out ≡ before ++ numbers_among (take place values)
+
+next_taken : (values : List Value) (place : ℕ) (value : Value) → slice_get values place ≡ Some value → take (place + 1) values ≡ take place values ++ value ∷ []
+next_taken [] place value at = absurd (cc (at))
+next_taken (v ∷ vs) zero value at = let e : v ≡ value = cc (at) in ap (λ v. v ∷ []) e
+next_taken (v ∷ vs) (suc place) value at =
+    let e : suc place + 1 ≡ suc (place + 1) = omega arith in
+    ap (λ n. take n (v ∷ vs)) e ∙ ap (λ later. v ∷ later) (next_taken vs place value at)
+
+pub one_put : (values : List Value) (before : List ℤ) (place : ℕ) (out more : List ℤ) (value : Value) → ArePutSoFar values before place out
+    → slice_get values place ≡ Some value → more ≡ out ++ numbers_among (value ∷ []) → ArePutSoFar values before (place + 1) more
+one_put values before place out more value so_far at grown =
+    grown ∙ ap (λ front. front ++ numbers_among (value ∷ [])) so_far
+    ∙ append_assoc before (numbers_among (take place values)) (numbers_among (value ∷ []))
+    ∙ ap (λ later. before ++ later) (sym (ap numbers_among (next_taken values place value at) ∙ among_more (take place values) (value ∷ [])))
+
+pub all_put : (values : List Value) (before : List ℤ) (place : ℕ) (out : List ℤ) → ArePutSoFar values before place out → length values ≤ place
+    → out ≡ before ++ numbers_among values
+all_put values before place out so_far past = so_far ∙ ap (λ vs. before ++ numbers_among vs) (take_all place values past)
 
 number_among : (count : ℕ) (v : Value) → is_row_among count v ≡ true → (m : ℕ) × (v ≡ Number (pos m))
 number_among count Null h = absurd (cc (h))
@@ -184,6 +219,15 @@ module _ (cat : Catalog) (hidden : Hidden) (tree : IsTree cat.schema) (by_place 
       no_number [] p n h = cc (h)
       no_number (x ∷ xs) zero n h = cc (h)
       no_number (x ∷ xs) (suc p) n h = no_number xs p n h
+  keys_are part table child column key size (Some (cells.Nullable stored)) keys read held none =
+      let all : map Number (numbers_among stored.values) ≡ stored.values =
+      all_numbers stored.values (λ p low.
+      let within : p < count_of cat table = omega (arith, low, held.long, size) in
+      let k = key_at part table child column key p within in
+      (pos k.to, held.placed p (omega (arith, within, size)) ∙ k.stands)) in
+      let rows = rows_of hidden.hidden table in
+      subst (AreKeys cat hidden table child) (sym read)
+      (numbers_are part table child column key (numbers_among stored.values) (subst (IsColumn rows (hidden_before cat.schema table column)) (sym all) held) size)
 
 -- the table above has a foreign key to the one below
 pub reference_there : (schema : Schema) (table child : ℕ) → parent schema child ≡ Some table → (column : ℕ) × (reference_column schema table child ≡ Some column)

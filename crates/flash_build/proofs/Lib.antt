@@ -10,6 +10,7 @@ pub mod SealSteps
 pub mod Entries
 pub mod TextOrder
 pub mod HiddenValues
+pub mod KindValues
 pub mod IndexPlaces
 pub mod IdEntries
 pub mod ValueEntries

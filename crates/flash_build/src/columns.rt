@@ -1,17 +1,24 @@
 //! The column files of a table.
 
-ghost use Rattle.std.specs.Prelude.{◌≡◌, ◌<◌, ◌+◌, ℕ, true, [], length, get_or, OnOk};
+ghost use Rattle.std.specs.Prelude.{◌≡◌, ◌<◌, ◌≤◌, ◌+◌, ◌^◌, ℕ, true, [], length, map, get_or, OnOk};
+ghost use Rattle.ghost_model.specs.core.Asks.{kind_at};
+ghost use Rattle.ghost_model.specs.core.Schema.{plain_of};
+ghost use Rattle.ghost_model.specs.forms.Cells as cells;
 ghost use Rattle.ghost_model.specs.forms.Flash.{hidden_cells, IsHidden};
 ghost use Rattle.ghost_model.specs.laws.ShortWords as short;
 ghost use Rattle.ghost_model.specs.forms.Layout as layout;
 ghost use Rattle.ghost_model.specs.laws.LayoutSums as sums;
 ghost use Rattle.ghost_model.specs.forms.Runs.{Stores};
 ghost use Rattle.flash_pages.specs.Filling.{CanFill};
+ghost use Rattle.ghost_base.specs.Views.{kind_of};
+ghost use Rattle.csv_split.specs.Cells.{values_in};
+ghost use Rattle.flash_build.specs.Cells.{AreHeld};
 ghost use Rattle.flash_build.specs.Sources.{cells_of};
 ghost use Rattle.flash_build.specs.Building.{Wrote};
 
 use crate::faults::BuildFault;
 use crate::keys::hidden_before;
+use crate::kinds::KindCells;
 use crate::places::{columns, layout_laws};
 use crate::source::ColumnCells;
 use crate::texts::TextCells;
@@ -19,7 +26,33 @@ use crate::writing::write_records;
 use csv_split::{Cells, Hidden};
 use edge_traits::flash::Flash;
 use flash_layout::Layout;
+use ghost_base::Kind;
 use index_lists::Numbers;
+
+/// The kind of a hidden column.
+fn kind_of_column(laid: &Layout<'_>, table: usize, column: usize) -> Kind
+    ensures kind { kind_of result ≡ kind_at laid.now.schema table column }
+{
+    laid.kind(table, column).unwrap_or(Kind::Chars(0))
+}
+
+/// The cells of values that are of a kind.
+fn cells_of_kind<'v>(values: &'v Cells, kind: Kind) -> ColumnCells<'v>
+    requires some { 0 < cells.cell_width (kind_of kind) }
+    requires narrow { cells.cell_width (plain_of (kind_of kind)) ≤ 64 }
+    requires held { AreHeld (kind_of kind) (values_in values.now) }
+    requires few { length (values_in values.now) < 2 ^ 32 }
+    ensures cells { cells_of result ≡ map (cells.encode_cell (kind_of kind)) (values_in values.now) }
+{
+    match (kind, values) {
+        (Kind::Integer, Cells::Numbers(numbers)) => ColumnCells::Numbers(Numbers { numbers }),
+        (Kind::Chars(most), Cells::Texts(texts)) => ColumnCells::Texts(TextCells {
+            texts,
+            width: u32::from(most),
+        }),
+        _ => ColumnCells::Kinds(KindCells { values, kind }),
+    }
+}
 
 /// The cells of a hidden column, as they lie in memory.
 pub(crate) fn column_cells<'h>(
@@ -39,11 +72,10 @@ pub(crate) fn column_cells<'h>(
     ghost_model::flash::hidden_cells_fit();
     ghost_model::flash::hidden_values_by_place();
     ghost_model::flash::hidden_values_of_databases();
-    let width = laid.width(table, column);
+    let kind = kind_of_column(laid, table, column);
     match hidden.column(table, hidden_before(laid, table, column)) {
         None => ColumnCells::Numbers(Numbers { numbers: &[] }),
-        Some(Cells::Numbers(numbers)) => ColumnCells::Numbers(Numbers { numbers }),
-        Some(Cells::Texts(texts)) => ColumnCells::Texts(TextCells { texts, width }),
+        Some(values) => cells_of_kind(values, kind),
     }
 }
 

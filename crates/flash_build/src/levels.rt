@@ -35,7 +35,9 @@ fn taken_up(
 {
     layout_laws(laid);
     levels_compose();
-    ranks_above(alloc, reached, keys_of(laid, hidden, from, below))
+    let mut room = Vec::new(alloc);
+    let keys = keys_of(laid, hidden, from, below, &mut room)?;
+    ranks_above(alloc, reached, keys)
 }
 
 /// So many numbers from one on, ascending.

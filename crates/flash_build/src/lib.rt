@@ -15,6 +15,7 @@ mod gates;
 mod id_indexes;
 mod indexes;
 mod keys;
+mod kinds;
 mod levels;
 pub mod loading;
 mod number_rows;

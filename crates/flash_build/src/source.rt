@@ -4,6 +4,7 @@ ghost use Rattle.std.specs.Prelude.{◌≡◌, ◌<◌, List, ℕ, [], length, g
 ghost use Rattle.index_lists.specs.Ranks.{number_cells};
 ghost use Rattle.flash_build.specs.Sources.{cells_of};
 
+use crate::kinds::KindCells;
 use crate::texts::TextCells;
 use flash_pages::filling::Records;
 use ghost_base::{Kind, Value, encode_cell};
@@ -16,6 +17,8 @@ pub(crate) enum ColumnCells<'h> {
     Numbers(Numbers<'h>),
     /// Those of a CHAR column.
     Texts(TextCells<'h>),
+    /// Those of a column that may be NULL.
+    Kinds(KindCells<'h>),
 }
 
 impl<'h> Records for ColumnCells<'h> {
@@ -25,6 +28,7 @@ impl<'h> Records for ColumnCells<'h> {
         match self {
             ColumnCells::Numbers(column) => column.rows(),
             ColumnCells::Texts(column) => column.count(),
+            ColumnCells::Kinds(column) => column.count(),
         }
     }
 
@@ -32,6 +36,7 @@ impl<'h> Records for ColumnCells<'h> {
         match self {
             ColumnCells::Numbers(column) => number_in(column.numbers, i, room),
             ColumnCells::Texts(column) => column.record(i, room),
+            ColumnCells::Kinds(column) => column.record(i, room),
         }
     }
 }

@@ -2,4 +2,4 @@ use Rattle.csv_split.proofs.ImageCells.{zeros}
 use Rattle.csv_split.proofs.image.zeros.Goals as goal
 
 pub returns : goal.returns
-returns c = zeros c.args.count 255 c.requires
+returns c = zeros c.args.count 256 c.requires

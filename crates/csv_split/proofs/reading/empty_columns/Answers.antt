@@ -1,14 +1,10 @@
-use Rattle.csv_split.proofs.ReadRows.{narrow_there, plain_there, one_made}
+use Rattle.csv_split.proofs.ReadRows.{narrow_there, one_made}
 use Rattle.csv_split.proofs.reading.empty_columns.Goals as goal
 
 pub new-requires : goal.new-requires
-new-requires c =
-    let declared = c.args.declared.now in
-    let i = c.loop-column.column-index in
-    record {
-      narrow = narrow_there declared i c.column-item.result c.requires c.loop-column-test.true c.column-item.is;
-      plain = plain_there declared i c.column-item.result c.requires c.loop-column-test.true c.column-item.is;
-    }
+new-requires c = record {
+  narrow = narrow_there c.args.declared.now c.loop-column.column-index c.column-item.result c.requires c.loop-column-test.true c.column-item.is;
+}
 
 pub loop-column-preserved : goal.loop-column-preserved
 loop-column-preserved c =

@@ -10,7 +10,7 @@ returns-clause-led c =
     if_ok c.ranks_above.result
     (λ above same table under was.
     subst (λ (xs : List ℕ). LeadAs c.args.laid.now c.args.hidden.now c.args.from table xs) (sym same)
-    (leading.lead_up c.args.laid.now c.args.hidden.now c.args.from c.args.below c.keys_of.result.now c.keys_of.ensures.keys
+    (leading.lead_up c.args.laid.now c.args.hidden.now c.args.from c.args.below c.in_ok-keys.keys.now c.in_ok-keys.ensures.keys
     c.layout_laws.ensures.layout.tree c.requires.part c.requires.above table under c.args.reached.now was))
     c.ranks_above.ensures.ranks
 
@@ -19,6 +19,6 @@ returns-clause-ranked c =
     if_ok c.ranks_above.result
     (λ above same table own under was.
     subst (λ (xs : List ℕ). RankedAbove c.args.laid.now c.args.hidden.now table own c.args.from xs) (sym same)
-    (leading.ranks_up c.args.laid.now c.args.hidden.now c.args.from c.args.below c.keys_of.result.now c.keys_of.ensures.keys
+    (leading.ranks_up c.args.laid.now c.args.hidden.now c.args.from c.args.below c.in_ok-keys.keys.now c.in_ok-keys.ensures.keys
     c.levels_compose.ensures c.layout_laws.ensures.layout.tree c.requires.part c.requires.above table under own c.args.reached.now was))
     c.ranks_above.ensures.ranks
