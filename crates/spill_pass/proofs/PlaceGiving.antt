@@ -1,6 +1,6 @@
 -- The list that a place gives, by right pages.
 use Rattle.std.proofs.Common.{◌≡◌, ◌∙◌, ℕ, ◌+◌, ◌^◌, ◌<◌, ◌++◌, List, [], ◌∷◌, length, get_or, ap, sym, refl, subst, arith}
-use Rattle.std.specs.Prelude.{Option, Some, None, Result, Ok, Err, IfOk, IfSome, MatchOption}
+use Rattle.std.specs.Prelude.{Option, Some, None, Result, Ok, Err, IfOk, IfSome, MatchOption, OnErr}
 use Rattle.std.proofs.lemmas.Nat.{from_be_bytes-to_be_bytes_4}
 use Rattle.ghost_model.specs.forms.Runs.{number_in, number_cell}
 use Rattle.ghost_base.specs.declared.runs.Run.{Run}
@@ -85,17 +85,27 @@ ended page now right rows before new lists same end has =
     let P : PlaceReader → Type 0 = λ r. ReaderHas now right rows r [] in
     subst P (sym same) (record { places_width = has.places_width; lists_width = has.lists_width; has = end })
 
+-- after a fault nothing changed
+unchanged :
+    (page now right : ℕ → List ℕ) (rows : ℕ) (before new : PlaceReader) (lists : List (List ℕ)) → now ≡ page → new ≡ before
+    → ReaderHas page right rows before lists → ReaderHas now right rows new lists
+unchanged page now right rows before new lists pages same has =
+    let P : (ℕ → List ℕ) → Type 0 = λ p. ReaderHas p right rows new lists in
+    let Q : PlaceReader → Type 0 = λ r. ReaderHas page right rows r lists in
+    subst P (sym pages) (subst Q (sym same) has)
+
 pub gives_list :
     (page now right : ℕ → List ℕ) (rows : ℕ) (before new : PlaceReader) (lists : List (List ℕ)) (result : Result (Option ListRef) PageFault)
     → now ≡ page → GivesPlace page before result
     → IfOk result (λ list. MatchOption list ((before.at ≡ before.places.count) × (new ≡ before)) (IsNextList before new))
-    → SamePlaces before new → before.lists.count < 2 ^ 32 → ReaderHas page right rows before lists
+    → OnErr result (new ≡ before) → SamePlaces before new → before.lists.count < 2 ^ 32 → ReaderHas page right rows before lists
     → GivesLists (ReaderHas now right rows new) now right rows lists result
-gives_list page now right rows before new lists (Ok None) pages gives step same small has =
+gives_list page now right rows before new lists (Ok None) pages gives step fault same small has =
     (none_left page right rows before lists step.0 has, ended page now right rows before new lists step.1 step.0 has)
-gives_list page now right rows before new lists (Ok (Some list)) pages gives step same small has =
+gives_list page now right rows before new lists (Ok (Some list)) pages gives step fault same small has =
     gives_first page now right rows before new list lists pages small gives step same has
-gives_list page now right rows before new lists (Err fault) pages gives step same small has = tt
+gives_list page now right rows before new lists (Err e) pages gives step fault same small has =
+    unchanged page now right rows before new lists pages fault has
 
 -- it lies in the run of the lists
 pub gives_inside :

@@ -80,7 +80,9 @@ placed_gives page now right rows before new lists (Ok (Some list)) pages same ha
       ids = gives.ids;
       has_rest = record { has = gives.has_rest; above = all.above; within = all.within };
     }
-placed_gives page now right rows before new lists (Err fault) pages same has gives = tt
+placed_gives page now right rows before new lists (Err fault) pages same has gives =
+    let all = sure_on page now rows before.lists new.lists pages same (sure_of has) in
+    record { has = gives; above = all.above; within = all.within }
 
 -- they stay on other pages that are the same where they are used
 pub placed_still :

@@ -60,27 +60,25 @@ place_blamed {page = page} {before = before} {rows = rows} since now reader (Err
 -- what is in order still is after a list was given
 reads_more :
     (page now : ℕ → List ℕ) (rows : ℕ) (before new : PlaceReader) (ids : List (List ℕ)) (result : Result (Option ListRef) PageFault) → now ≡ page
-    → OnErr result (new ≡ before) → PlacedHas page page rows before ids
     → GivesLists (PlacedHas now page rows new) now page rows ids result → ReadsInOrder now rows new
-reads_more page now rows before new ids (Ok None) pages fault has gives =
+reads_more page now rows before new ids (Ok None) pages gives =
     let P : (ℕ → List ℕ) → Type 0 = λ right. PlacedHas now right rows new [] in
     record { ids = []; has = subst P (sym pages) gives.1 }
-reads_more page now rows before new ids (Ok (Some list)) pages fault has gives =
+reads_more page now rows before new ids (Ok (Some list)) pages gives =
     let P : (ℕ → List ℕ) → Type 0 = λ right. PlacedHas now right rows new gives.rest in
     record { ids = gives.rest; has = subst P (sym pages) gives.has_rest }
-reads_more page now rows before new ids (Err e) pages fault has gives =
-    let P : (ℕ → List ℕ) → Type 0 = λ p. PlacedHas p p rows new ids in
-    let Q : PlaceReader → Type 0 = λ r. PlacedHas page page rows r ids in
-    record { ids = ids; has = subst P (sym pages) (subst Q (sym fault) has) }
+reads_more page now rows before new ids (Err fault) pages gives =
+    let P : (ℕ → List ℕ) → Type 0 = λ right. PlacedHas now right rows new ids in
+    record { ids = ids; has = subst P (sym pages) gives }
 
 all_gives :
     (page now : ℕ → List ℕ) (rows : ℕ) (before new : PlaceReader) (ids : List (List ℕ)) (result : Result (Option ListRef) PageFault) → now ≡ page
     → GivesPlace page before result → IfOk result (λ list. MatchOption list ((before.at ≡ before.places.count) × (new ≡ before)) (IsNextList before new))
-    → SamePlaces before new → before.lists.count < 2 ^ 32 → PlacedHas page page rows before ids
+    → OnErr result (new ≡ before) → SamePlaces before new → before.lists.count < 2 ^ 32 → PlacedHas page page rows before ids
     → GivesLists (PlacedHas now page rows new) now page rows ids result
-all_gives page now rows before new ids result pages gives step same small has =
+all_gives page now rows before new ids result pages gives step fault same small has =
     placed_gives page now page rows before new ids result pages same.lists has
-    (gives_list page now page rows before new ids result pages gives step same small has.has)
+    (gives_list page now page rows before new ids result pages gives step fault same small has.has)
 
 ordered_answer :
     {has : List (List ℕ) → Type 0} (page now : ℕ → List ℕ) (rows : ℕ) (ids : List (List ℕ)) (list : ListRef) → now ≡ page
@@ -93,9 +91,10 @@ answer_known :
     {told : Bool} {pool : Pool} (page now : ℕ → List ℕ) (since : Since) (device : Device) (rows : ℕ) (before new : PlaceReader) (result : Result (Option ListRef) PageFault)
     → now ≡ page → device.page ≡ page → since.told ≡ told → (told ≡ true → GivesPlace page before result)
     → IfOk result (λ list. MatchOption list ((before.at ≡ before.places.count) × (new ≡ before)) (IsNextList before new))
-    → SamePlaces before new → before.lists.count < 2 ^ 32 → ReaderGiven since device pool rows before → KnowsAnswer since now rows result
-answer_known page now since device rows before new (Ok None) pages same_page same gives step places small given = tt
-answer_known page now since device rows before new (Ok (Some list)) pages same_page same gives step places small given =
+    → OnErr result (new ≡ before) → SamePlaces before new → before.lists.count < 2 ^ 32
+    → ReaderGiven since device pool rows before → KnowsAnswer since now rows result
+answer_known page now since device rows before new (Ok None) pages same_page same gives step fault places small given = tt
+answer_known page now since device rows before new (Ok (Some list)) pages same_page same gives step fault places small given =
     let R : Run → Type 0 = λ r. MayBlame since (run_of r) (IsOrdered now now rows list) in
     let O : (ℕ → List ℕ) → Type 0 = λ p. ReadsInOrder p rows before in
     subst R (sym step.run)
@@ -103,9 +102,9 @@ answer_known page now since device rows before new (Ok (Some list)) pages same_p
     (λ tells order.
     let was = subst O same_page order in
     ordered_answer page now rows was.ids list pages
-    (all_gives page now rows before new was.ids (Ok (Some list)) pages (gives (sym same ∙ tells)) step places small was.has))
+    (all_gives page now rows before new was.ids (Ok (Some list)) pages (gives (sym same ∙ tells)) step fault places small was.has))
     given.lists)
-answer_known page now since device rows before new (Err fault) pages same_page same gives step places small given = tt
+answer_known page now since device rows before new (Err e) pages same_page same gives step fault places small given = tt
 
 -- what `next` leaves
 pub reader_known :
@@ -118,8 +117,8 @@ pub reader_known :
 reader_known {before = before} {now = now} {later = later} since rows old new result pages from gives step fault same small read given =
     let order : since.told ≡ true → ReadsInOrder before.page rows old → ReadsInOrder now.page rows new =
     λ tells order.
-    reads_more before.page now.page rows old new order.ids result pages fault order.has
-    (all_gives before.page now.page rows old new order.ids result pages (gives (sym from.tells ∙ tells)) step same small order.has) in
+    reads_more before.page now.page rows old new order.ids result pages
+    (all_gives before.page now.page rows old new order.ids result pages (gives (sym from.tells ∙ tells)) step fault same small order.has) in
     let L : ℕ → Type 0 = λ lease. WasGiven since.calls now later lease in
     let R : Run → Type 0 = λ r. MayBlame since (run_of r) (ReadsInOrder now.page rows new) in
     record {
@@ -128,7 +127,7 @@ reader_known {before = before} {now = now} {later = later} since rows old new re
         places = subst R (sym same.places) (may_then order given.places);
         lists = subst R (sym same.lists) (may_then order given.lists);
       };
-      list = answer_known before.page now.page since before rows old new result pages refl from.tells gives step same small given;
+      list = answer_known before.page now.page since before rows old new result pages refl from.tells gives step fault same small given;
     }
 
 -- where the pages that it uses are as they were, they have the same identifiers

@@ -1,5 +1,5 @@
 -- What gives lists one after another: which pages it uses, how much is still to come, and what the lists have.
-use Rattle.std.specs.Prelude.{◌≡◌, ℕ, ◌+◌, ◌*◌, ◌<◌, ◌≤◌, ◌⊎◌, Bool, true, false, ⊤, List, [], ◌∷◌, length, get_or, Option, Some, None, Result, Ok, Err, OnOk}
+use Rattle.std.specs.Prelude.{◌≡◌, ℕ, ◌+◌, ◌*◌, ◌<◌, ◌≤◌, ◌⊎◌, Bool, true, false, ⊤, List, [], ◌∷◌, length, get_or, Option, Some, None, Result, Ok, Err, OnErr, OnOk}
 use Rattle.ghost_model.specs.core.Causes.{Rose}
 use Rattle.ghost_model.specs.forms.Runs as runs
 use Rattle.ghost_base.specs.declared.runs.Run.{Run}
@@ -64,7 +64,7 @@ GaveNext device old new None = old.lists_left ≡ 0
 GaveNext device old new (Some list) = GaveList device old new list
 
 -- what a call does, whatever the answer: it makes at most three calls of the flash and writes no page. At the end of the lists it
--- makes none; otherwise it makes at least one exactly where that was told before
+-- makes none; otherwise it makes at least one exactly where that was told before. After a fault all lists are still to come.
 pub record LooksUp {T : Type 0} (before now : Device) (pool later : Pool) (lease : ℕ) (calls : Bool) (old new : Source) (result : Result T PageFault) : Type 0 where
   pub kept : KeepsPages before now
   pub at_most : MadeAtMost 3 before now
@@ -76,6 +76,7 @@ pub record LooksUp {T : Type 0} (before now : Device) (pool later : Pool) (lease
   pub out : IsOut later lease
   pub given : (since : ℕ) → since ≤ before.calls → WasGiven since before pool lease → WasGiven since now later lease
   pub same : SameSource old new
+  pub stays : OnErr result (new ≡ old)
 
 -- the list has the first identifiers, by right pages, and the others are still to come
 pub record GivesFirst (has : List (List ℕ) → Type 0) (page right : ℕ → List ℕ) (rows : ℕ) (lists : List (List ℕ)) (list : ListRef) : Type 0 where
@@ -87,10 +88,11 @@ pub record GivesFirst (has : List (List ℕ) → Type 0) (page right : ℕ → L
   pub ids : (i : ℕ) → i < list.count → id_of right list i ≡ get_or first i 0
   pub has_rest : has rest
 
+-- the first list is given, or there is none; after a fault the lists to come are those that there were
 abbrev pub GivesLists : (has : List (List ℕ) → Type 0) → (page right : ℕ → List ℕ) (rows : ℕ) (lists : List (List ℕ)) → Result (Option ListRef) PageFault → Type 0
 GivesLists has page right rows lists (Ok None) = (lists ≡ []) × has []
 GivesLists has page right rows lists (Ok (Some list)) = GivesFirst has page right rows lists list
-GivesLists has page right rows lists (Err fault) = ⊤
+GivesLists has page right rows lists (Err fault) = has lists
 
 -- a slot that is blamed is one of those of the source
 abbrev pub BlamesSource : (blamed : ℕ → ℕ → ℕ → Type 0) → {T : Type 0} → Result T PageFault → Type 0
