@@ -1,18 +1,21 @@
 -- A table about which there is a reply is one that is asked for.
-use Rattle.std.proofs.Common.{◌≡◌, ◌∙◌, ℕ, zero, suc, ◌+◌, ◌<◌, inl, inr, Bool, true, false, not, ◌&&◌, ◌||◌, nat_eq, nat_lt, List, [], ◌∷◌, ◌++◌, length, slice_get, map, filter, flat_map, Option, Some, None, is_some, if◌then◌else◌, sym, subst, refl, ap, ap₂, arith}
+use Rattle.std.proofs.Common.{◌≡◌, ◌⊎◌, ◌∙◌, ℕ, zero, suc, ◌+◌, ◌<◌, inl, inr, Bool, true, false, not, ◌&&◌, ◌||◌, nat_eq, nat_lt, List, [], ◌∷◌, ◌++◌, length, slice_get, map, filter, flat_map, Option, Some, None, is_some, if◌then◌else◌, sym, subst, refl, ap, ap₂, arith}
 use Rattle.std.specs.List.{list_any}
 use Rattle.std.proofs.lemmas.Bool.{eqb-true}
 use Rattle.std.proofs.lemmas.Bool.Decides.{nat_tests}
 use Rattle.ghost_model.specs.core.Schema.{Schema, Column, columns_of, column_at, is_shown, is_visible, is_empty, places_from, places_of}
-use Rattle.ghost_model.specs.core.Channel.{Ask, Test}
-use Rattle.ghost_model.specs.core.Values.{Value}
-use Rattle.ghost_model.specs.core.Query.{Query, Field, Condition, Compare, Join, Operator}
-use Rattle.ghost_model.specs.core.Asks.{ask_for, asks_of, is_needed, is_wanted, test_of}
-use Rattle.ghost_model.specs.laws.ShortWords.{is_field, is_from}
+use Rattle.ghost_model.specs.core.Channel.{Ask, ColumnTest}
+use Rattle.ghost_model.specs.core.Query.{Query, Field, Member, members_of_group, Condition, OneOf, Join}
+use Rattle.ghost_model.specs.core.Groups.{each_of, some_of}
+use Rattle.ghost_model.specs.core.Asks as asks
+use Rattle.ghost_model.specs.core.Asks.{ask_for, asks_of, is_needed, is_wanted, is_column, is_mixed, names_column, column_test, test_of}
+use Rattle.ghost_model.specs.laws.ShortWords.{is_from}
 use Rattle.ghost_model.specs.core.Replies.{Reply, reply_about}
 use Rattle.ghost_model.proofs.MeaningLemmas.OneRow.{Among, among-filter, from_filter, from_map, in_table, both_true, neither_true}
 use Rattle.ghost_model.proofs.MeaningLemmas.Leading.{place_within}
+use Rattle.ghost_model.proofs.SessionLemmas.Members.{some_true, some_agree}
 use Rattle.ghost_laws.specs.Asking.{is_asked, is_shown_of, is_compared_of}
+use Rattle.candidate_rows.specs.CostLaws.{is_visible_group}
 use Rattle.candidate_rows.specs.Laws.{WholeRepliesAreOfAsked, WholeRepliesAreAll, WholeRepliesAreToAsks}
 
 none_of : {X : Type 0} (p : X → Bool) (xs : List X) → ((x : X) → p x ≡ false) → filter p xs ≡ []
@@ -24,7 +27,7 @@ clash t f = cc
 
 -- a column of the table that is wanted is shown
 unwanted : (schema : Schema) (select : List Field) (table column : ℕ) → list_any (is_shown_of schema table) select ≡ false
-    → is_visible schema table column ≡ true → list_any (is_field table column) select ≡ false
+    → is_visible schema table column ≡ true → list_any (is_column table column) select ≡ false
 unwanted schema [] table column none shown = refl
 unwanted schema (field ∷ select) table column none shown =
     let both = neither_true (is_shown_of schema table field) (list_any (is_shown_of schema table) select) none in
@@ -37,35 +40,82 @@ unwanted schema (field ∷ select) table column none shown =
     by true true e f h =
         absurd (clash (ap₂ (λ c d. c && d) e (ap₂ (is_visible schema) (eqb-true field.table table e) (eqb-true field.column column f) ∙ shown)) h)
 
-no_columns : (schema : Schema) (select : List Field) (table : ℕ) → list_any (is_shown_of schema table) select ≡ false
-    → (column : ℕ) → is_wanted schema select table column ≡ false
-no_columns schema select table none column = by (is_visible schema table column) refl
+-- a member is shown where its column is
+shown_same : (schema : Schema) (table : ℕ) (one : Member) → asks.is_shown schema table one ≡ is_shown_of schema table one.field
+shown_same schema table one = by (nat_eq one.field.table table) refl
   where
-    by : (b : Bool) → is_visible schema table column ≡ b → (is_visible schema table column && list_any (is_field table column) select) ≡ false
-    by false e = ap (λ c. c && list_any (is_field table column) select) e
-    by true e = ap₂ (λ c d. c && d) e (unwanted schema select table column none e)
+    by : (b : Bool) → nat_eq one.field.table table ≡ b
+        → (nat_eq one.field.table table && is_visible schema table one.field.column) ≡ (nat_eq one.field.table table && is_visible schema one.field.table one.field.column)
+    by true e = ap (λ t. nat_eq one.field.table table && is_visible schema t one.field.column) (sym (eqb-true one.field.table table e))
+    by false e =
+        ap (λ c. c && is_visible schema table one.field.column) e ∙ sym (ap (λ c. c && is_visible schema one.field.table one.field.column) e)
 
-pub no_tests : (schema : Schema) (conditions : List Condition) (table : ℕ) → list_any (is_compared_of schema table) conditions ≡ false
+some_shown : (schema : Schema) (table : ℕ) (first : Member) (others : List Member)
+    → some_of (asks.is_shown schema table) first others ≡ is_compared_of schema table (OneOf first others)
+some_shown schema table first others =
+    some_agree (asks.is_shown schema table) (λ one. is_shown_of schema table one.field) first others (λ one among. shown_same schema table one)
+
+none_mixed : (schema : Schema) (table : ℕ) (condition : Condition) → is_compared_of schema table condition ≡ false → is_mixed schema table condition ≡ false
+none_mixed schema table (OneOf first others) none =
+    ap (λ b. b && not (each_of (asks.is_shown schema table) first others)) (some_shown schema table first others ∙ none)
+none_mixed schema table (Join one other) none = refl
+
+no_mixed : (schema : Schema) (conditions : List Condition) (table column : ℕ) → list_any (is_compared_of schema table) conditions ≡ false
+    → list_any (λ condition. is_mixed schema table condition && names_column table column condition) conditions ≡ false
+no_mixed schema [] table column none = refl
+no_mixed schema (condition ∷ conditions) table column none =
+    let both = neither_true (is_compared_of schema table condition) (list_any (is_compared_of schema table) conditions) none in
+    ap₂ (λ a b. (a && names_column table column condition) || b) (none_mixed schema table condition both.0) (no_mixed schema conditions table column both.1)
+
+no_columns : (schema : Schema) (asked : Query) (table : ℕ) → list_any (is_shown_of schema table) asked.select ≡ false
+    → list_any (is_compared_of schema table) asked.conditions ≡ false → (column : ℕ) → is_wanted schema asked table column ≡ false
+no_columns schema asked table none uncompared column = by (is_visible schema table column) refl
+  where
+    by : (b : Bool) → is_visible schema table column ≡ b → is_wanted schema asked table column ≡ false
+    by false e =
+        ap (λ c. c && (list_any (is_column table column) asked.select
+        || list_any (λ condition. is_mixed schema table condition && names_column table column condition) asked.conditions)) e
+    by true e =
+        ap₂ (λ c d. c && d) e
+        (ap₂ (λ c d. c || d) (unwanted schema asked.select table column none e) (no_mixed schema asked.conditions table column uncompared))
+
+-- a table of which no visible column stands in a group has no visible group
+none_each : {X : Type 0} (p : X → Bool) (first : X) (others : List X) → some_of p first others ≡ false → each_of p first others ≡ false
+none_each p first [] none = none
+none_each p first (next ∷ others) none =
+    ap (λ b. b && each_of p next others) (neither_true (p first) (some_of p next others) none).0
+
+no_group : (schema : Schema) (condition : Condition) (table : ℕ) → is_compared_of schema table condition ≡ false → is_visible_group schema table condition ≡ false
+no_group schema (OneOf first others) table none = none_each (λ (one : Member). is_shown_of schema table one.field) first others none
+no_group schema (Join one other) table none = refl
+
+no_groups : (schema : Schema) (conditions : List Condition) (table : ℕ) → list_any (is_compared_of schema table) conditions ≡ false
+    → list_any (is_visible_group schema table) conditions ≡ false
+no_groups schema [] table none = refl
+no_groups schema (condition ∷ conditions) table none =
+    let both = neither_true (is_compared_of schema table condition) (list_any (is_compared_of schema table) conditions) none in
+    ap₂ (λ a b. a || b) (no_group schema condition table both.0) (no_groups schema conditions table both.1)
+
+-- a table without a visible group has no tests in its ask
+no_test : (schema : Schema) (condition : Condition) (table : ℕ) → is_visible_group schema table condition ≡ false → test_of schema table condition ≡ []
+no_test schema (OneOf first others) table none =
+    ap (λ b. if b then map column_test (members_of_group first others) else [])
+    (ap (λ (p : Member → Bool). each_of p first others) (λ i one. shown_same schema table one i) ∙ none)
+no_test schema (Join one other) table none = refl
+
+pub no_tests : (schema : Schema) (conditions : List Condition) (table : ℕ) → list_any (is_visible_group schema table) conditions ≡ false
     → flat_map (test_of schema table) conditions ≡ []
 no_tests schema [] table none = refl
-no_tests schema (Compare field operator value ∷ conditions) table none =
-    let both = neither_true (is_shown_of schema table field) (list_any (is_compared_of schema table) conditions) none in
-    ap₂ (λ xs ys. xs ++ ys) (by (nat_eq field.table table) refl both.0) (no_tests schema conditions table both.1)
-  where
-    by : (a : Bool) → nat_eq field.table table ≡ a → (nat_eq field.table table && is_visible schema field.table field.column) ≡ false
-        → test_of schema table (Compare field operator value) ≡ []
-    by false e h = ap (λ c. if c && is_visible schema table field.column then record { column = field.column; operator = operator; value = value } ∷ [] else []) e
-    by true e h =
-        ap (λ c. if c then record { column = field.column; operator = operator; value = value } ∷ [] else [])
-        (ap (λ t. nat_eq field.table table && is_visible schema t field.column) (sym (eqb-true field.table table e)) ∙ h)
-no_tests schema (Join one other ∷ conditions) table none = no_tests schema conditions table none
+no_tests schema (condition ∷ conditions) table none =
+    let both = neither_true (is_visible_group schema table condition) (list_any (is_visible_group schema table) conditions) none in
+    ap₂ (λ xs ys. xs ++ ys) (no_test schema condition table both.0) (no_tests schema conditions table both.1)
 
 unneeded : (schema : Schema) (asked : Query) (table : ℕ) → is_asked schema asked table ≡ false → is_needed (ask_for schema asked table) ≡ false
 unneeded schema asked table none =
     let both = neither_true (list_any (is_shown_of schema table) asked.select) (list_any (is_compared_of schema table) asked.conditions) none in
     ap₂ (λ columns tests. not (is_empty columns && is_empty tests))
-    (none_of (is_wanted schema asked.select table) (places_of (columns_of schema table)) (no_columns schema asked.select table both.0))
-    (no_tests schema asked.conditions table both.1)
+    (none_of (is_wanted schema asked table) (places_of (columns_of schema table)) (no_columns schema asked table both.0 both.1))
+    (no_tests schema asked.conditions table (no_groups schema asked.conditions table both.1))
 
 pub asked_by : (schema : Schema) (asked : Query) (ask : Ask) → Among ask (asks_of schema asked) → is_asked schema asked ask.table ≡ true
 asked_by schema asked ask among =
@@ -115,7 +165,7 @@ stands_first place xs h =
 
 -- a column that is asked of a table is one of it
 abbrev HasShown : Schema → List Field → (table : ℕ) → Type 0
-HasShown schema select table = (column : ℕ) × (is_visible schema table column ≡ true) × (list_any (is_field table column) select ≡ true)
+HasShown schema select table = (column : ℕ) × (is_visible schema table column ≡ true) × (list_any (is_column table column) select ≡ true)
 
 same_number : (n : ℕ) → nat_eq n n ≡ true
 same_number n = grind (arith, nat_tests)
@@ -125,7 +175,7 @@ one_of_both true = refl
 one_of_both false = refl
 
 shown_later : (schema : Schema) (field : Field) (select : List Field) (table : ℕ) → HasShown schema select table → HasShown schema (field ∷ select) table
-shown_later schema field select table rest = (rest.0, rest.1, ap (λ b. is_field table rest.0 field || b) rest.2 ∙ one_of_both (is_field table rest.0 field))
+shown_later schema field select table rest = (rest.0, rest.1, ap (λ b. is_column table rest.0 field || b) rest.2 ∙ one_of_both (is_column table rest.0 field))
 
 shown_by : (schema : Schema) (field : Field) (select : List Field) (table : ℕ) (a b : Bool) → nat_eq field.table table ≡ a → is_visible schema field.table field.column ≡ b
     → (list_any (is_shown_of schema table) select ≡ true → HasShown schema select table)
@@ -134,7 +184,7 @@ shown_by : (schema : Schema) (field : Field) (select : List Field) (table : ℕ)
 shown_by schema field select table true true p v rest h = (
   field.column,
   ap (λ t. is_visible schema t field.column) (sym (eqb-true field.table table p)) ∙ v,
-  ap (λ b. b || list_any (is_field table field.column) select) (ap₂ (λ c d. c && d) p (same_number field.column)),
+  ap (λ b. b || list_any (is_column table field.column) select) (ap₂ (λ c d. c && d) p (same_number field.column)),
 )
 shown_by schema field select table true false p v rest h =
     shown_later schema field select table (rest (sym (ap₂ (λ c d. (c && d) || list_any (is_shown_of schema table) select) p v) ∙ h))
@@ -160,42 +210,86 @@ table_there schema table column e =
     let held = in_table (slice_get schema table) column declared.0 declared.1 in
     place_within schema table held.0 held.1
 
-abbrev HasCompared : Schema → List Condition → (table : ℕ) → Type 0
-HasCompared schema conditions table = (column : ℕ) × (is_visible schema table column ≡ true) × (is_empty (flat_map (test_of schema table) conditions) ≡ false)
+-- A group with a visible column of the table gives the ask tests, or a column where the group is mixed.
+abbrev Gives : Schema → (table column : ℕ) → List ColumnTest → (mixed : Bool) → Type 0
+Gives schema table column tests mixed = (is_visible schema table column ≡ true) × ((is_empty tests ≡ false) ⊎ (mixed ≡ true))
 
-some_behind : (xs ys : List Test) → is_empty ys ≡ false → is_empty (xs ++ ys) ≡ false
+abbrev takes_column : Schema → (table column : ℕ) → Condition → Bool
+takes_column schema table column condition = is_mixed schema table condition && names_column table column condition
+
+abbrev HasCompared : Schema → List Condition → (table : ℕ) → Type 0
+HasCompared schema conditions table =
+    (column : ℕ) × Gives schema table column (flat_map (test_of schema table) conditions) (list_any (takes_column schema table column) conditions)
+
+some_before : (xs ys : List ColumnTest) → is_empty xs ≡ false → is_empty (xs ++ ys) ≡ false
+some_before [] ys h = absurd (cc (h))
+some_before (x ∷ xs) ys h = refl
+
+some_behind : (xs ys : List ColumnTest) → is_empty ys ≡ false → is_empty (xs ++ ys) ≡ false
 some_behind [] ys h = h
 some_behind (x ∷ xs) ys h = refl
 
-compared_later : (schema : Schema) (condition : Condition) (conditions : List Condition) (table : ℕ) → HasCompared schema conditions table → HasCompared schema (condition ∷ conditions) table
-compared_later schema condition conditions table rest =
-    (rest.0, rest.1, some_behind (test_of schema table condition) (flat_map (test_of schema table) conditions) rest.2)
+gives_before : (schema : Schema) (table column : ℕ) (condition : Condition) (conditions : List Condition)
+    → Gives schema table column (test_of schema table condition) (takes_column schema table column condition) → HasCompared schema (condition ∷ conditions) table
+gives_before schema table column condition conditions (visible, inl tests) =
+    (column, (visible, inl (some_before (test_of schema table condition) (flat_map (test_of schema table) conditions) tests)))
+gives_before schema table column condition conditions (visible, inr mixed) =
+    (column, (visible, inr (ap (λ b. b || list_any (takes_column schema table column) conditions) mixed)))
 
-compared_by : (schema : Schema) (field : Field) (operator : Operator) (value : Value) (conditions : List Condition) (table : ℕ) (a b : Bool)
-    → nat_eq field.table table ≡ a → is_visible schema field.table field.column ≡ b
-    → (list_any (is_compared_of schema table) conditions ≡ true → HasCompared schema conditions table)
-    → ((nat_eq field.table table && is_visible schema field.table field.column) || list_any (is_compared_of schema table) conditions) ≡ true
-    → HasCompared schema (Compare field operator value ∷ conditions) table
-compared_by schema field operator value conditions table true true p v rest h =
-    let visible = ap (λ t. is_visible schema t field.column) (sym (eqb-true field.table table p)) ∙ v in (
-      field.column,
-      visible,
-      ap (λ b. is_empty ((if b then record { column = field.column; operator = operator; value = value } ∷ [] else []) ++ flat_map (test_of schema table) conditions)) (ap₂ (λ c d. c && d) p visible),
-    )
-compared_by schema field operator value conditions table true false p v rest h =
-    compared_later schema (Compare field operator value) conditions table
-    (rest (sym (ap₂ (λ c d. (c && d) || list_any (is_compared_of schema table) conditions) p v) ∙ h))
-compared_by schema field operator value conditions table false b p v rest h =
-    compared_later schema (Compare field operator value) conditions table
-    (rest (sym (ap (λ c. (c && is_visible schema field.table field.column) || list_any (is_compared_of schema table) conditions) p) ∙ h))
+compared_later : (schema : Schema) (condition : Condition) (conditions : List Condition) (table : ℕ) → HasCompared schema conditions table → HasCompared schema (condition ∷ conditions) table
+compared_later schema condition conditions table (column, (visible, inl tests)) =
+    (column, (visible, inl (some_behind (test_of schema table condition) (flat_map (test_of schema table) conditions) tests)))
+compared_later schema condition conditions table (column, (visible, inr mixed)) =
+    (column, (visible, inr (ap (λ b. takes_column schema table column condition || b) mixed ∙ one_of_both (takes_column schema table column condition))))
+
+-- one of a group's members that passes
+abbrev Passing : {X : Type 0} → (X → Bool) → (first : X) → (others : List X) → Type 0
+Passing {X = X} p first others = (one : X) × Among one (first ∷ others) × (p one ≡ true)
+
+passing : {X : Type 0} (p : X → Bool) (first : X) (others : List X) → some_of p first others ≡ true → Passing p first others
+passing p first [] e = (first, inl refl, e)
+passing p first (next ∷ others) e = by (p first) refl (λ h. passing p next others h) e
+  where
+    by : (b : Bool) → p first ≡ b → (some_of p next others ≡ true → Passing p next others) → (b || some_of p next others) ≡ true → Passing p first (next ∷ others)
+    by true h rest some = (first, inl refl, h)
+    by false h rest some = let later = rest some in (later.0, inr later.1, later.2)
+
+some_member : (first : Member) (others : List Member) → is_empty (map column_test (members_of_group first others)) ≡ false
+some_member first [] = refl
+some_member first (next ∷ others) = refl
+
+group_gives : (schema : Schema) (first : Member) (others : List Member) (table : ℕ) → is_compared_of schema table (OneOf first others) ≡ true
+    → (column : ℕ) × Gives schema table column (test_of schema table (OneOf first others)) (takes_column schema table column (OneOf first others))
+group_gives schema first others table e =
+    let some = some_shown schema table first others ∙ e in
+    let found = passing (asks.is_shown schema table) first others some in
+    let here = both_true (nat_eq found.0.field.table table) (is_visible schema table found.0.field.column) found.2 in
+    (found.0.field.column, (here.1, by found.0 found.1 here.0 some (each_of (asks.is_shown schema table) first others) refl))
+  where
+    by : (one : Member) → Among one (first ∷ others) → nat_eq one.field.table table ≡ true → some_of (asks.is_shown schema table) first others ≡ true
+        → (b : Bool) → each_of (asks.is_shown schema table) first others ≡ b
+        → (is_empty (if b then map column_test (members_of_group first others) else []) ≡ false)
+        ⊎ ((some_of (asks.is_shown schema table) first others && not b && names_column table one.field.column (OneOf first others)) ≡ true)
+    by one among at some true each = inl (some_member first others)
+    by one among at some false each =
+        inr (ap₂ (λ a b. a && true && b) some
+        (some_true (λ other. is_column table one.field.column other.field) one first others among (ap₂ (λ a b. a && b) at (same_number one.field.column))))
+
+condition_gives : (schema : Schema) (condition : Condition) (table : ℕ) → is_compared_of schema table condition ≡ true
+    → (column : ℕ) × Gives schema table column (test_of schema table condition) (takes_column schema table column condition)
+condition_gives schema (OneOf first others) table e = group_gives schema first others table e
+condition_gives schema (Join one other) table e = absurd (cc (e))
 
 compared_there : (schema : Schema) (conditions : List Condition) (table : ℕ) → list_any (is_compared_of schema table) conditions ≡ true → HasCompared schema conditions table
 compared_there schema [] table e = absurd (cc (e))
-compared_there schema (Join one other ∷ conditions) table e =
-    compared_later schema (Join one other) conditions table (compared_there schema conditions table e)
-compared_there schema (Compare field operator value ∷ conditions) table e =
-    compared_by schema field operator value conditions table (nat_eq field.table table) (is_visible schema field.table field.column) refl refl
-    (λ h. compared_there schema conditions table h) e
+compared_there schema (condition ∷ conditions) table e = by (is_compared_of schema table condition) refl (λ h. compared_there schema conditions table h) e
+  where
+    by : (b : Bool) → is_compared_of schema table condition ≡ b → (list_any (is_compared_of schema table) conditions ≡ true → HasCompared schema conditions table)
+        → (b || list_any (is_compared_of schema table) conditions) ≡ true → HasCompared schema (condition ∷ conditions) table
+    by true h rest some =
+        let here = condition_gives schema condition table h in
+        gives_before schema table here.0 condition conditions here.1
+    by false h rest some = compared_later schema condition conditions table (rest some)
 
 record IsNeeded (schema : Schema) (asked : Query) (table : ℕ) : Type 0 where
   there : table < length schema
@@ -209,27 +303,41 @@ some_test : (b c : Bool) → c ≡ false → not (b && c) ≡ true
 some_test true c e = ap not e
 some_test false c e = refl
 
+-- a column that is selected or stands in a mixed group
+column_needed : (schema : Schema) (asked : Query) (table column : ℕ) → is_visible schema table column ≡ true
+    → (list_any (is_column table column) asked.select || list_any (takes_column schema table column) asked.conditions) ≡ true
+    → is_needed (ask_for schema asked table) ≡ true
+column_needed schema asked table column visible wanted =
+    let declared = column_there schema table column visible in
+    some_column column (ask_for schema asked table).columns (is_empty (ask_for schema asked table).tests)
+    (among-filter (is_wanted schema asked table) column (places_of (columns_of schema table))
+    (stands_first column (columns_of schema table) (place_within (columns_of schema table) column declared.0 declared.1))
+    (ap₂ (λ a b. a && b) visible wanted))
+
+given_needed : (schema : Schema) (asked : Query) (table column : ℕ)
+    → Gives schema table column (ask_for schema asked table).tests (list_any (takes_column schema table column) asked.conditions)
+    → is_needed (ask_for schema asked table) ≡ true
+given_needed schema asked table column (visible, inl tests) =
+    some_test (is_empty (ask_for schema asked table).columns) (is_empty (ask_for schema asked table).tests) tests
+given_needed schema asked table column (visible, inr mixed) =
+    column_needed schema asked table column visible
+    (ap (λ b. list_any (is_column table column) asked.select || b) mixed ∙ one_of_both (list_any (is_column table column) asked.select))
+
 asked_needed : (schema : Schema) (asked : Query) (table : ℕ) → is_asked schema asked table ≡ true → IsNeeded schema asked table
 asked_needed schema asked table e = by (list_any (is_shown_of schema table) asked.select) refl e
   where
     by : (b : Bool) → list_any (is_shown_of schema table) asked.select ≡ b → (b || list_any (is_compared_of schema table) asked.conditions) ≡ true → IsNeeded schema asked table
     by true s h =
         let found = shown_there schema asked.select table s in
-        let declared = column_there schema table found.0 found.1 in
         record {
           there = table_there schema table found.0 found.1;
           needed =
-              some_column found.0 (ask_for schema asked table).columns (is_empty (ask_for schema asked table).tests)
-              (among-filter (is_wanted schema asked.select table) found.0 (places_of (columns_of schema table))
-              (stands_first found.0 (columns_of schema table) (place_within (columns_of schema table) found.0 declared.0 declared.1))
-              (ap₂ (λ a b. a && b) found.1 found.2));
+              column_needed schema asked table found.0 found.1
+              (ap (λ b. b || list_any (takes_column schema table found.0) asked.conditions) found.2);
         }
     by false s h =
         let found = compared_there schema asked.conditions table h in
-        record {
-          there = table_there schema table found.0 found.1;
-          needed = some_test (is_empty (ask_for schema asked table).columns) (is_empty (ask_for schema asked table).tests) found.2;
-        }
+        record { there = table_there schema table found.0 found.1.0; needed = given_needed schema asked table found.0 found.1 }
 
 to_map : {X Y : Type 0} (f : X → Y) (x : X) (xs : List X) → Among x xs → Among (f x) (map f xs)
 to_map f x [] h = absurd h

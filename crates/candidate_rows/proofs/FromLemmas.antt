@@ -8,8 +8,9 @@ use Rattle.ghost_model.specs.core.Schema.{Schema, parent, ancestor, is_visible, 
 use Rattle.ghost_model.specs.core.Values.{Row, Database}
 use Rattle.ghost_model.specs.core.Channel.{Catalog}
 use Rattle.ghost_model.specs.core.Database.{row_counts, row_of, rows_of, reference_column}
-use Rattle.ghost_model.specs.core.Query.{Query, Field, Condition, Compare, Join, is_among, top_of}
-use Rattle.ghost_model.specs.core.Meaning.{compares}
+use Rattle.ghost_model.specs.core.Query.{Query, Field, Member, Condition, OneOf, Join, is_among, top_of}
+use Rattle.ghost_model.specs.core.Groups.{each_of, some_of}
+use Rattle.ghost_model.specs.core.Meaning.{meets_test}
 use Rattle.ghost_model.specs.core.Replies.{Reply}
 use Rattle.ghost_model.specs.forms.Layout.{count_of, descendants_of}
 use Rattle.ghost_model.specs.laws.LayoutLaws.{LevelsAreAncestors}
@@ -19,6 +20,7 @@ use Rattle.ghost_model.specs.laws.MeaningLaws.{IsAtOrBelow, LeadsFollowKeys, Row
 use Rattle.ghost_model.proofs.MeaningLemmas.OneRow.{Among, among_is, from_filter, both_true, neither_true}
 use Rattle.ghost_model.proofs.MeaningLemmas.Leading.{first_step, no_step, way_is_short, table_with_parent, get_within, to_itself_within, told_place, first_some, not_to_false}
 use Rattle.ghost_model.proofs.FlashLemmas.Values.{count_there}
+use Rattle.ghost_model.proofs.SessionLemmas.Members.{each_true, true_of_each}
 use Rattle.ghost_laws.specs.Followed.{IsFollowed, AcceptedQueriesAreFollowed, is_column_from, is_condition_from}
 use Rattle.ghost_laws.specs.Scans.{known_along, stands_along, holds_or_asked_along, is_kept_row}
 use Rattle.ghost_laws.proofs.ScanLemmas.Accepted.{pass_each}
@@ -26,7 +28,7 @@ use Rattle.edge_traits.specs.Devices.{Device}
 use Rattle.visible_spool.specs.declared.half.Half.{Half}
 use Rattle.candidate_rows.specs.Rows.{AreReadable}
 use Rattle.visible_spool.specs.declared.search.Search.TheVariants.{New}
-use Rattle.spj_parse.specs.Resolved.{IsMeant, joins_of, join_to, join_with, join_by, keys_between, is_comparison}
+use Rattle.spj_parse.specs.Resolved.{IsMeant, joins_of, join_to, join_with, join_by, keys_between, is_group}
 use Rattle.candidate_rows.specs.declared.plan.Hop.{Hop}
 use Rattle.candidate_rows.specs.declared.plan.Test.{Test}
 use Rattle.candidate_rows.specs.declared.plan.Check.{Check}
@@ -66,7 +68,7 @@ all_filtered p q (x ∷ xs) each = by (q x) refl (all_filtered p q xs (λ y a. e
 -- ---- FROM tables
 
 abbrev pub is_from : List ℕ → Condition → Bool
-is_from from (Compare field operator literal) = is_among from field.table
+is_from from (OneOf first others) = each_of (λ one. is_among from one.field.table) first others
 is_from from (Join one other) = true
 
 all_both : {X : Type 0} (p : X → Bool) (xs ys : List X) → list_all p xs ≡ true → list_all p ys ≡ true → list_all p (xs ++ ys) ≡ true
@@ -93,22 +95,25 @@ module _ (p : Condition → Bool) (joined : (one other : Field) → p (Join one 
   joins_pass schema from (table ∷ tables) =
       all_both p (join_to schema from table) (flat_map (join_to schema from) tables) (joins_with schema from table (parent schema table)) (joins_pass schema from tables)
 
-comparisons_from : (schema : Schema) (from : List ℕ) (conditions : List Condition) → list_all (is_condition_from schema from) conditions ≡ true
-    → list_all (is_from from) (filter is_comparison conditions) ≡ true
-comparisons_from schema from [] all = refl
-comparisons_from schema from (Compare field operator literal ∷ conditions) all =
-    let both = both_true (is_condition_from schema from (Compare field operator literal)) (list_all (is_condition_from schema from) conditions) all in
-    ap₂ (λ c d. c && d) (both_true (is_among from field.table) _ both.0).0 (comparisons_from schema from conditions both.1)
-comparisons_from schema from (Join one other ∷ conditions) all =
-    comparisons_from schema from conditions (both_true (is_condition_from schema from (Join one other)) (list_all (is_condition_from schema from) conditions) all).1
+members_from : (schema : Schema) (from : List ℕ) (conditions : List Condition) → list_all (is_condition_from schema from) conditions ≡ true
+    → list_all (is_from from) (filter is_group conditions) ≡ true
+members_from schema from [] all = refl
+members_from schema from (OneOf first others ∷ conditions) all =
+    let both = both_true (is_condition_from schema from (OneOf first others)) (list_all (is_condition_from schema from) conditions) all in
+    let of_from : each_of (λ (one : Member). is_among from one.field.table) first others ≡ true =
+    true_of_each (λ one. is_among from one.field.table) first others
+    (λ one among. (both_true (is_among from one.field.table) _ (each_true (λ one. is_column_from schema from one.field) one first others both.0 among)).0) in
+    ap₂ (λ c d. c && d) of_from (members_from schema from conditions both.1)
+members_from schema from (Join one other ∷ conditions) all =
+    members_from schema from conditions (both_true (is_condition_from schema from (Join one other)) (list_all (is_condition_from schema from) conditions) all).1
 
 pub conditions_of : (schema : Schema) (asked : Query) (text : List ℕ) (read : IsMeant schema text asked) (top : ℕ) → IsFollowed schema read.meant top
     → list_all (is_from asked.from) asked.conditions ≡ true
 conditions_of schema asked text read top follows =
     ap (λ (q : Query). list_all (is_from q.from) q.conditions) read.once
-    ∙ all_both (is_from read.meant.from) (joins_of schema read.meant.from) (filter is_comparison read.meant.conditions)
+    ∙ all_both (is_from read.meant.from) (joins_of schema read.meant.from) (filter is_group read.meant.conditions)
     (joins_pass (is_from read.meant.from) (λ one other. refl) schema read.meant.from read.meant.from)
-    (comparisons_from schema read.meant.from read.meant.conditions follows.conditions)
+    (members_from schema read.meant.from read.meant.conditions follows.conditions)
 
 -- ---- look-ups
 
@@ -154,7 +159,7 @@ unlooked_meet table (test ∷ tests) none =
     by (Stands number) e h =
         ap (check_meets (λ t. not (nat_eq t table)) (λ _. true) test.known.field) e
         ∙ ap not (sym (ap (λ c. is_look_up c && nat_eq test.known.field.table table) e) ∙ h)
-    by (Holds operator literal) e h = ap (check_meets (λ t. not (nat_eq t table)) (λ _. true) test.known.field) e
+    by (Holds wanted) e h = ap (check_meets (λ t. not (nat_eq t table)) (λ _. true) test.known.field) e
 
 module _ (cat : Catalog) (asked : Query) (plan : RowPlan) (plan_is : IsPlan cat asked plan) (text : List ℕ) (read : IsMeant cat.schema text asked)
     (tree : IsTree cat.schema) (one : OneReading) (accepted : AcceptedQueriesAreFollowed) where
@@ -187,7 +192,7 @@ module _ (cat : Catalog) (asked : Query) (plan : RowPlan) (plan_is : IsPlan cat 
     where
       by : (check : Check) → test.check ≡ check → is_among asked.from test.known.field.table ≡ true
       by (Stands number) e = sym (ap (check_meets (is_among asked.from) (is_from asked.from) test.known.field) e) ∙ met
-      by (Holds operator literal) e = sym (ap (check_meets (is_among asked.from) (is_from asked.from) test.known.field) e) ∙ met
+      by (Holds wanted) e = sym (ap (check_meets (is_among asked.from) (is_from asked.from) test.known.field) e) ∙ met
 
   selected_from : (i : ℕ) (field : Field) → slice_get asked.select i ≡ Some field → is_among asked.from field.table ≡ true
   selected_from i field there =
@@ -255,11 +260,18 @@ module _ (cat : Catalog) (asked : Query) (plan : RowPlan) (plan_is : IsPlan cat 
     shown true e = refl
     shown false e = cc
 
+    all_shown : (first : Member) (others : List Member) → some_of (λ one. not (is_visible cat.schema one.field.table one.field.column)) first others ≡ false
+        → each_of (λ one. is_visible cat.schema one.field.table one.field.column) first others ≡ true
+    all_shown first [] e = shown (is_visible cat.schema first.field.table first.field.column) e
+    all_shown first (next ∷ others) e =
+        let both = neither_true (not (is_visible cat.schema first.field.table first.field.column)) (some_of (λ one. not (is_visible cat.schema one.field.table one.field.column)) next others) e in
+        ap₂ (λ a b. a && b) (shown (is_visible cat.schema first.field.table first.field.column) both.0) (all_shown next others both.1)
+
     untested_holds : (condition : Condition) → is_tested cat.schema condition ≡ false
         → holds_or_asked_along cat.schema (known_along cat.schema database given plan.top identifier) condition ≡ true
-    untested_holds (Compare field operator literal) e =
-        ap (λ b. if b then true else compares operator (known_along cat.schema database given plan.top identifier field) (Some literal))
-        (shown (is_visible cat.schema field.table field.column) e)
+    untested_holds (OneOf first others) e =
+        ap (λ b. if b then true else some_of (λ one. meets_test one.test (known_along cat.schema database given plan.top identifier one.field)) first others)
+        (all_shown first others e)
     untested_holds (Join one other) e = refl
 
     -- the conditions of which there are tests hold exactly where all of the key's do

@@ -10,7 +10,8 @@ use Rattle.ghost_model.specs.core.Schema.{Schema, is_visible, places_of}
 use Rattle.ghost_model.specs.core.Values.{Value, Row, Database}
 use Rattle.ghost_model.specs.core.Channel.{Catalog, Ask}
 use Rattle.ghost_model.specs.core.Database.{leads, row_count, row_of, rows_of}
-use Rattle.ghost_model.specs.core.Query.{Query, Field, Condition, Compare, Join, is_among, top_of}
+use Rattle.ghost_model.specs.core.Query.{Query, Field, Member, Condition, OneOf, Join, is_among, top_of}
+use Rattle.ghost_model.specs.core.Groups.{each_group}
 use Rattle.ghost_model.specs.laws.ShortWords as short
 use Rattle.ghost_model.specs.core.Asks as asks
 use Rattle.ghost_model.specs.core.Asks.{ask_for, asks_of, is_needed}
@@ -24,15 +25,17 @@ use Rattle.ghost_model.specs.laws.QueryLaws.{OneReading}
 use Rattle.ghost_model.specs.laws.SchemaTrees.{IsTree}
 use Rattle.ghost_model.specs.laws.SessionLaws.{whole_reply, whole_replies, WholeRepliesAnswer}
 use Rattle.ghost_model.specs.refusals.QueryMeaning.{has_repeat}
+use Rattle.ghost_model.proofs.GroupLemmas.{each_is_all, some_is_any}
 use Rattle.ghost_model.proofs.MeaningLemmas.OneRow.{Among, among-filter, among_is, from_filter, from_map, both_true, neither_true}
 use Rattle.ghost_model.proofs.MeaningLemmas.Leading.{get_within}
 use Rattle.ghost_model.proofs.FlashLemmas.Values.{count_there}
-use Rattle.ghost_model.proofs.SessionLemmas.Whole.{stands_in_is}
+use Rattle.ghost_model.proofs.SessionLemmas.Members.{no_group_fails, says_more}
+use Rattle.ghost_model.proofs.SessionLemmas.Whole.{holds_in, stands_in_is}
 use Rattle.ghost_laws.specs.Followed.{IsFollowed, AcceptedQueriesAreFollowed, is_column_from}
 use Rattle.ghost_laws.specs.Scans.{known_along, stands_along, holds_or_asked_along, is_kept_row, known_row, KnownAnswersFollowKeys}
 use Rattle.ghost_laws.proofs.ScanLemmas.Accepted.{pass_each}
 use Rattle.spj_parse.specs.Laws.{JoinsCountOnce}
-use Rattle.spj_parse.specs.Resolved.{IsMeant, is_comparison, joins_of, linked}
+use Rattle.spj_parse.specs.Resolved.{IsMeant, is_group, joins_of, linked}
 use Rattle.visible_spool.specs.declared.half.Half.{Half}
 use Rattle.visible_spool.specs.declared.search.Search.TheVariants.{New}
 use Rattle.visible_spool.specs.Halves.{reply_of}
@@ -54,7 +57,7 @@ use Rattle.candidate_rows.specs.Working.{Knows, told, passes}
 use Rattle.candidate_rows.specs.Steps.{row_known}
 use Rattle.candidate_rows.specs.Laws.{TestsAreThoseOfAnswers, RecordsAreWanted, is_of_other, compares_other, wants_below}
 use Rattle.candidate_rows.specs.Costs.{look_calls, value_calls, source_calls, check_calls, test_calls, most_ways, row_calls}
-use Rattle.candidate_rows.specs.CostLaws.{AreAllRows, RowsCostTheirWork, RowsThatMeetAllAreAnswers, HonestAnswersAreWhole}
+use Rattle.candidate_rows.specs.CostLaws.{is_visible_group, AreAllRows, RowsCostTheirWork, RowsThatMeetAllAreAnswers, HonestAnswersAreWhole}
 use Rattle.candidate_rows.proofs.AskLemmas.{none_about, mapped, asked_by, ask_stands, no_tests}
 use Rattle.candidate_rows.proofs.FromLemmas.{all_each, is_from, conditions_of, follows, from_same, below_top, joins_pass}
 use Rattle.candidate_rows.proofs.TestLemmas.{count_cons}
@@ -180,7 +183,7 @@ module _ (half : Half) where
     where
       by : (check : Check) → is_look_up check ≡ true → check_calls half New test.known.field.table test.known.source check ≡ look_calls half test.known.field.table
       by (Stands number) h = refl
-      by (Holds operator literal) h = absurd (cc (h))
+      by (Holds wanted) h = absurd (cc (h))
 
   none_looked : (table : ℕ) (tests : List Test) → count_by (looks_up table) tests ≡ 0 → sum_by (test_calls half New) (filter (looks_up table) tests) ≡ 0
   none_looked table [] none = refl
@@ -306,7 +309,7 @@ module _ (cat : Catalog) (asked : Query) (plan : RowPlan) (is : IsPlanOfCandidat
     where
       by : (check : Check) → check_meets (is_among tables) (λ _. false) test.known.field check ≡ true
           → (is_look_up check && list_any (is_about test.known.field.table) (asks_of cat.schema asked)) ≡ true
-      by (Holds operator literal) h = absurd (cc (h))
+      by (Holds wanted) h = absurd (cc (h))
       by (Stands number) h =
           let table = test.known.field.table in
           let found = from_filter (is_asked cat.schema asked) table asked.from (among_of table tables h) in
@@ -376,9 +379,13 @@ shown_other schema top table other field shown =
 
 compared_other : (schema : Schema) (top table : ℕ) → not (nat_eq table top) ≡ true → (condition : Condition) → is_compared_of schema table condition ≡ true
     → compares_other schema top condition ≡ true
-compared_other schema top table other (Compare field operator literal) compared =
-    let at = both_true (nat_eq field.table table) (is_visible schema field.table field.column) compared in
-    ap₂ (λ a b. a && b) (ap (λ t. not (nat_eq t top)) (eqb-true field.table table at.0) ∙ other) at.1
+compared_other schema top table other (OneOf first others) compared =
+    some_is_any (λ one. is_of_other top one.field && is_visible schema one.field.table one.field.column) first others
+    ∙ any_mapped (λ (one : Member). is_shown_of schema table one.field) (λ one. is_of_other top one.field && is_visible schema one.field.table one.field.column) (first ∷ others)
+    (λ one shown.
+    let at = both_true (nat_eq one.field.table table) (is_visible schema one.field.table one.field.column) shown in
+    ap₂ (λ a b. a && b) (shown_other schema top table other one.field shown) at.1)
+    (sym (some_is_any (λ one. is_shown_of schema table one.field) first others) ∙ compared)
 compared_other schema top table other (Join left right) compared = absurd (cc (compared))
 
 asked_other : (schema : Schema) (asked : Query) (top table : ℕ) → not (nat_eq table top) ≡ true → is_asked schema asked table ≡ true → wants_below schema asked top ≡ true
@@ -409,7 +416,7 @@ records_wanted cat asked plan file is there =
       where
         by_check : (check : Check) → check_meets (is_among (filter (is_asked cat.schema asked) asked.from)) (λ _. false) test.known.field check ≡ true
             → wants_below cat.schema asked plan.top ≡ true
-        by_check (Holds operator literal) h = absurd (cc (h))
+        by_check (Holds wanted) h = absurd (cc (h))
         by_check (Stands number) h =
             let table = test.known.field.table in
             let found = from_filter (is_asked cat.schema asked) table asked.from (among_of table (filter (is_asked cat.schema asked) asked.from) h) in
@@ -473,9 +480,12 @@ module _ (schema : Schema) (asked : Query) (text : List ℕ) (read : IsMeant sch
       ap (is_among asked.from) (sym (eqb-true field.table table at.0)) ∙ (both_true (is_among asked.from field.table) _ from).0
 
   compared_from : (table : ℕ) (condition : Condition) → is_from asked.from condition ≡ true → is_compared_of schema table condition ≡ true → is_among asked.from table ≡ true
-  compared_from table (Compare field operator literal) from compared =
-      let at = both_true (nat_eq field.table table) (is_visible schema field.table field.column) compared in
-      ap (is_among asked.from) (sym (eqb-true field.table table at.0)) ∙ from
+  compared_from table (OneOf first others) from compared =
+      (let found = any_all (λ (one : Member). is_among asked.from one.field.table) (λ one. is_shown_of schema table one.field) (first ∷ others)
+      (sym (each_is_all (λ one. is_among asked.from one.field.table) first others) ∙ from)
+      (sym (some_is_any (λ one. is_shown_of schema table one.field) first others) ∙ compared) in
+      let at = both_true (nat_eq found.one.field.table table) (is_visible schema found.one.field.table found.one.field.column) found.second in
+      ap (is_among asked.from) (sym (eqb-true found.one.field.table table at.0)) ∙ found.first)
   compared_from table (Join left right) from compared = absurd (cc (compared))
 
   asked_from : (table : ℕ) → is_asked schema asked table ≡ true → is_among asked.from table ≡ true
@@ -519,15 +529,16 @@ module _ (cat : Catalog) (asked : Query) (plan : RowPlan) (plan_is : IsPlan cat 
       let r = get_within (rows_of database plan.top) (identifier - 1) (omega (arith, size, some, within)) in
       (r.0, ap (row_of database plan.top) (sym same) ∙ r.1)
 
-  whole_stands : (table reached : ℕ) (r : Row) → row_of database table reached ≡ Some r → Among table asked.from → list_any (is_compared_of cat.schema table) asked.conditions ≡ false
+  whole_stands : (table reached : ℕ) (r : Row) → row_of database table reached ≡ Some r → Among table asked.from → list_any (is_visible_group cat.schema table) asked.conditions ≡ false
       → stands_in reached (reply_about table given) ≡ true
   whole_stands table zero r there among none = absurd (cc (there))
   whole_stands table (suc place) r there among none =
       ap (stands_in (suc place)) (same_about cat.schema asked knows.text knows.meant plan.top follow database given honest knows.of_asked table)
       ∙ stands_in_is cat.schema database knows.is asked table place r there among
-      ∙ ap (list_all _) (no_tests cat.schema asked.conditions table none)
+      ∙ ap (each_group says_more (holds_in cat.schema database knows.is asked r)) (no_tests cat.schema asked.conditions table none)
+      ∙ no_group_fails says_more (holds_in cat.schema database knows.is asked r) [] refl
 
-  unlisted_stands : (table : ℕ) → Among table asked.from → list_any (is_compared_of cat.schema table) asked.conditions ≡ false
+  unlisted_stands : (table : ℕ) → Among table asked.from → list_any (is_visible_group cat.schema table) asked.conditions ≡ false
       → stands_along cat.schema database given plan.top identifier table ≡ true
   unlisted_stands table among none =
       let below = below_top cat asked plan plan_is knows.text knows.meant knows.tree one accepted table (among_is table asked.from among) in
@@ -535,14 +546,14 @@ module _ (cat : Catalog) (asked : Query) (plan : RowPlan) (plan_is : IsPlan cat 
       ap (λ o. is_kept_row o (reply_about table given)) lands.led ∙ whole_stands table lands.reached lands.row lands.stands among none
 
   module _ (holds : list_all (holds_or_asked_along cat.schema (known_along cat.schema database given plan.top identifier)) (filter (is_tested cat.schema) asked.conditions) ≡ true)
-      (stands : list_all (stands_along cat.schema database given plan.top identifier) (filter (λ table. list_any (is_compared_of cat.schema table) asked.conditions) asked.from) ≡ true) where
+      (stands : list_all (stands_along cat.schema database given plan.top identifier) (filter (λ table. list_any (is_visible_group cat.schema table) asked.conditions) asked.from) ≡ true) where
     each_stands : (table : ℕ) → Among table (filter (is_asked cat.schema asked) asked.from) → stands_along cat.schema database given plan.top identifier table ≡ true
-    each_stands table among = by (list_any (is_compared_of cat.schema table) asked.conditions) refl (from_filter (is_asked cat.schema asked) table asked.from among).0
+    each_stands table among = by (list_any (is_visible_group cat.schema table) asked.conditions) refl (from_filter (is_asked cat.schema asked) table asked.from among).0
       where
-        by : (b : Bool) → list_any (is_compared_of cat.schema table) asked.conditions ≡ b → Among table asked.from → stands_along cat.schema database given plan.top identifier table ≡ true
+        by : (b : Bool) → list_any (is_visible_group cat.schema table) asked.conditions ≡ b → Among table asked.from → stands_along cat.schema database given plan.top identifier table ≡ true
         by true e from =
-            pass_each (stands_along cat.schema database given plan.top identifier) (filter (λ t. list_any (is_compared_of cat.schema t) asked.conditions) asked.from) stands table
-            (among-filter (λ t. list_any (is_compared_of cat.schema t) asked.conditions) table asked.from from e)
+            pass_each (stands_along cat.schema database given plan.top identifier) (filter (λ t. list_any (is_visible_group cat.schema t) asked.conditions) asked.from) stands table
+            (among-filter (λ t. list_any (is_visible_group cat.schema t) asked.conditions) table asked.from from e)
         by false e from = unlisted_stands table from e
 
     tested_hold : (b : Bool) → list_all (holds_or_asked_along cat.schema (known_along cat.schema database given plan.top identifier)) (conditions_tested cat.schema asked b) ≡ true
@@ -592,10 +603,10 @@ module _ (schema : Schema) (database : Database) (asked : Query) (given other : 
 
 -- joins hold, however often each stands
 joins_aside : (schema : Schema) (value : Field → Option Value) (conditions : List Condition)
-    → list_all (holds_or_asked_along schema value) (filter is_comparison conditions) ≡ list_all (holds_or_asked_along schema value) conditions
+    → list_all (holds_or_asked_along schema value) (filter is_group conditions) ≡ list_all (holds_or_asked_along schema value) conditions
 joins_aside schema value [] = refl
-joins_aside schema value (Compare column operator literal ∷ conditions) =
-    ap (λ rest. holds_or_asked_along schema value (Compare column operator literal) && rest) (joins_aside schema value conditions)
+joins_aside schema value (OneOf first others ∷ conditions) =
+    ap (λ rest. holds_or_asked_along schema value (OneOf first others) && rest) (joins_aside schema value conditions)
 joins_aside schema value (Join left right ∷ conditions) = joins_aside schema value conditions
 
 all_behind : {X : Type 0} (p : X → Bool) (xs ys : List X) → list_all p xs ≡ true → list_all p (xs ++ ys) ≡ list_all p ys
@@ -610,7 +621,7 @@ linked_row schema database asked meant given top identifier once =
     let value = known_along schema database given top identifier in
     ap (λ (q : Query). known_row schema database q given top identifier) once
     ∙ ap (λ held. if list_all (stands_along schema database given top identifier) meant.from && held then told value meant.select ∷ [] else [])
-    (all_behind (holds_or_asked_along schema value) (joins_of schema meant.from) (filter is_comparison meant.conditions)
+    (all_behind (holds_or_asked_along schema value) (joins_of schema meant.from) (filter is_group meant.conditions)
     (joins_pass (holds_or_asked_along schema value) (λ left right. refl) schema meant.from meant.from)
     ∙ joins_aside schema value meant.conditions)
 

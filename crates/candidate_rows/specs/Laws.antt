@@ -4,7 +4,8 @@ use Rattle.std.specs.List.{list_all, list_any}
 use Rattle.ghost_model.specs.core.Schema.{Schema, is_visible}
 use Rattle.ghost_model.specs.core.Values.{Database}
 use Rattle.ghost_model.specs.core.Channel.{Catalog}
-use Rattle.ghost_model.specs.core.Query.{Query, Field, Condition, Compare, Join, is_among}
+use Rattle.ghost_model.specs.core.Query.{Query, Field, Condition, OneOf, Join, is_among}
+use Rattle.ghost_model.specs.core.Groups.{some_of}
 use Rattle.ghost_model.specs.core.Asks.{ask_for}
 use Rattle.ghost_model.specs.core.Replies.{Reply, reply_about}
 use Rattle.ghost_laws.specs.Scans.{known_along, holds_or_asked_along, stands_along}
@@ -63,12 +64,13 @@ WholeRepliesAreToAsks =
     (schema : Schema) (asked : Query) (given : List Reply) → AreWholeReplies schema asked given
     → (table : ℕ) (reply : Reply) → reply_about table given ≡ Some reply → reply.ask ≡ ask_for schema asked table
 
--- whether a query selects a column of another table than the top one, or compares a visible one with a literal
+-- whether a query selects a column of another table than the top one, or has a visible one in a group
 abbrev pub is_of_other : (top : ℕ) → Field → Bool
 is_of_other top field = not (nat_eq field.table top)
 
 abbrev pub compares_other : Schema → (top : ℕ) → Condition → Bool
-compares_other schema top (Compare field operator literal) = is_of_other top field && is_visible schema field.table field.column
+compares_other schema top (OneOf first others) =
+    some_of (λ one. is_of_other top one.field && is_visible schema one.field.table one.field.column) first others
 compares_other schema top (Join one other) = false
 
 abbrev pub wants_below : Schema → Query → (top : ℕ) → Bool

@@ -18,8 +18,8 @@ pub fn rows_cost_their_work()
     accepted_queries_are_followed();
 }
 
-/// A row of the top table is one of the answer where it meets all conditions on hidden columns and identifiers, and stands in the
-/// replies of all tables with conditions on visible columns.
+/// A row of the top table is one of the answer where it meets all groups with a hidden column or an identifier, and stands in the
+/// replies of all tables with a visible group.
 pub fn rows_that_meet_all_are_answers()
     ensures answers { RowsThatMeetAllAreAnswers }
 {

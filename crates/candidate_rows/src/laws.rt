@@ -33,7 +33,7 @@ pub fn whole_replies_are_all()
 {}
 
 /// A plan of candidates has the subtree key table of the top table only where a column of another table is selected, or a visible one
-/// compared with a literal.
+/// stands in a group.
 pub fn records_are_wanted()
     ensures wanted { RecordsAreWanted }
 {}

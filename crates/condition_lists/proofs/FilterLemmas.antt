@@ -1,30 +1,31 @@
--- In an accepted query each condition that is the key's to test is a term, and so is each reply to an ask with conditions.
+-- In an accepted query each condition that is the key's to test is a term or holds of all rows, and so is each reply to an ask with conditions.
 use Rattle.std.proofs.Common.{◌≡◌, ◌∙◌, refl, ap, ap₂, sym, ℕ, zero, suc, ◌<◌, inl, inr, Bool, true, false, ◌&&◌, nat_eq, nat_lt, List, [], ◌∷◌, ◌++◌, length, get_or, filter, flat_map, slice_get, Option, Some, None, if◌then◌else◌, arith}
-use Rattle.std.specs.Prelude.{◌||◌, not, cond, position, is_some}
+use Rattle.std.specs.Prelude.{◌||◌, ◌⊎◌, not, cond, position, is_some}
 use Rattle.std.specs.List.{list_all, list_any, position_or_len}
 use Rattle.std.specs.Option.{option_map_or}
 use Rattle.std.proofs.lemmas.Bool.{cases_lt, eqb-true, lt-ltb}
 use Rattle.std.proofs.lemmas.Bool.Decides.{nat_tests}
 use Rattle.std.proofs.lemmas.List.Sums.{fails_before_first}
 use Rattle.std.proofs.lemmas.Option.{slice_get-get_or, slice_get_within}
-use Rattle.ghost_model.specs.core.Schema.{Schema, Column, column_at, is_shown, is_visible, parent, first_of}
-use Rattle.ghost_model.specs.core.Values.{Value}
-use Rattle.ghost_model.specs.core.Query.{Query, Field, Condition, Compare, Join, is_among, top_of}
+use Rattle.ghost_model.specs.core.Schema.{Schema, Column, plain_of, column_at, is_nullable, is_shown, is_visible, parent, first_of}
+use Rattle.ghost_model.specs.core.Query.{Query, Field, Test, Compared, IsNull, IsNotNull, Member, Condition, OneOf, Join, tested, is_among, top_of}
 use Rattle.ghost_model.specs.core.Database.{is_of_kind}
-use Rattle.ghost_model.specs.core.Asks.{kind_or_none}
+use Rattle.ghost_model.specs.core.Asks.{kind_at, kind_or_none}
 use Rattle.ghost_model.specs.forms.Layout.{levels_of}
 use Rattle.ghost_model.specs.laws.LayoutLaws.{LevelsAreAncestors}
 use Rattle.ghost_model.specs.laws.MeaningLaws.{IsAtOrBelow}
-use Rattle.ghost_model.specs.laws.QueryLaws.{OneReading}
+use Rattle.ghost_model.specs.laws.QueryLaws.{OneReading, is_lone}
 use Rattle.ghost_model.specs.laws.SchemaTrees.{IsTree}
 use Rattle.ghost_model.proofs.MeaningLemmas.OneRow.{Among, among_is, both_true, either_true}
+use Rattle.ghost_model.proofs.SessionLemmas.Members.{each_true}
 use Rattle.ghost_laws.specs.Followed.{IsFollowed, AcceptedQueriesAreFollowed, is_column_from, is_condition_from}
 use Rattle.ghost_laws.proofs.ScanLemmas.Accepted.{pass_each}
-use Rattle.spj_parse.specs.Resolved.{IsMeant, joins_of, join_to, join_with, join_by, keys_between, is_comparison}
+use Rattle.spj_parse.specs.Resolved.{IsMeant, joins_of, join_to, join_with, join_by, keys_between, is_group}
 use Rattle.leakless_plan.specs.declared.form.Form.{Form}
-use Rattle.ghost_laws.specs.Asking.{is_tested, is_compared_of}
-use Rattle.condition_lists.specs.Terms.{has_level, is_listed, is_replied, is_compared, is_united}
-use Rattle.condition_lists.proofs.KindLemmas.{fits_if, fits_column, literals_fit}
+use Rattle.leakless_plan.specs.Choices.{compares_visible}
+use Rattle.ghost_laws.specs.Asking.{is_tested}
+use Rattle.condition_lists.specs.Terms.{has_level, has_lists, is_listed, is_replied, is_compared, is_united}
+use Rattle.condition_lists.proofs.KindLemmas.{fits_if, fits_test, fits_column, literals_fit}
 use Rattle.condition_lists.proofs.RowLemmas.{in_schema}
 
 -- ---- lists
@@ -33,6 +34,25 @@ pub filters_agree : {X : Type 0} (p q : X → Bool) (xs : List X) → ((x : X) �
 filters_agree p q [] each = refl
 filters_agree p q (x ∷ xs) each =
     ap₂ (λ b ys. if b then x ∷ ys else ys) (each x (inl refl)) (filters_agree p q xs (λ y a. each y (inr a)))
+
+-- filters differ in elements of which something holds: then it holds of all that the one leaves where it does of all the other leaves
+pub filters_hold : {X : Type 0} (p q h : X → Bool) (xs : List X) → ((x : X) → Among x xs → (p x ≡ q x) ⊎ (h x ≡ true))
+    → list_all h (filter p xs) ≡ list_all h (filter q xs)
+filters_hold p q h [] each = refl
+filters_hold {X = X} p q h (x ∷ xs) each = by (filters_hold p q h xs (λ y a. each y (inr a))) (each x (inl refl))
+  where
+    left_out : h x ≡ true → (b : Bool) (ys : List X) → list_all h (if b then x ∷ ys else ys) ≡ list_all h ys
+    left_out held true ys = ap (λ c. c && list_all h ys) held
+    left_out held false ys = refl
+
+    both : list_all h (filter p xs) ≡ list_all h (filter q xs) → (b : Bool) → list_all h (if b then x ∷ filter p xs else filter p xs) ≡ list_all h (if b then x ∷ filter q xs else filter q xs)
+    both rest true = ap (λ c. h x && c) rest
+    both rest false = rest
+
+    by : list_all h (filter p xs) ≡ list_all h (filter q xs) → (p x ≡ q x) ⊎ (h x ≡ true)
+        → list_all h (if p x then x ∷ filter p xs else filter p xs) ≡ list_all h (if q x then x ∷ filter q xs else filter q xs)
+    by rest (inl same) = ap (λ b. list_all h (if b then x ∷ filter p xs else filter p xs)) same ∙ both rest (q x)
+    by rest (inr held) = left_out held (p x) (filter p xs) ∙ rest ∙ sym (left_out held (q x) (filter q xs))
 
 all_both : {X : Type 0} (p : X → Bool) (xs ys : List X) → list_all p xs ≡ true → list_all p ys ≡ true → list_all p (xs ++ ys) ≡ true
 all_both p [] ys a b = b
@@ -64,18 +84,23 @@ shown_there : (o : Option Column) → is_shown o ≡ true → (held : Column) ×
 shown_there None e = absurd (cc (e))
 shown_there (Some held) e = (held, refl)
 
-pub compared_there : (schema : Schema) (table : ℕ) (conditions : List Condition) → list_any (is_compared_of schema table) conditions ≡ true → table < length schema
+visible_there : (schema : Schema) (table : ℕ) (wanted : Field) → (nat_eq wanted.table table && is_visible schema wanted.table wanted.column) ≡ true → table < length schema
+visible_there schema table wanted e =
+    let both = both_true (nat_eq wanted.table table) (is_visible schema wanted.table wanted.column) e in
+    let seen = both_true (nat_lt 0 wanted.column) (is_shown (column_at schema wanted.table wanted.column)) both.1 in
+    let held = shown_there (column_at schema wanted.table wanted.column) seen.1 in
+    let inside = in_schema schema wanted.table wanted.column held.0 held.1 in
+    let same = eqb-true wanted.table table both.0 in
+    omega (arith, inside, same)
+
+pub compared_there : (schema : Schema) (table : ℕ) (conditions : List Condition) → list_any (compares_visible schema table) conditions ≡ true → table < length schema
 compared_there schema table [] e = absurd (cc (e))
 compared_there schema table (Join one other ∷ conditions) e = compared_there schema table conditions e
-compared_there schema table (Compare wanted operator literal ∷ conditions) e =
-    elim (either_true (is_compared_of schema table (Compare wanted operator literal)) (list_any (is_compared_of schema table) conditions) e) [
-      | inl here ↦ (
-          let both = both_true (nat_eq wanted.table table) (is_visible schema wanted.table wanted.column) here in
-          let seen = both_true (nat_lt 0 wanted.column) (is_shown (column_at schema wanted.table wanted.column)) both.1 in
-          let held = shown_there (column_at schema wanted.table wanted.column) seen.1 in
-          let inside = in_schema schema wanted.table wanted.column held.0 held.1 in
-          let same = eqb-true wanted.table table both.0 in
-          omega (arith, inside, same))
+compared_there schema table (OneOf first others ∷ conditions) e =
+    elim (either_true (compares_visible schema table (OneOf first others)) (list_any (compares_visible schema table) conditions) e) [
+      | inl here ↦
+          visible_there schema table first.field
+          (each_true (λ (one : Member). nat_eq one.field.table table && is_visible schema one.field.table one.field.column) first first others here (inl refl))
       | inr later ↦ compared_there schema table conditions later
     ]
 
@@ -96,43 +121,105 @@ module _ (schema : Schema) (tree : IsTree schema) (levels : LevelsAreAncestors) 
   three true fits level f l = ap₂ (λ a b. a && b) f l
   three false fits level f l = refl
 
-  by_column : (o : Option Column) (declared : Column) → o ≡ Some declared → (literal : Value) → fits_if o literal ≡ true → (level : Bool) → level ≡ true
-      → ((option_map_or (λ (held : Column). held.hidden) o false && is_of_kind (kind_or_none o) literal) && level) ≡ not (is_shown o)
-  by_column None declared e literal fits level l = absurd (cc (e))
-  by_column (Some column) declared e literal fits level l = three column.hidden (is_of_kind column.kind literal) level fits l
+  by_column : (o : Option Column) (declared : Column) → o ≡ Some declared → (fits level : Bool) → fits ≡ true → level ≡ true
+      → ((option_map_or (λ (held : Column). held.hidden) o false && fits) && level) ≡ not (is_shown o)
+  by_column None declared e fits level f l = absurd (cc (e))
+  by_column (Some column) declared e fits level f l = three column.hidden fits level f l
 
-  listed_by : (wanted : Field) (column : ℕ) (declared : Column) → column_at schema wanted.table column ≡ Some declared → (literal : Value)
-      → fits_if (column_at schema wanted.table column) literal ≡ true → has_level schema top wanted.table ≡ true
-      → ((nat_eq column 0 || (option_map_or (λ (held : Column). held.hidden) (column_at schema wanted.table column) false && is_of_kind (kind_or_none (column_at schema wanted.table column)) literal))
-      && has_level schema top wanted.table)
-      ≡ not (is_visible schema wanted.table column)
-  listed_by wanted zero declared there literal fits level = level
-  listed_by wanted (suc before) declared there literal fits level =
-      let differ : nat_eq (suc before) 0 ≡ false = grind (arith, nat_tests) in
+  after_first : (table before : ℕ) → not (is_shown (column_at schema table (suc before))) ≡ not (is_visible schema table (suc before))
+  after_first table before =
       let after : nat_lt 0 (suc before) ≡ true = lt-ltb 0 (suc before) (omega arith) in
-      let o = column_at schema wanted.table (suc before) in
-      ap (λ b. (b || (option_map_or (λ (held : Column). held.hidden) o false && is_of_kind (kind_or_none o) literal)) && has_level schema top wanted.table) differ
-      ∙ by_column o declared there literal fits (has_level schema top wanted.table) level
-      ∙ sym (ap (λ b. not (b && is_shown o)) after)
+      sym (ap (λ b. not (b && is_shown (column_at schema table (suc before)))) after)
 
-  -- a condition of FROM tables, with a literal of the column's kind
+  listed_by : (wanted : Field) (column : ℕ) (declared : Column) → column_at schema wanted.table column ≡ Some declared
+      → (fits : Bool) → fits ≡ true → has_level schema top wanted.table ≡ true
+      → ((nat_eq column 0 || (option_map_or (λ (held : Column). held.hidden) (column_at schema wanted.table column) false && fits)) && has_level schema top wanted.table)
+      ≡ not (is_visible schema wanted.table column)
+  listed_by wanted zero declared there fits f level = level
+  listed_by wanted (suc before) declared there fits f level =
+      let differ : nat_eq (suc before) 0 ≡ false = grind (arith, nat_tests) in
+      let o = column_at schema wanted.table (suc before) in
+      ap (λ b. (b || (option_map_or (λ (held : Column). held.hidden) o false && fits)) && has_level schema top wanted.table) differ
+      ∙ by_column o declared there fits (has_level schema top wanted.table) f level
+      ∙ after_first wanted.table before
+
+  -- an identifier cannot be NULL
+  nullable_listed : (wanted : Field) (column : ℕ) (declared : Column) → column_at schema wanted.table column ≡ Some declared
+      → is_nullable (kind_at schema wanted.table column) ≡ true → has_level schema top wanted.table ≡ true
+      → ((option_map_or (λ (held : Column). held.hidden) (column_at schema wanted.table column) false && is_nullable (kind_at schema wanted.table column)) && has_level schema top wanted.table)
+      ≡ not (is_visible schema wanted.table column)
+  nullable_listed wanted zero declared there nullable level =
+      let first = ap (λ o. is_nullable (kind_or_none o)) (tree.begins_with_id wanted.table (in_schema schema wanted.table 0 declared there)) in
+      absurd (clash nullable first)
+    where
+      clash : {b : Bool} → b ≡ true → b ≡ false → ⊥
+      clash t f = cc
+  nullable_listed wanted (suc before) declared there nullable level =
+      by_column (column_at schema wanted.table (suc before)) declared there (is_nullable (kind_at schema wanted.table (suc before))) (has_level schema top wanted.table) nullable level
+      ∙ after_first wanted.table before
+
+  -- a test alone of a column of FROM tables, with a literal of the column's kind where it has one
+  abbrev is_alone : Condition → Bool
+  is_alone (OneOf first []) = true
+  is_alone (OneOf first (next ∷ others)) = false
+  is_alone (Join one other) = true
+
   abbrev is_sound : List ℕ → Condition → Bool
-  is_sound from (Compare wanted operator literal) = is_column_from schema from wanted && fits_if (column_at schema wanted.table wanted.column) literal
+  is_sound from (OneOf first others) =
+      is_alone (OneOf first others) && (is_condition_from schema from (OneOf first others) && fits_column schema (OneOf first others))
   is_sound from (Join one other) = true
+
+  lone_is_alone : (condition : Condition) → is_lone condition ≡ true → is_alone condition ≡ true
+  lone_is_alone (OneOf first []) e = refl
+  lone_is_alone (OneOf first (next ∷ others)) e = absurd (cc (e))
+  lone_is_alone (Join one other) e = refl
 
   there_is : {X : Type 0} (o : Option X) → is_some o ≡ true → (x : X) × (o ≡ Some x)
   there_is None e = absurd (cc (e))
   there_is (Some x) e = (x, refl)
 
-  listed_is_tested : (from : List ℕ) → ((table : ℕ) → is_among from table ≡ true → IsAtOrBelow schema top table)
-      → (condition : Condition) → is_sound from condition ≡ true → is_listed schema top condition ≡ is_tested schema condition
-  listed_is_tested from below (Join one other) e = refl
-  listed_is_tested from below (Compare wanted operator literal) e =
-      let both = both_true (is_column_from schema from wanted) (fits_if (column_at schema wanted.table wanted.column) literal) e in
-      let parts = both_true (is_among from wanted.table) (is_some (column_at schema wanted.table wanted.column)) both.0 in
-      let declared = there_is (column_at schema wanted.table wanted.column) parts.1 in
-      listed_by wanted wanted.column declared.0 declared.1 literal both.1
-      (leveled wanted.table (in_schema schema wanted.table wanted.column declared.0 declared.1) (below wanted.table parts.0))
+  -- what holds of each row where IS NOT NULL of a column that cannot be NULL does
+  module _ (held : Condition → Bool)
+      (always : (wanted : Field) (declared : Column) → column_at schema wanted.table wanted.column ≡ Some declared → is_nullable declared.kind ≡ false
+      → IsAtOrBelow schema top wanted.table → held (OneOf (tested wanted IsNotNull) []) ≡ true)
+      (from : List ℕ) (below : (table : ℕ) → is_among from table ≡ true → IsAtOrBelow schema top table) where
+    test_is_tested : (wanted : Field) (test : Test) (declared : Column) → column_at schema wanted.table wanted.column ≡ Some declared
+        → IsAtOrBelow schema top wanted.table → has_level schema top wanted.table ≡ true → fits_test (column_at schema wanted.table wanted.column) test ≡ true
+        → ((has_lists schema wanted test && has_level schema top wanted.table) ≡ not (is_visible schema wanted.table wanted.column)) ⊎ (held (OneOf (tested wanted test) []) ≡ true)
+    test_is_tested wanted (Compared operator literal) declared there low level fits =
+        inl (listed_by wanted wanted.column declared there (is_of_kind (plain_of (kind_at schema wanted.table wanted.column)) literal) (literal_fits (column_at schema wanted.table wanted.column) there fits) level)
+      where
+        literal_fits : (o : Option Column) → o ≡ Some declared → fits_if o literal ≡ true → is_of_kind (plain_of (kind_or_none o)) literal ≡ true
+        literal_fits None e f = absurd (cc (e))
+        literal_fits (Some column) e f = f
+    test_is_tested wanted IsNull declared there low level fits =
+        inl
+        (ap (λ b. (nat_eq wanted.column 0 || b) && has_level schema top wanted.table) (both_so (option_map_or (λ (one : Column). one.hidden) (column_at schema wanted.table wanted.column) false))
+        ∙ listed_by wanted wanted.column declared there true refl level)
+      where
+        both_so : (b : Bool) → b ≡ (b && true)
+        both_so true = refl
+        both_so false = refl
+    test_is_tested wanted IsNotNull declared there low level fits = by (is_nullable (kind_at schema wanted.table wanted.column)) refl
+      where
+        by : (b : Bool) → is_nullable (kind_at schema wanted.table wanted.column) ≡ b
+            → ((has_lists schema wanted IsNotNull && has_level schema top wanted.table) ≡ not (is_visible schema wanted.table wanted.column))
+            ⊎ (held (OneOf (tested wanted IsNotNull) []) ≡ true)
+        by true e = inl (nullable_listed wanted wanted.column declared there e level)
+        by false e = inr (always wanted declared there (sym (ap (λ o. is_nullable (kind_or_none o)) there) ∙ e) low)
+
+    listed_is_tested : (condition : Condition) → is_sound from condition ≡ true
+        → (is_listed schema top condition ≡ is_tested schema condition) ⊎ (held condition ≡ true)
+    listed_is_tested (Join one other) e = inl refl
+    listed_is_tested (OneOf first (next ∷ others)) e = absurd (cc (e))
+    listed_is_tested (OneOf first []) e =
+        let wanted = first.field in
+        let both = both_true (is_column_from schema from wanted) (fits_test (column_at schema wanted.table wanted.column) first.test) e in
+        let parts = both_true (is_among from wanted.table) (is_some (column_at schema wanted.table wanted.column)) both.0 in
+        let declared = there_is (column_at schema wanted.table wanted.column) parts.1 in
+        let low = below wanted.table parts.0 in
+        test_is_tested wanted first.test declared.0 declared.1 low
+        (leveled wanted.table (in_schema schema wanted.table wanted.column declared.0 declared.1) low) both.1
 
   -- ---- the conditions of a query with each of its joins once
 
@@ -153,16 +240,18 @@ module _ (schema : Schema) (tree : IsTree schema) (levels : LevelsAreAncestors) 
   joins_sound from (table ∷ tables) =
       all_both (is_sound from) (join_to schema from table) (flat_map (join_to schema from) tables) (joins_with from table (parent schema table)) (joins_sound from tables)
 
-  comparisons_sound : (from : List ℕ) (conditions : List Condition) → list_all (is_condition_from schema from) conditions ≡ true → list_all (fits_column schema) conditions ≡ true
-      → list_all (is_sound from) (filter is_comparison conditions) ≡ true
-  comparisons_sound from [] all fit = refl
-  comparisons_sound from (Compare wanted operator literal ∷ conditions) all fit =
-      let both = both_true (is_condition_from schema from (Compare wanted operator literal)) (list_all (is_condition_from schema from) conditions) all in
-      let fits = both_true (fits_column schema (Compare wanted operator literal)) (list_all (fits_column schema) conditions) fit in
-      ap₂ (λ c d. c && d) (ap₂ (λ c d. c && d) both.0 fits.0) (comparisons_sound from conditions both.1 fits.1)
-  comparisons_sound from (Join one other ∷ conditions) all fit =
+  groups_sound : (from : List ℕ) (conditions : List Condition) → list_all is_lone conditions ≡ true → list_all (is_condition_from schema from) conditions ≡ true
+      → list_all (fits_column schema) conditions ≡ true → list_all (is_sound from) (filter is_group conditions) ≡ true
+  groups_sound from [] lone all fit = refl
+  groups_sound from (OneOf first others ∷ conditions) lone all fit =
+      let alone = both_true (is_lone (OneOf first others)) (list_all is_lone conditions) lone in
+      let single = lone_is_alone (OneOf first others) alone.0 in
+      let both = both_true (is_condition_from schema from (OneOf first others)) (list_all (is_condition_from schema from) conditions) all in
+      let fits = both_true (fits_column schema (OneOf first others)) (list_all (fits_column schema) conditions) fit in
+      ap₂ (λ c d. c && d) (ap₂ (λ c d. c && d) single (ap₂ (λ c d. c && d) both.0 fits.0)) (groups_sound from conditions alone.1 both.1 fits.1)
+  groups_sound from (Join one other ∷ conditions) lone all fit =
       let both = both_true (is_condition_from schema from (Join one other)) (list_all (is_condition_from schema from) conditions) all in
-      comparisons_sound from conditions both.1 (both_true true (list_all (fits_column schema) conditions) fit).1
+      groups_sound from conditions lone both.1 fit
 
   -- the reply of a table is a term where the table is compared and united
   replied_is_compared : (asked : Query) (forms : List (Option Form)) (table : ℕ) → IsAtOrBelow schema top table
@@ -189,15 +278,18 @@ module _ (schema : Schema) (tree : IsTree schema) (levels : LevelsAreAncestors) 
     all_sound : list_all (is_sound asked.from) asked.conditions ≡ true
     all_sound =
         ap (λ (q : Query). list_all (is_sound q.from) q.conditions) read.once
-        ∙ all_both (is_sound read.meant.from) (joins_of schema read.meant.from) (filter is_comparison read.meant.conditions)
+        ∙ all_both (is_sound read.meant.from) (joins_of schema read.meant.from) (filter is_group read.meant.conditions)
         (joins_sound read.meant.from read.meant.from)
-        (comparisons_sound read.meant.from read.meant.conditions follows.conditions
+        (groups_sound read.meant.from read.meant.conditions follows.lone follows.conditions
         (literals_fit schema text read.meant ((one.meaning schema text read.meant).0 read.reads)))
 
-    pub conditions_are : filter (is_listed schema top) asked.conditions ≡ filter (is_tested schema) asked.conditions
-    conditions_are =
-        filters_agree (is_listed schema top) (is_tested schema) asked.conditions
-        (λ c a. listed_is_tested asked.from below_top c (pass_each (is_sound asked.from) asked.conditions all_sound c a))
+    pub conditions_hold : (held : Condition → Bool)
+        → ((wanted : Field) (declared : Column) → column_at schema wanted.table wanted.column ≡ Some declared → is_nullable declared.kind ≡ false
+        → IsAtOrBelow schema top wanted.table → held (OneOf (tested wanted IsNotNull) []) ≡ true)
+        → list_all held (filter (is_listed schema top) asked.conditions) ≡ list_all held (filter (is_tested schema) asked.conditions)
+    conditions_hold held always =
+        filters_hold (is_listed schema top) (is_tested schema) held asked.conditions
+        (λ c a. listed_is_tested held always asked.from below_top c (pass_each (is_sound asked.from) asked.conditions all_sound c a))
 
     pub tables_are : (forms : List (Option Form))
         → filter (is_replied schema asked forms top) asked.from ≡ filter (λ table. is_compared schema asked table && is_united forms top table) asked.from

@@ -3,7 +3,7 @@ use Rattle.std.proofs.Common.{◌≡◌, ◌∙◌, refl, ap, ap₂, sym, ℕ, �
 use Rattle.std.specs.Prelude.{◌||◌}
 use Rattle.std.proofs.lemmas.Bool.{and_parts, ltb-true, lt-ltb, le-leb}
 use Rattle.ghost_model.specs.core.Values.{Value, Number}
-use Rattle.ghost_model.specs.core.Query.{Operator}
+use Rattle.ghost_model.specs.core.Query.{Operator, Compared}
 use Rattle.climbing_index.specs.declared.search.Bound.{Bound}
 use Rattle.climbing_index.specs.declared.search.Group.{Group}
 use Rattle.climbing_index.specs.Ids.{IsBetweenIds, id_before, is_id_between}
@@ -57,7 +57,7 @@ nothing : (a : Bool) → (a || false) ≡ a
 nothing true = refl
 nothing false = refl
 
-pub ids_of_one : (rows : ℕ) (operator : Operator) (literal : Value) (bounds : Bounds) (first second : Group) → AreBoundsOf operator literal bounds
+pub ids_of_one : (rows : ℕ) (operator : Operator) (literal : Value) (bounds : Bounds) (first second : Group) → AreBoundsOf false (Compared operator literal) bounds
     → IsBetweenIds rows (first_of bounds).low (first_of bounds).high first → second_of bounds ≡ None → second.first ≡ 0 → second.count ≡ 0 → AreIdsOf rows operator literal first second
 ids_of_one rows operator literal bounds first second are is none begin count = record {
   first_within = is.within;
@@ -65,11 +65,11 @@ ids_of_one rows operator literal bounds first second are is none begin count = r
   admits = λ entry low.
       ap (λ b. is_in first entry || b) (none_in second count entry) ∙ ap (λ a. a || false) (ids_found rows (first_of bounds) first is entry low)
       ∙ ap (λ o. lies_between (first_of bounds) (Number (pos (entry + 1))) || lies_in_second o (Number (pos (entry + 1)))) (sym none)
-      ∙ are.admits (Number (pos (entry + 1))) refl;
+      ∙ are.admits (Number (pos (entry + 1))) (λ none. none);
   behind = λ some other. absurd (omega (arith, other, count));
 }
 
-pub ids_of_two : (rows : ℕ) (operator : Operator) (literal : Value) (bounds : Bounds) (pair : Between) (first second : Group) → AreBoundsOf operator literal bounds
+pub ids_of_two : (rows : ℕ) (operator : Operator) (literal : Value) (bounds : Bounds) (pair : Between) (first second : Group) → AreBoundsOf false (Compared operator literal) bounds
     → IsBetweenIds rows (first_of bounds).low (first_of bounds).high first → second_of bounds ≡ Some pair → IsBetweenIds rows pair.low pair.high second → AreIdsOf rows operator literal first second
 ids_of_two rows operator literal bounds pair first second are is some_is other = record {
   first_within = is.within;
@@ -77,7 +77,7 @@ ids_of_two rows operator literal bounds pair first second are is some_is other =
   admits = λ entry low.
       ap₂ (λ a b. a || b) (ids_found rows (first_of bounds) first is entry low) (ids_found rows pair second other entry low)
       ∙ ap (λ o. lies_between (first_of bounds) (Number (pos (entry + 1))) || lies_in_second o (Number (pos (entry + 1)))) (sym some_is)
-      ∙ are.admits (Number (pos (entry + 1))) refl;
+      ∙ are.admits (Number (pos (entry + 1))) (λ none. none);
   behind = λ some more.
       let last : is_in first (first.first + first.count - 1) ≡ true = to_group first (first.first + first.count - 1) (omega (arith, some), omega (arith, some)) in
       let begin : is_in second second.first ≡ true = to_group second second.first (omega arith, omega (arith, more)) in

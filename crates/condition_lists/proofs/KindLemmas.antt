@@ -5,13 +5,14 @@ use Rattle.std.specs.Option.{option_map}
 use Rattle.std.specs.List.{list_all, list_any}
 use Rattle.std.proofs.lemmas.List.Folds.{list_all-append, list_all-map}
 use Rattle.std.proofs.lemmas.Bool.{ltb-false, le-leb}
-use Rattle.ghost_model.specs.core.Schema.{Schema, Column, Kind, Integer, Chars, IntegerOrNull, CharsOrNull, column_at}
+use Rattle.ghost_model.specs.core.Schema.{Schema, Column, Kind, Integer, Chars, IntegerOrNull, CharsOrNull, plain_of, column_at, column_kind}
 use Rattle.ghost_model.specs.core.Values.{Value, Null, Number, Text, fits_integer}
-use Rattle.ghost_model.specs.core.Query.{Query, Condition, Compare, Join, AtLeast, AtMost}
+use Rattle.ghost_model.specs.core.Query.{Query, Test, Compared, IsNull, IsNotNull, Member, Condition, OneOf, Join, compared, tested, AtLeast, AtMost}
+use Rattle.ghost_model.specs.core.Groups.{each_of, some_of}
 use Rattle.ghost_model.specs.core.Database.{is_of_kind}
 use Rattle.ghost_model.specs.refusals.Tokens.{Symbol, Quoted, EndOfText, Word, AndWord, Comma, is_printable, symbols}
 use Rattle.ghost_model.specs.laws.Spelled.{is_spelled, IsBeforeEnd}
-use Rattle.ghost_model.specs.refusals.QueryGrammar.{ConditionText, Compares, LiesBetween, Joins, LiteralText, Unsigned, Signed, Written, QueryText, spelling, spell_condition, spell_literal, spell_where, spell_column, spell_table, spell_selection}
+use Rattle.ghost_model.specs.refusals.QueryGrammar.{ConditionText, Compares, TestsNull, LiesBetween, Joins, LiteralText, Unsigned, Signed, Written, QueryText, spelling, spell_condition, spell_literal, spell_where, spell_column, spell_table, spell_selection}
 use Rattle.ghost_model.specs.refusals.Grammar.{separated}
 use Rattle.ghost_model.specs.refusals.QueryMeaning as meaning
 use Rattle.ghost_model.proofs.TokenLemmas.{before_end}
@@ -68,7 +69,7 @@ not_not : (b : Bool) → not b ≡ false → b ≡ true
 not_not true e = refl
 not_not false e = absurd (false_is_not (sym e))
 
-by_kind : (kind : Kind) (value : Value) → meaning.is_other_kind (Some kind) value ≡ false → meaning.is_too_large (Some kind) value ≡ false → is_plain value ≡ true → is_of_kind kind value ≡ true
+by_kind : (kind : Kind) (value : Value) → meaning.is_other_kind (Some kind) value ≡ false → meaning.is_too_large (Some kind) value ≡ false → is_plain value ≡ true → is_of_kind (plain_of kind) value ≡ true
 by_kind kind Null a b c = absurd (false_is_not c)
 by_kind Integer (Number z) a b c = not_not (fits_integer z) b
 by_kind Integer (Text text) a b c = absurd (false_is_not (sym a))
@@ -79,21 +80,38 @@ by_kind IntegerOrNull (Text text) a b c = absurd (false_is_not (sym a))
 by_kind (CharsOrNull most) (Number z) a b c = absurd (false_is_not (sym a))
 by_kind (CharsOrNull most) (Text text) a b c = hold_both _ _ (le-leb (length text) most (ltb-false most (length text) b)) c
 
--- whether a literal is of a column's kind, where there is such a column
+abbrev is_plain_test : Test → Bool
+is_plain_test (Compared operator literal) = is_plain literal
+is_plain_test IsNull = true
+is_plain_test IsNotNull = true
+
+-- whether a literal is of a column's kind and not NULL, where there is such a column
 abbrev pub fits_if : Option Column → Value → Bool
 fits_if None value = true
-fits_if (Some column) value = is_of_kind column.kind value
+fits_if (Some column) value = is_of_kind (plain_of column.kind) value
+
+-- so of the literal of a test, where it has one, and of those of a condition
+abbrev pub fits_test : Option Column → Test → Bool
+fits_test o (Compared operator literal) = fits_if o literal
+fits_test o IsNull = true
+fits_test o IsNotNull = true
 
 abbrev pub fits_column : Schema → Condition → Bool
-fits_column schema (Compare field operator value) = fits_if (column_at schema field.table field.column) value
+fits_column schema (OneOf first others) = each_of (λ one. fits_test (column_at schema one.field.table one.field.column) one.test) first others
 fits_column schema (Join left right) = true
 
 by_column : (o : Option Column) (value : Value) → meaning.is_other_kind (option_map (λ column. column.kind) o) value ≡ false → meaning.is_too_large (option_map (λ column. column.kind) o) value ≡ false → is_plain value ≡ true → fits_if o value ≡ true
 by_column None value a b c = refl
 by_column (Some column) value a b c = by_kind column.kind value a b c
 
+by_test : (o : Option Column) (test : Test) → meaning.fails_with (meaning.is_other_kind (option_map (λ column. column.kind) o)) test ≡ false
+    → meaning.fails_with (meaning.is_too_large (option_map (λ column. column.kind) o)) test ≡ false → is_plain_test test ≡ true → fits_test o test ≡ true
+by_test o (Compared operator literal) a b c = by_column o literal a b c
+by_test o IsNull a b c = refl
+by_test o IsNotNull a b c = refl
+
 abbrev is_plain_condition : Condition → Bool
-is_plain_condition (Compare field operator value) = is_plain value
+is_plain_condition (OneOf first others) = each_of (λ one. is_plain_test one.test) first others
 is_plain_condition (Join left right) = true
 
 all_from_three : {X : Type 0} (p q r s : X → Bool) (xs : List X) → ((x : X) → p x ≡ true → q x ≡ true → r x ≡ true → s x ≡ true) → list_all p xs ≡ true → list_all q xs ≡ true → list_all r xs ≡ true → list_all s xs ≡ true
@@ -104,9 +122,18 @@ all_from_three p q r s (x ∷ xs) h a b c =
     let three : BothHold (r x) (list_all r xs) = both_hold (r x) (list_all r xs) c in
     hold_both (s x) (list_all s xs) (h x one.one two.one three.one) (all_from_three p q r s xs h one.other two.other three.other)
 
+abbrev test_fails : Schema → (Option Kind → Value → Bool) → Member → Bool
+test_fails schema fails one = meaning.fails_with (fails (column_kind schema one.field.table one.field.column)) one.test
+
 fits_one : (schema : Schema) (condition : Condition) → meaning.literal_fails schema meaning.is_other_kind condition ≡ false → meaning.literal_fails schema meaning.is_too_large condition ≡ false → is_plain_condition condition ≡ true → fits_column schema condition ≡ true
 fits_one schema (Join left right) a b c = refl
-fits_one schema (Compare field operator value) a b c = by_column (column_at schema field.table field.column) value a b c
+fits_one schema (OneOf first []) a b c = by_test (column_at schema first.field.table first.field.column) first.test a b c
+fits_one schema (OneOf first (next ∷ others)) a b c =
+    let kinds = neither (test_fails schema meaning.is_other_kind first) (some_of (test_fails schema meaning.is_other_kind) next others) a in
+    let sizes = neither (test_fails schema meaning.is_too_large first) (some_of (test_fails schema meaning.is_too_large) next others) b in
+    let plain : BothHold (is_plain_test first.test) (each_of (λ one. is_plain_test one.test) next others) = both_hold _ _ c in
+    hold_both _ _ (by_test (column_at schema first.field.table first.field.column) first.test kinds.0 sizes.0 plain.one)
+    (fits_one schema (OneOf next others) kinds.1 sizes.1 plain.other)
 
 fits_each : (schema : Schema) (conditions : List Condition) → list_any (meaning.literal_fails schema meaning.is_other_kind) conditions ≡ false
     → list_any (meaning.literal_fails schema meaning.is_too_large) conditions ≡ false → list_all is_plain_condition conditions ≡ true
@@ -147,13 +174,19 @@ module _ (schema : Schema) (from : List ℕ) where
   plain_conditions : (condition : ConditionText) → list_all is_loose (spell_condition condition) ≡ true → list_all is_plain_condition (meaning.conditions_of schema from condition) ≡ true
   plain_conditions (Compares column operator literal) e =
       let right : BothHold _ (list_all is_loose (spell_literal literal)) = both_hold _ _ (loose_right (spell_column column) _ e) in
-      list_all-map is_plain_condition (λ meant. Compare meant operator (meaning.value_of_literal literal)) (meaning.meanings schema from column)
+      list_all-map is_plain_condition (λ meant. compared meant operator (meaning.value_of_literal literal)) (meaning.meanings schema from column)
       ∙ all_each (λ meant. is_plain (meaning.value_of_literal literal)) (meaning.meanings schema from column) (λ _. plain_literal literal right.other)
+  plain_conditions (TestsNull column false) e =
+      list_all-map is_plain_condition (λ meant. OneOf (tested meant IsNull) []) (meaning.meanings schema from column)
+      ∙ all_each (λ _. true) (meaning.meanings schema from column) (λ _. refl)
+  plain_conditions (TestsNull column true) e =
+      list_all-map is_plain_condition (λ meant. OneOf (tested meant IsNotNull) []) (meaning.meanings schema from column)
+      ∙ all_each (λ _. true) (meaning.meanings schema from column) (λ _. refl)
   plain_conditions (LiesBetween column low high) e =
       let both : list_all is_loose (spell_literal low ++ (Word AndWord ∷ spell_literal high)) ≡ true = loose_right (spell_column column) _ e in
       let first : is_plain (meaning.value_of_literal low) ≡ true = plain_literal low (loose_left (spell_literal low) _ both) in
       let second : is_plain (meaning.value_of_literal high) ≡ true = plain_literal high (loose_right (spell_literal low) _ both) in
-      all_flat is_plain_condition (λ meant. Compare meant AtLeast (meaning.value_of_literal low) ∷ Compare meant AtMost (meaning.value_of_literal high) ∷ []) (meaning.meanings schema from column)
+      all_flat is_plain_condition (λ meant. compared meant AtLeast (meaning.value_of_literal low) ∷ compared meant AtMost (meaning.value_of_literal high) ∷ []) (meaning.meanings schema from column)
       (all_each (λ meant. is_plain (meaning.value_of_literal low) && (is_plain (meaning.value_of_literal high) && true)) (meaning.meanings schema from column)
       (λ _. hold_both _ _ first (hold_both _ _ second refl)))
   plain_conditions (Joins left right) e =

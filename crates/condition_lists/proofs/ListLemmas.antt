@@ -18,12 +18,12 @@ use Rattle.std.proofs.lemmas.List.Elements.{Contains-get_or}
 use Rattle.std.proofs.lemmas.Option.{slice_get_within}
 use Rattle.std.proofs.lemmas.Slice.Eq.{bytes_eq-Decides}
 use Rattle.ghost_model.specs.core.Schema as schema
-use Rattle.ghost_model.specs.core.Schema.{Column, columns_of, column_at, is_table}
+use Rattle.ghost_model.specs.core.Schema.{Column, columns_of, column_at, is_nullable, is_table}
 use Rattle.ghost_model.specs.core.Values.{Value, Row, Database}
 use Rattle.ghost_model.specs.core.Channel.{Catalog}
 use Rattle.ghost_model.specs.core.Database.{is_of_kind, rows_of, row_of, value_at_row, leads}
 use Rattle.ghost_model.specs.core.Asks.{kind_at, kind_or_none}
-use Rattle.ghost_model.specs.core.Query.{Operator}
+use Rattle.ghost_model.specs.core.Query.{Test}
 use Rattle.ghost_model.specs.core.Replies as replies
 use Rattle.ghost_model.specs.core.Replies.{reply_about, row_replied}
 use Rattle.ghost_model.specs.core.Split.{Hidden, hidden_of, RowValues}
@@ -474,10 +474,10 @@ module _ (cat : Catalog) (database : Database) (over : IsOver cat database) (cel
               }
 
   pub ascend : BoundsAreOfValues → CellOrderIsValueOrder → (o : Option Kind) → option_map kind_of o ≡ Some (kind_at cat.schema table column)
-      → (operator : Operator) (literal : Value) (bounds : Bounds) → AreBoundsOf operator literal bounds → AreOfKind o bounds
+      → (test : Test) (bounds : Bounds) → AreBoundsOf (is_nullable (kind_at cat.schema table column)) test bounds → AreOfKind o bounds
       → (values : List (List ℕ)) → AreValues (hidden_cells cat.schema (hidden_of cat.schema database) table column) values
       → (first second : Group) → AreGroupsOf o bounds values first second → second.first + second.count ≤ length values → IsBehind first second
-  ascend bounds_are ordered o kind_is operator literal bounds are of_kind values values_are first second groups within some more =
+  ascend bounds_are ordered o kind_is test bounds are of_kind values values_are first second groups within some more =
       let last = first.first + first.count - 1 in
       let ends : is_in first last ≡ true = to_group first last (omega (arith, some), omega (arith, some)) in
       let begins : is_in second second.first ≡ true = to_group second second.first (omega arith, omega (arith, more)) in

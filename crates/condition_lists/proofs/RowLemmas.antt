@@ -5,6 +5,7 @@ use Rattle.std.specs.Option.{option_map_or}
 use Rattle.ghost_model.specs.core.Schema.{Schema, Table, Column, Kind, Integer, Chars, IntegerOrNull, CharsOrNull, columns_or_none, column_at, is_nullable, is_shown, is_visible}
 use Rattle.ghost_model.specs.core.Values.{Value, Null, Number, Text, Row, Database, is_null}
 use Rattle.ghost_model.specs.core.Channel.{Catalog}
+use Rattle.ghost_model.specs.core.Asks.{kind_at, kind_or_none}
 use Rattle.ghost_model.specs.core.Database.{is_of_kind, row_of, rows_of, value_at_row}
 use Rattle.ghost_model.specs.forms.Layout.{is_hidden, count_of, levels_of}
 use Rattle.ghost_model.specs.laws.LayoutLaws.{LevelsAreAncestors}
@@ -45,7 +46,7 @@ never_hidden schema tree table h =
     clash : (held : Column) → held.hidden ≡ true → Some held ≡ Some identifier → ⊥
     clash held hidden same = let it : held ≡ identifier = cc in let e : true ≡ false = sym hidden ∙ ap (λ (c : Column). c.hidden) it in cc
 
--- for now no value is NULL
+-- a value is NULL only in a column that may be NULL
 kind_not_null : (kind : Kind) (value : Value) → is_nullable kind ≡ false → is_of_kind kind value ≡ true → is_null value ≡ false
 kind_not_null kind (Number n) plain fits = refl
 kind_not_null kind (Text t) plain fits = refl
@@ -54,11 +55,20 @@ kind_not_null (Chars most) Null plain fits = absurd (cc (fits))
 kind_not_null IntegerOrNull Null plain fits = absurd (cc (plain))
 kind_not_null (CharsOrNull most) Null plain fits = absurd (cc (plain))
 
-pub not_null : (cat : Catalog) (database : Database) → IsOver cat database → (table identifier column : ℕ) → is_hidden cat.schema table column ≡ true
-    → (value : Value) → value_at_row database table identifier column ≡ Some value → is_null value ≡ false
-not_null cat database over table identifier column hidden value at =
+pub never_null : (cat : Catalog) (database : Database) → IsOver cat database → (table identifier column : ℕ) (held : Column) → column_at cat.schema table column ≡ Some held
+    → is_nullable held.kind ≡ false → (value : Value) → value_at_row database table identifier column ≡ Some value → is_null value ≡ false
+never_null cat database over table identifier column held there plain value at =
+    kind_not_null held.kind value plain (over.is.kinds table identifier column value held at there)
+
+pub null_if_allowed : (cat : Catalog) (database : Database) → IsOver cat database → (table identifier column : ℕ) → is_hidden cat.schema table column ≡ true
+    → (value : Value) → value_at_row database table identifier column ≡ Some value → is_null value ≡ true → is_nullable (kind_at cat.schema table column) ≡ true
+null_if_allowed cat database over table identifier column hidden value at null =
     let held = some_column (column_at cat.schema table column) hidden in
-    kind_not_null held.0.kind value (over.tree.not_null table column held.0 held.1) (over.is.kinds table identifier column value held.0 at held.1)
+    by (is_nullable held.0.kind) (ap (λ o. is_nullable (kind_or_none o)) held.1) (λ plain. never_null cat database over table identifier column held.0 held.1 plain value at) refl
+  where
+    by : (b : Bool) → is_nullable (kind_at cat.schema table column) ≡ b → (b ≡ false → is_null value ≡ false) → b ≡ b → is_nullable (kind_at cat.schema table column) ≡ true
+    by true e never same = e
+    by false e never same = absurd (let none : is_null value ≡ false = never refl in cc (null, none))
 
 -- a table with a level is the top one or below it
 pub below_by : LevelsAreAncestors → (cat : Catalog) (database : Database) → IsOver cat database → (top table level : ℕ)

@@ -8,8 +8,8 @@ use Rattle.ghost_model.specs.core.Schema.{Schema, is_visible}
 use Rattle.ghost_model.specs.core.Values.{Database}
 use Rattle.ghost_model.specs.core.Channel.{Catalog}
 use Rattle.ghost_model.specs.core.Database.{leads}
-use Rattle.ghost_model.specs.core.Meaning.{compares, no_value}
-use Rattle.ghost_model.specs.core.Query.{Query, Condition, Compare, Join, is_among, top_of}
+use Rattle.ghost_model.specs.core.Meaning.{meets_test, no_value}
+use Rattle.ghost_model.specs.core.Query.{Query, Condition, OneOf, Join, is_among, top_of}
 use Rattle.ghost_model.specs.core.Replies as replies
 use Rattle.ghost_model.specs.core.Replies.{known_value, reply_about}
 use Rattle.ghost_model.specs.core.Split.{hidden_of}
@@ -26,7 +26,7 @@ use Rattle.spj_parse.specs.Resolved.{IsMeant}
 use Rattle.leakless_plan.specs.declared.form.Form.{Form}
 use Rattle.flash_layout.specs.Ranges.{IsRowOf}
 use Rattle.condition_lists.specs.declared.term.Term.{Term}
-use Rattle.condition_lists.specs.Terms.{AreTableTerms, AreTermsBy, AreTermsOf, has_level, is_compared, is_listed, is_replied, is_united, level_in, meets, unites_whole}
+use Rattle.condition_lists.specs.Terms.{AreTableTerms, AreTermsBy, AreTermsOf, has_level, has_lists, is_compared, is_listed, is_replied, is_united, level_in, meets, unites_whole}
 use Rattle.condition_lists.specs.Laws.{IsOver, LeadsInto, leads_into}
 use Rattle.condition_lists.proofs.FilterLemmas.{compared_there, filters_agree, follows, leveled}
 use Rattle.condition_lists.proofs.MeetLemmas.{all_met}
@@ -108,15 +108,14 @@ module _ (cat : Catalog) (database : Database) (over : IsOver cat database) (giv
 
   alike : (condition : Condition) → is_listed cat.schema table condition ≡ true → holds_there condition ≡ holds_above condition
   alike (Join one other) e = refl
-  alike (Compare wanted operator literal) e =
-      let found = some_level (level_in cat.schema table wanted.table) (leveled_part _ (has_level cat.schema table wanted.table) e) in
+  alike (OneOf first []) e =
+      let wanted = first.field in
+      let found = some_level (level_in cat.schema table wanted.table) (both_true (has_lists cat.schema wanted first.test) (has_level cat.schema table wanted.table) e).1 in
       let way = below_level cat.schema over.tree levels table wanted.table found.0 found.1 in
       ap (λ o. if is_visible cat.schema wanted.table wanted.column then true
-      else compares operator (option_and_then (λ r. known_value cat.schema (hidden_of cat.schema database) given wanted.table r wanted.column) o) (Some literal))
+      else meets_test first.test (option_and_then (λ r. known_value cat.schema (hidden_of cat.schema database) given wanted.table r wanted.column) o))
       (sym (led_on cat.schema database keys top table identifier reached below is_led way.0 wanted.table way.1))
-    where
-      leveled_part : (a b : Bool) → (a && b) ≡ true → b ≡ true
-      leveled_part a b e = (both_true a b e).1
+  alike (OneOf first (next ∷ others)) e = absurd (cc (e))
 
   all_alike : (conditions : List Condition)
       → list_all holds_there (filter (is_listed cat.schema table) conditions) ≡ list_all holds_above (filter (is_listed cat.schema table) conditions)

@@ -1,19 +1,18 @@
 -- Which replies are united: a form at each table's place, and the form of united lists at all.
-use Rattle.std.proofs.Common.{◌≡◌, ◌∙◌, refl, ap, ap₂, sym, ℕ, inl, inr, Bool, true, false, ◌&&◌, nat_eq, List, [], ◌∷◌, length, filter, get_or, Contains, Option, Some, None, if◌then◌else◌, arith}
+use Rattle.std.proofs.Common.{◌≡◌, ◌∙◌, refl, ap, ap₂, ℕ, inl, inr, Bool, true, false, ◌&&◌, nat_eq, List, [], ◌∷◌, length, filter, get_or, Contains, Option, Some, None, if◌then◌else◌, arith}
 use Rattle.std.specs.Prelude.{◌⊎◌, ◌||◌, not}
-use Rattle.std.specs.List.{list_all, list_any}
+use Rattle.std.specs.List.{list_all}
 use Rattle.std.specs.Option.{option_map_or}
 use Rattle.std.proofs.lemmas.Bool.Decides.{nat_tests}
 use Rattle.std.proofs.lemmas.List.FromFn.{get_or-map-range_with_len}
 use Rattle.ghost_model.specs.core.Schema.{Schema, is_table}
 use Rattle.ghost_model.specs.core.Channel.{Catalog}
-use Rattle.ghost_model.specs.core.Query.{Query, Condition, Compare, Join, top_of}
+use Rattle.ghost_model.specs.core.Query.{Query, top_of}
 use Rattle.ghost_model.proofs.MeaningLemmas.OneRow.{Among, among_is}
 use Rattle.ghost_model.specs.forms.Layout.{count_of}
 use Rattle.leakless_plan.specs.declared.form.Form.{Form}
 use Rattle.leakless_plan.specs.declared.form.Form.TheVariants.{Pre}
-use Rattle.leakless_plan.specs.Choices.{compares_visible, form_of, form_with, forms_of, is_crossed, is_linked}
-use Rattle.ghost_laws.specs.Asking.{is_compared_of}
+use Rattle.leakless_plan.specs.Choices.{form_of, form_with, forms_of, is_crossed, is_linked}
 use Rattle.condition_lists.specs.Terms.{is_compared, is_united, unites_whole}
 use Rattle.condition_lists.specs.Laws.{UnitesAll}
 use Rattle.condition_lists.proofs.FilterLemmas.{compared_there, filters_agree}
@@ -58,19 +57,12 @@ all_tables schema asked forms top all =
     by false b follows = refl
 
 -- a compared table is one that is linked, if it is not the top one
-compared_visible : (schema : Schema) (table : ℕ) (conditions : List Condition)
-    → list_any (is_compared_of schema table) conditions ≡ list_any (compares_visible schema table) conditions
-compared_visible schema table [] = refl
-compared_visible schema table (Compare wanted operator literal ∷ conditions) =
-    ap (λ b. is_compared_of schema table (Compare wanted operator literal) || b) (compared_visible schema table conditions)
-compared_visible schema table (Join one other ∷ conditions) = compared_visible schema table conditions
-
 linked : (schema : Schema) (asked : Query) (top table : ℕ) → top_of schema asked ≡ Some top → Contains asked.from table
     → is_compared schema asked table ≡ true → nat_eq table top ≡ false → is_linked schema asked table ≡ true
 linked schema asked top table top_is held compared other =
     ap₂ (λ a b. a && b)
     (ap₂ (λ a b. a && not b) (among_is table asked.from (among_of asked.from table held)) (ap (is_table table) top_is ∙ turned table top other))
-    (sym (compared_visible schema table asked.conditions) ∙ compared)
+    compared
   where
     turned : (a b : ℕ) → nat_eq a b ≡ false → nat_eq b a ≡ false
     turned a b e = grind (arith, nat_tests, e)

@@ -1,19 +1,21 @@
 -- The cost of a term is at most the work of its condition or of its reply, and sums of them.
 use Rattle.std.proofs.Common.{◌≡◌, ◌∙◌, refl, ap, ap₂, sym, subst, ℕ, zero, suc, ◌+◌, ◌-◌, ◌<◌, ◌≤◌, inl, inr, pos, Bool, true, false, ◌&&◌, nat_eq, List, [], ◌∷◌, ◌++◌, length, filter, map, slice_get, Option, Some, None, option_and_then, if◌then◌else◌, arith}
-use Rattle.std.specs.Prelude.{◌==◌, not, count_by, sum_by, is_some}
+use Rattle.std.specs.Prelude.{◌==◌, ◌||◌, not, count_by, sum_by, is_some}
 use Rattle.std.specs.Option.{option_map_or}
 use Rattle.std.specs.List.{range_with_len, list_any}
 use Rattle.std.proofs.lemmas.Bool.{eqb-true}
+use Rattle.std.proofs.lemmas.Bool.Decides.{nat_tests}
 use Rattle.std.proofs.lemmas.Cmp.{nat_eq_equiv}
 use Rattle.std.proofs.lemmas.List.Sums.{length-filter, sum_by-cons, sum_by-append}
-use Rattle.ghost_model.specs.core.Schema.{Schema, is_empty, is_visible, places_from, places_of}
+use Rattle.ghost_model.specs.core.Schema.{Schema, is_empty, is_nullable, is_visible, places_from, places_of}
 use Rattle.ghost_model.specs.core.Values.{Value, Number, Rows, Database}
-use Rattle.ghost_model.specs.core.Channel.{Catalog, Ask}
+use Rattle.ghost_model.specs.core.Channel.{Catalog, ColumnTest, Ask}
 use Rattle.ghost_model.specs.core.Database.{holds, leads, rows_of, value_at_row}
-use Rattle.ghost_model.specs.core.Meaning.{compares}
-use Rattle.ghost_model.specs.core.Asks.{asks_of, ask_for, is_needed}
+use Rattle.ghost_model.specs.core.Groups.{each_of}
+use Rattle.ghost_model.specs.core.Meaning.{compares, meets_test}
+use Rattle.ghost_model.specs.core.Asks.{asks_of, ask_for, is_needed, is_shown, column_test, kind_at}
 use Rattle.ghost_model.specs.laws.ShortWords.{tests_of, is_from, values_met, rows_met, search_work}
-use Rattle.ghost_model.specs.core.Query.{Query, Operator, Condition, Compare, Join}
+use Rattle.ghost_model.specs.core.Query.{Query, Field, Operator, Test, Compared, IsNull, IsNotNull, Member, members_of_group, Condition, OneOf, Join, compared, tested}
 use Rattle.ghost_model.specs.core.Replies as replies
 use Rattle.ghost_model.specs.core.Replies.{reply_about, row_replied}
 use Rattle.ghost_model.specs.core.Split.{RowValues, public_of, visible_places, public_rows, replied, meets_tests, replies_from}
@@ -26,19 +28,20 @@ use Rattle.ghost_model.specs.refusals.QueryMeaning.{field}
 use Rattle.ghost_model.proofs.MeaningLemmas.OneRow.{Among, Distinct, among-filter, among_is, either_true, both_true}
 use Rattle.ghost_model.proofs.MeaningLemmas.Leading.{among_range}
 use Rattle.ghost_model.proofs.MeaningLemmas.PartsByFlags.{visible_rows_at}
+use Rattle.ghost_model.proofs.SessionLemmas.Members.{each_true, true_of_each}
 use Rattle.ghost_laws.specs.Scans.{is_kept_row}
 use Rattle.climbing_index.specs.declared.index.ClimbingIndex.{ClimbingIndex}
 use Rattle.climbing_index.specs.declared.index.IdIndex.{IdIndex}
 use Rattle.climbing_index.specs.declared.search.Group.{Group}
-use Rattle.ghost_laws.specs.Asking.{is_compared_of}
+use Rattle.leakless_plan.specs.Choices.{compares_visible}
 use Rattle.flash_layout.specs.Ranges.{IsRowOf}
 use Rattle.condition_lists.specs.declared.bounds.Bounds.{Bounds}
 use Rattle.condition_lists.specs.declared.term.Term.{Term}
 use Rattle.condition_lists.specs.declared.term.Term.TheVariants.{Ranges, Entries, Identifiers, TopReply, Reply}
 use Rattle.condition_lists.specs.Bounds.{lies_within}
-use Rattle.condition_lists.specs.Terms.{AreEntriesOf, AreIdentifiersOf, IsTermOf, IsReplyTermOf, AreTermsOf, IsIdIndexAt, is_in_one, is_compared}
+use Rattle.condition_lists.specs.Terms.{AreEntriesOf, AreIdentifiersOf, IsIdentifiersTerm, IsTermOf, IsTermOfTest, IsReplyTermOf, AreTermsOf, IsIdIndexAt, is_in_one, is_compared}
 use Rattle.condition_lists.specs.Laws.{IsOver}
-use Rattle.ghost_model.specs.forms.QueryWork.{union_work, values_of, count_values, rows_leading, values_work, condition_work, honest_rows, reply_work}
+use Rattle.ghost_model.specs.forms.QueryWork.{union_work, values_of, count_values, rows_leading, is_range, condition_work, honest_rows, reply_work}
 use Rattle.condition_lists.specs.Costs.{rows_meeting, values_within, replied_count, term_cost}
 use Rattle.condition_lists.specs.CostLaws.{WorkGrows}
 use Rattle.condition_lists.proofs.CountLemmas.{ranges_once, among_map, counted, at_most, same_count, same_values}
@@ -46,7 +49,7 @@ use Rattle.condition_lists.proofs.CostLemmas.{entries_in, in_groups, ends_within
 use Rattle.condition_lists.proofs.ListLemmas.{in_column, replied_some}
 use Rattle.condition_lists.proofs.MeetLemmas.{by_value}
 use Rattle.condition_lists.proofs.MemberLemmas.{mapped_many}
-use Rattle.condition_lists.proofs.RowLemmas.{never_hidden, not_null, rows_are, row_there, below_by, is_row, led}
+use Rattle.condition_lists.proofs.RowLemmas.{never_hidden, null_if_allowed, rows_are, row_there, below_by, is_row, led}
 
 module _ (cat : Catalog) (database : Database) (over : IsOver cat database) (levels : LevelsAreAncestors) (keys : LeadsFollowKeys cat.schema database)
     (grows : WorkGrows) (given : List replies.Reply) (top : ℕ) where
@@ -57,34 +60,56 @@ module _ (cat : Catalog) (database : Database) (over : IsOver cat database) (lev
       same_count p q (ids (count_of cat top)) (λ x a. each x (row_among cat top x a))
       ∙ ap (λ n. count_by q (range_with_len 1 n)) (rows_are cat database over top)
 
+  -- a test alone that is no range
+  lone_work : (one : Member) (hidden : Bool) → is_hidden cat.schema one.field.table one.field.column ≡ hidden
+      → (hidden || one.field.column == 0) ≡ true → is_range top one ≡ false
+      → condition_work cat.schema database top (OneOf one [])
+      ≡ union_work (count_values (filter (λ value. meets_test one.test (Some value)) (values_of database one.field)))
+      (rows_leading cat.schema database top one.field.table (λ row. meets_test one.test (value_at_row database one.field.table row one.field.column)))
+      + (if hidden then search_work (count_values (values_of database one.field)) else 0)
+  lone_work one hidden is key range =
+      let lists = count_values (filter (λ value. meets_test one.test (Some value)) (values_of database one.field)) in
+      let rows = rows_leading cat.schema database top one.field.table (λ row. meets_test one.test (value_at_row database one.field.table row one.field.column)) in
+      let search = search_work (count_values (values_of database one.field)) in
+      ap₂ (λ h r. if (h || one.field.column == 0) && not r then union_work (if r then 0 else lists) (if r then 0 else rows) + (if h then search else 0) else 0) is range
+      ∙ ap (λ k. if k && true then union_work lists rows + (if hidden then search else 0) else 0) key
+
   -- ---- entries
+
+  entries_cost : (test : Test) (table column : ℕ) (index : ClimbingIndex) (level : ℕ) (bounds : Bounds) → AreEntriesOf cat top table column test index level bounds
+      → term_cost cat database given top (Entries table column index level bounds) ≡ condition_work cat.schema database top (OneOf (tested (field table column) test) [])
+  entries_cost test table column index level bounds are =
+      ap₂ (λ e l. union_work e l + search_work (count_values (values_of database (field table column)))) values_same rows_same
+      ∙ sym (lone_work (tested (field table column) test) true are.index_at.hidden refl (inside column refl))
+    where
+      inside : (n : ℕ) → column ≡ n → (n == 0 && table == top) ≡ false
+      inside zero e = absurd (never_hidden cat.schema over.tree table (ap (is_hidden cat.schema table) (sym e) ∙ are.index_at.hidden))
+      inside (suc n) e = let other : nat_eq (suc n) 0 ≡ false = grind (arith, nat_tests) in ap (λ b. b && table == top) other
+
+      values_same : values_within database (field table column) bounds ≡ count_values (filter (λ value. meets_test test (Some value)) (values_of database (field table column)))
+      values_same =
+          ap count_values
+          (same_values (lies_within bounds) (λ value. meets_test test (Some value)) column (rows_of database table)
+          (λ place row value at is.
+          are.bounds_are.admits value
+          (null_if_allowed cat database over table (suc place) column are.index_at.hidden value (ap (option_and_then (λ r. slice_get r column)) at ∙ is))))
+
+      by_lead : (o : Option ℕ) → option_map_or (lies_within bounds) (option_and_then (λ reached. value_at_row database table reached column) o) false
+          ≡ option_map_or (λ row. meets_test test (value_at_row database table row column)) o false
+      by_lead None = refl
+      by_lead (Some reached) =
+          by_value (is_nullable (kind_at cat.schema table column)) test bounds are.bounds_are (value_at_row database table reached column)
+          (λ value at null. null_if_allowed cat database over table reached column are.index_at.hidden value at null)
+
+      rows_same : rows_meeting cat database given top (Entries table column index level bounds)
+          ≡ rows_leading cat.schema database top table (λ row. meets_test test (value_at_row database table row column))
+      rows_same = same_rows _ _ (λ x row. by_lead (leads cat.schema database top x table))
+
+  -- ---- identifiers
 
   module _ (operator : Operator) (literal : Value) where
     abbrev admitted : (table column : ℕ) → ℕ → Bool
     admitted table column row = compares operator (value_at_row database table row column) (Some literal)
-
-    entries_cost : (table column : ℕ) (index : ClimbingIndex) (level : ℕ) (bounds : Bounds) → AreEntriesOf cat top table column operator literal index level bounds
-        → term_cost cat database given top (Entries table column index level bounds) ≡ condition_work cat.schema database top (Compare (field table column) operator literal)
-    entries_cost table column index level bounds are =
-        ap₂ (λ e l. union_work e l + search_work (count_values (values_of database (field table column)))) values_same rows_same
-        ∙ sym (ap (λ b. if b then values_work cat.schema database top (field table column) operator literal + search_work (count_values (values_of database (field table column)))
-        else if column == 0 && not (table == top) then values_work cat.schema database top (field table column) operator literal else 0) are.index_at.hidden)
-      where
-        values_same : values_within database (field table column) bounds ≡ values_met database (field table column) operator literal
-        values_same =
-            ap count_values
-            (same_values (lies_within bounds) (λ value. holds operator value literal) column (rows_of database table)
-            (λ place row value at is. are.bounds_are.admits value (not_null cat database over table (suc place) column are.index_at.hidden value (ap (option_and_then (λ r. slice_get r column)) at ∙ is))))
-
-        by_lead : (o : Option ℕ) → option_map_or (lies_within bounds) (option_and_then (λ reached. value_at_row database table reached column) o) false ≡ option_map_or (admitted table column) o false
-        by_lead None = refl
-        by_lead (Some reached) =
-            by_value operator literal bounds are.bounds_are (value_at_row database table reached column) (λ value at. not_null cat database over table reached column are.index_at.hidden value at)
-
-        rows_same : rows_meeting cat database given top (Entries table column index level bounds) ≡ rows_met cat.schema database top (field table column) operator literal
-        rows_same = same_rows _ _ (λ x row. by_lead (leads cat.schema database top x table))
-
-    -- ---- identifiers
 
     no_return : (table level : ℕ) (index : IdIndex) → IsIdIndexAt cat top table index level → (table == top) ≡ true → ⊥
     no_return table level index at e =
@@ -135,15 +160,12 @@ module _ (cat : Catalog) (database : Database) (over : IsOver cat database) (lev
             ∙ sym (ap (λ o. option_map_or (admitted table 0) o false) lands.led)
 
     ids_cost : (table column : ℕ) (index : IdIndex) (level : ℕ) (first second : Group) → column ≡ 0 → AreIdentifiersOf cat top table 0 operator literal index level first second
-        → term_cost cat database given top (Identifiers table index level first second) ≤ condition_work cat.schema database top (Compare (field table 0) operator literal)
+        → term_cost cat database given top (Identifiers table index level first second) ≤ condition_work cat.schema database top (compared (field table 0) operator literal)
     ids_cost table column index level first second zero_is are =
-        let work = values_work cat.schema database top (field table 0) operator literal in
         let more = grows.union (first.count + second.count) (values_met database (field table 0) operator literal)
         (rows_meeting cat database given top (Identifiers table index level first second)) (rows_met cat.schema database top (field table 0) operator literal)
         (ids_few table index level first second are) (let same = ids_rows table index level first second are in omega (arith, same)) in
-        let whole : condition_work cat.schema database top (Compare (field table 0) operator literal) ≡ work =
-        ap (λ b. if b then work + search_work (count_values (values_of database (field table 0))) else if not (table == top) then work else 0) (seen (is_hidden cat.schema table 0) refl)
-        ∙ ap (λ b. if not b then work else 0) (apart (table == top) refl) in
+        let whole = lone_work (tested (field table 0) (Compared operator literal)) false (seen (is_hidden cat.schema table 0) refl) refl (apart (table == top) refl) in
         omega (arith, more, whole)
       where
         seen : (b : Bool) → is_hidden cat.schema table 0 ≡ b → is_hidden cat.schema table 0 ≡ false
@@ -154,27 +176,39 @@ module _ (cat : Catalog) (database : Database) (over : IsOver cat database) (lev
         apart true e = absurd (no_return table level index are.index_at e)
         apart false e = e
 
+  identifiers_cost : (wanted : Field) (test : Test) (table : ℕ) (index : IdIndex) (level : ℕ) (first second : Group)
+      → table ≡ wanted.table → IsIdentifiersTerm cat top wanted test index level first second
+      → term_cost cat database given top (Identifiers table index level first second) ≤ condition_work cat.schema database top (OneOf (tested wanted test) [])
+  identifiers_cost wanted IsNull table index level first second same is = absurd is
+  identifiers_cost wanted IsNotNull table index level first second same is = absurd is
+  identifiers_cost wanted (Compared operator literal) table index level first second own is =
+      let zero_is = is.column_is in
+      let are : AreIdentifiersOf cat top table 0 operator literal index level first second =
+      subst (λ t. AreIdentifiersOf cat top t 0 operator literal index level first second) (sym own) (subst (λ c. AreIdentifiersOf cat top wanted.table c operator literal index level first second) zero_is is) in
+      let cost = ids_cost operator literal table 0 index level first second refl are in
+      let same : condition_work cat.schema database top (compared (field table 0) operator literal) ≡ condition_work cat.schema database top (compared (field wanted.table wanted.column) operator literal) =
+      ap₂ (λ t c. condition_work cat.schema database top (compared (field t c) operator literal)) own (sym zero_is) in
+      omega (arith, cost, same)
+
+  test_cost : (wanted : Field) (test : Test) (term : Term) → IsTermOfTest cat top wanted test term
+      → term_cost cat database given top term ≤ condition_work cat.schema database top (OneOf (tested wanted test) [])
+  test_cost wanted test (Ranges first second) is = omega arith
+  test_cost wanted test (Entries table column index level bounds) is =
+      let are : AreEntriesOf cat top table column test index level bounds =
+      subst (λ t. AreEntriesOf cat top t column test index level bounds) (sym is.0) (subst (λ c. AreEntriesOf cat top wanted.table c test index level bounds) (sym is.1) is.2) in
+      let cost = entries_cost test table column index level bounds are in
+      let same : condition_work cat.schema database top (OneOf (tested (field table column) test) []) ≡ condition_work cat.schema database top (OneOf (tested (field wanted.table wanted.column) test) []) =
+      ap₂ (λ t c. condition_work cat.schema database top (OneOf (tested (field t c) test) [])) is.0 is.1 in
+      omega (arith, cost, same)
+  test_cost wanted test (Identifiers table index level first second) is = identifiers_cost wanted test table index level first second is.0 is.1
+  test_cost wanted test TopReply is = absurd is
+  test_cost wanted test (Reply table index level) is = absurd is
+
   pub condition_cost : (condition : Condition) (term : Term) → IsTermOf cat top condition term
       → term_cost cat database given top term ≤ condition_work cat.schema database top condition
+  condition_cost (OneOf first []) term is = test_cost first.field first.test term is
+  condition_cost (OneOf first (next ∷ others)) term is = absurd is
   condition_cost (Join one other) term is = absurd is
-  condition_cost (Compare wanted operator literal) (Ranges first second) is = omega arith
-  condition_cost (Compare wanted operator literal) (Entries table column index level bounds) is =
-      let are : AreEntriesOf cat top table column operator literal index level bounds =
-      subst (λ t. AreEntriesOf cat top t column operator literal index level bounds) (sym is.0) (subst (λ c. AreEntriesOf cat top wanted.table c operator literal index level bounds) (sym is.1) is.2) in
-      let cost = entries_cost operator literal table column index level bounds are in
-      let same : condition_work cat.schema database top (Compare (field table column) operator literal) ≡ condition_work cat.schema database top (Compare (field wanted.table wanted.column) operator literal) =
-      ap₂ (λ t c. condition_work cat.schema database top (Compare (field t c) operator literal)) is.0 is.1 in
-      omega (arith, cost, same)
-  condition_cost (Compare wanted operator literal) (Identifiers table index level first second) is =
-      let zero_is = is.1.column_is in
-      let are : AreIdentifiersOf cat top table 0 operator literal index level first second =
-      subst (λ t. AreIdentifiersOf cat top t 0 operator literal index level first second) (sym is.0) (subst (λ c. AreIdentifiersOf cat top wanted.table c operator literal index level first second) zero_is is.1) in
-      let cost = ids_cost operator literal table 0 index level first second refl are in
-      let same : condition_work cat.schema database top (Compare (field table 0) operator literal) ≡ condition_work cat.schema database top (Compare (field wanted.table wanted.column) operator literal) =
-      ap₂ (λ t c. condition_work cat.schema database top (Compare (field t c) operator literal)) is.0 (sym zero_is) in
-      omega (arith, cost, same)
-  condition_cost (Compare wanted operator literal) TopReply is = absurd is
-  condition_cost (Compare wanted operator literal) (Reply table index level) is = absurd is
 
   -- ---- replies
 
@@ -367,22 +401,33 @@ module _ (schema : Schema) (database : Database) (asked : Query) (top : ℕ) whe
   clash : {b : Bool} → b ≡ true → b ≡ false → ⊥
   clash t f = cc
 
-  compared_tests : (table : ℕ) (conditions : List Condition) → list_any (is_compared_of schema table) conditions ≡ true → is_empty (tests_of schema table conditions) ≡ false
+  shown_too : (table : ℕ) (one : Member) → (nat_eq one.field.table table && is_visible schema one.field.table one.field.column) ≡ true → is_shown schema table one ≡ true
+  shown_too table one e =
+      let both = both_true (nat_eq one.field.table table) (is_visible schema one.field.table one.field.column) e in
+      let same : one.field.table ≡ table = eqb-true one.field.table table both.0 in
+      ap₂ (λ a b. a && b) both.0 (ap (λ t. is_visible schema t one.field.column) (sym same) ∙ both.1)
+
+  group_shown : (table : ℕ) (first : Member) (others : List Member) → compares_visible schema table (OneOf first others) ≡ true
+      → each_of (is_shown schema table) first others ≡ true
+  group_shown table first others e =
+      true_of_each (is_shown schema table) first others
+      (λ one among. shown_too table one (each_true (λ other. nat_eq other.field.table table && is_visible schema other.field.table other.field.column) one first others e among))
+
+  has_first : (first : Member) (others : List Member) (later : List ColumnTest) → is_empty (map column_test (members_of_group first others) ++ later) ≡ false
+  has_first first [] later = refl
+  has_first first (next ∷ others) later = refl
+
+  compared_tests : (table : ℕ) (conditions : List Condition) → list_any (compares_visible schema table) conditions ≡ true → is_empty (tests_of schema table conditions) ≡ false
   compared_tests table [] e = absurd (cc (e))
   compared_tests table (Join one other ∷ conditions) e = compared_tests table conditions e
-  compared_tests table (Compare wanted operator literal ∷ conditions) e = by (wanted.table == table && is_visible schema table wanted.column) refl (compared_tests table conditions)
+  compared_tests table (OneOf first others ∷ conditions) e = by (each_of (is_shown schema table) first others) refl (compared_tests table conditions)
     where
-      by : (b : Bool) → (wanted.table == table && is_visible schema table wanted.column) ≡ b → (list_any (is_compared_of schema table) conditions ≡ true → is_empty (tests_of schema table conditions) ≡ false)
-          → is_empty ((if b then record { column = wanted.column; operator = operator; value = literal } ∷ [] else []) ++ tests_of schema table conditions) ≡ false
-      by true here rest = refl
+      by : (b : Bool) → each_of (is_shown schema table) first others ≡ b → (list_any (compares_visible schema table) conditions ≡ true → is_empty (tests_of schema table conditions) ≡ false)
+          → is_empty ((if b then map column_test (members_of_group first others) else []) ++ tests_of schema table conditions) ≡ false
+      by true here rest = has_first first others (tests_of schema table conditions)
       by false fails rest =
-          elim (either_true (nat_eq wanted.table table && is_visible schema wanted.table wanted.column) (list_any (is_compared_of schema table) conditions) e) [
-            | inl here ↦ (
-                let both = both_true (nat_eq wanted.table table) (is_visible schema wanted.table wanted.column) here in
-                let same : wanted.table ≡ table = eqb-true wanted.table table both.0 in
-                let too : (wanted.table == table && is_visible schema table wanted.column) ≡ true =
-                ap₂ (λ a b. a && b) both.0 (ap (λ t. is_visible schema t wanted.column) (sym same) ∙ both.1) in
-                absurd (clash too fails))
+          elim (either_true (compares_visible schema table (OneOf first others)) (list_any (compares_visible schema table) conditions) e) [
+            | inl here ↦ absurd (clash (group_shown table first others here) fails)
             | inr later ↦ rest later
           ]
 

@@ -1,7 +1,7 @@
 -- The queries that the texts of a script mean, by the texts' numbers.
 use Rattle.std.specs.Prelude.{ℕ, ◌+◌, ◌*◌, ◌%◌, ◌==◌, List, [], ◌∷◌, codes, pos, if◌then◌else◌}
 use Rattle.ghost_model.specs.core.Values.{Value, Number, Text}
-use Rattle.ghost_model.specs.core.Query.{Query, Field, Condition, Compare, Join, Equal, Unequal, Less, AtLeast}
+use Rattle.ghost_model.specs.core.Query.{Query, Field, Condition, compared, Join, Equal, Unequal, Less, AtLeast}
 use Rattle.ghost_model.specs.core.Generated.{lettered}
 use Rattle.ghost_model.specs.refusals.QueryMeaning.{field}
 
@@ -45,27 +45,27 @@ word letter number = Text (lettered letter number)
 -- the doctors of all specialties but one
 abbrev pub doctors_elsewhere : (number : ℕ) → Query
 doctors_elsewhere number =
-    query (0 ∷ []) (doctor_id ∷ country ∷ []) (Compare specialty Unequal (word (codes "s") (number % 5)) ∷ [])
+    query (0 ∷ []) (doctor_id ∷ country ∷ []) (compared specialty Unequal (word (codes "s") (number % 5)) ∷ [])
 
 -- the visits before a day and for a purpose
 abbrev pub early_visits : (number : ℕ) → Query
 early_visits number =
     query (2 ∷ []) (visit_id ∷ day ∷ [])
-    (Compare day Less (Number (pos (60 + 7 * number))) ∷ Compare purpose Equal (word (codes "p") ((number + 6) % 8)) ∷ [])
+    (compared day Less (Number (pos (60 + 7 * number))) ∷ compared purpose Equal (word (codes "p") ((number + 6) % 8)) ∷ [])
 
 -- the visits to doctors of a specialty, for a purpose
 abbrev pub visits_to_specialists : (number : ℕ) → Query
 visits_to_specialists number =
     query (2 ∷ 0 ∷ []) (visit_id ∷ specialty ∷ [])
-    (Join doc doctor_id ∷ Compare specialty Equal (word (codes "s") (number % 5))
-    ∷ Compare purpose Equal (word (codes "p") ((number + 6) % 8)) ∷ [])
+    (Join doc doctor_id ∷ compared specialty Equal (word (codes "s") (number % 5))
+    ∷ compared purpose Equal (word (codes "p") ((number + 6) % 8)) ∷ [])
 
 -- the visits of patients from an age on, to doctors of a country
 abbrev pub visits_of_the_old : (number : ℕ) → Query
 visits_of_the_old number =
     query (2 ∷ 0 ∷ 1 ∷ []) (visit_id ∷ age ∷ country ∷ [])
-    (Join doc doctor_id ∷ Join pat patient_id ∷ Compare age AtLeast (Number (pos (2 * number)))
-    ∷ Compare country Equal (word (codes "c") (number % 3)) ∷ [])
+    (Join doc doctor_id ∷ Join pat patient_id ∷ compared age AtLeast (Number (pos (2 * number)))
+    ∷ compared country Equal (word (codes "c") (number % 3)) ∷ [])
 
 -- the query of the text with a number
 abbrev pub question : (number : ℕ) → Query

@@ -4,10 +4,11 @@ use Rattle.std.specs.List.{list_any}
 use Rattle.std.proofs.lemmas.Bool.{or_right, eqb-true}
 use Rattle.std.proofs.lemmas.Option.{slice_get_cases}
 use Rattle.ghost_model.specs.core.Schema.{Schema, Table, columns_or_none, column_at, is_shown, is_visible}
-use Rattle.ghost_model.specs.core.Query.{Query, Field, Condition, Compare, Join}
+use Rattle.ghost_model.specs.core.Query.{Query, Field, Condition, OneOf, Join}
 use Rattle.ghost_model.specs.core.Replies.{Reply, reply_about}
 use Rattle.ghost_model.specs.laws.SchemaTrees.{IsTree}
-use Rattle.spj_parse.specs.Resolved.{is_comparison, joins_of, linked}
+use Rattle.ghost_model.proofs.GroupLemmas.{some_is_any}
+use Rattle.spj_parse.specs.Resolved.{is_group, joins_of, linked}
 use Rattle.ghost_laws.specs.Asking.{is_asked, is_shown_of, is_compared_of}
 use Rattle.key_exec.specs.Reading.{AreOfAsked}
 
@@ -16,9 +17,9 @@ any_append p [] ys some = some
 any_append p (x ∷ xs) ys some = or_right (p x) (list_any p (xs ++ ys)) (any_append p xs ys some)
 
 compared : (schema : Schema) (table : ℕ) (conditions : List Condition)
-    → list_any (is_compared_of schema table) (filter is_comparison conditions) ≡ list_any (is_compared_of schema table) conditions
+    → list_any (is_compared_of schema table) (filter is_group conditions) ≡ list_any (is_compared_of schema table) conditions
 compared schema table [] = refl
-compared schema table (Compare field operator literal ∷ conditions) = ap (λ b. is_shown_of schema table field || b) (compared schema table conditions)
+compared schema table (OneOf first others ∷ conditions) = ap (λ b. is_compared_of schema table (OneOf first others) || b) (compared schema table conditions)
 compared schema table (Join one other ∷ conditions) = compared schema table conditions
 
 -- a query with its joins once asks for the same tables
@@ -26,10 +27,10 @@ asked_still : (schema : Schema) (meant : Query) (table : ℕ) → is_asked schem
 asked_still schema meant table asked = by (list_any (is_shown_of schema table) meant.select) asked
   where
     by : (shown : Bool) → (shown || list_any (is_compared_of schema table) meant.conditions) ≡ true
-        → (shown || list_any (is_compared_of schema table) (joins_of schema meant.from ++ filter is_comparison meant.conditions)) ≡ true
+        → (shown || list_any (is_compared_of schema table) (joins_of schema meant.from ++ filter is_group meant.conditions)) ≡ true
     by true held = refl
     by false held =
-        any_append (is_compared_of schema table) (joins_of schema meant.from) (filter is_comparison meant.conditions) (compared schema table meant.conditions ∙ held)
+        any_append (is_compared_of schema table) (joins_of schema meant.from) (filter is_group meant.conditions) (compared schema table meant.conditions ∙ held)
 
 not_both : (b : Bool) → b ≡ true → b ≡ false → ⊥
 not_both b is isnt = true_false (sym is ∙ isnt)
@@ -73,10 +74,6 @@ is_low schema table field shown = by (nat_eq field.table table) refl shown
     by true at visible = subst (λ (n : ℕ). n < length schema) (eqb-true field.table table at) (shown_low schema field.table field.column visible)
     by false at visible = cc
 
-one_low : (schema : Schema) (table : ℕ) (condition : Condition) → is_compared_of schema table condition ≡ true → table < length schema
-one_low schema table (Compare field operator literal) shown = is_low schema table field shown
-one_low schema table (Join one other) shown = cc
-
 any_low : {X : Type 0} (P : Type 0) (p : X → Bool) (xs : List X) → ((x : X) → p x ≡ true → P) → list_any p xs ≡ true → P
 any_low P p [] each some = cc
 any_low P p (x ∷ xs) each some = by (p x) refl (any_low P p xs each) some
@@ -84,6 +81,12 @@ any_low P p (x ∷ xs) each some = by (p x) refl (any_low P p xs each) some
     by : (b : Bool) → p x ≡ b → (list_any p xs ≡ true → P) → (b || list_any p xs) ≡ true → P
     by true at rest held = each x at
     by false at rest held = rest held
+
+one_low : (schema : Schema) (table : ℕ) (condition : Condition) → is_compared_of schema table condition ≡ true → table < length schema
+one_low schema table (OneOf first others) shown =
+    any_low (table < length schema) (λ one. is_shown_of schema table one.field) (first ∷ others) (λ one. is_low schema table one.field)
+    (sym (some_is_any (λ one. is_shown_of schema table one.field) first others) ∙ shown)
+one_low schema table (Join one other) shown = cc
 
 -- an asked table is one of the schema
 is_asked_low : (schema : Schema) (asked : Query) (table : ℕ) → is_asked schema asked table ≡ true → table < length schema

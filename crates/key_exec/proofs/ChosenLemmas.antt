@@ -86,7 +86,7 @@ module _ (wanted : RecordsAreWanted) (cat : Catalog) (asked : Query) (device : D
       by : (check : Check) → test.check ≡ check
           → IsChosen cat asked plan.top (need_by (check_slot check test.known.source identifier) (check_look check test.known.field.table identifier) NoNeed)
       by (Stands number) is = tt
-      by (Holds operator literal) is = absurd (never_tested test there (ap (check_meets (λ _. true) (λ _. false) test.known.field) is))
+      by (Holds wanted) is = absurd (never_tested test there (ap (check_meets (λ _. true) (λ _. false) test.known.field) is))
 
   -- ---- selected columns
 

@@ -6,7 +6,8 @@ use Rattle.std.proofs.lemmas.Bool.{eqb-true}
 use Rattle.std.proofs.lemmas.Bool.Decides.{nat_tests}
 use Rattle.ghost_model.specs.core.Schema.{Schema, parent, ancestor}
 use Rattle.ghost_model.specs.core.Channel.{Catalog}
-use Rattle.ghost_model.specs.core.Query.{Query, Field, Condition, Compare, Join}
+use Rattle.ghost_model.specs.core.Groups.{some_of}
+use Rattle.ghost_model.specs.core.Query.{Query, Field, Condition, OneOf, Join}
 use Rattle.ghost_model.specs.forms.Layout.{count_of}
 use Rattle.ghost_model.specs.laws.MeaningLaws.{IsAtOrBelow}
 use Rattle.edge_traits.specs.Devices.{Device}
@@ -56,13 +57,21 @@ clash t f = cc
 itself_equal : (n : ℕ) → nat_eq n n ≡ true
 itself_equal n = grind (arith, nat_tests)
 
-any_weaker : {X : Type 0} (p q : X → Bool) → ((x : X) → p x ≡ true → q x ≡ true) → (xs : List X) → list_any p xs ≡ true → list_any q xs ≡ true
+pub any_weaker : {X : Type 0} (p q : X → Bool) → ((x : X) → p x ≡ true → q x ≡ true) → (xs : List X) → list_any p xs ≡ true → list_any q xs ≡ true
 any_weaker p q weaker [] h = absurd (cc (h))
 any_weaker p q weaker (x ∷ xs) h = by (any_weaker p q weaker xs) (either (p x) (list_any p xs) h)
   where
     by : (list_any p xs ≡ true → list_any q xs ≡ true) → (p x ≡ true) ⊎ (list_any p xs ≡ true) → list_any q (x ∷ xs) ≡ true
     by rest (inl here) = or_first (q x) (list_any q xs) (weaker x here)
     by rest (inr later) = or_later (q x) (list_any q xs) (rest later)
+
+some_weaker : {X : Type 0} (p q : X → Bool) → ((x : X) → p x ≡ true → q x ≡ true) → (first : X) (others : List X) → some_of p first others ≡ true → some_of q first others ≡ true
+some_weaker p q weaker first [] h = weaker first h
+some_weaker p q weaker first (next ∷ others) h = by (some_weaker p q weaker next others) (either (p first) (some_of p next others) h)
+  where
+    by : (some_of p next others ≡ true → some_of q next others ≡ true) → (p first ≡ true) ⊎ (some_of p next others ≡ true) → (q first || some_of q next others) ≡ true
+    by rest (inl here) = or_first (q first) (some_of q next others) (weaker first here)
+    by rest (inr later) = or_later (q first) (some_of q next others) (rest later)
 
 any_at : {X : Type 0} (p : X → Bool) (xs : List X) (i : ℕ) (x : X) → slice_get xs i ≡ Some x → p x ≡ true → list_any p xs ≡ true
 any_at p [] i x e h = absurd (cc (e))
@@ -88,7 +97,7 @@ uses_weaker : (asked : Query) (p q : Field → Bool) → ((field : Field) → p 
 uses_weaker asked p q weaker h = by (either (list_any p asked.select) (list_any (compares p) asked.conditions) h)
   where
     of_condition : (condition : Condition) → compares p condition ≡ true → compares q condition ≡ true
-    of_condition (Compare field operator literal) here = weaker field here
+    of_condition (OneOf first others) here = some_weaker (λ one. p one.field) (λ one. q one.field) (λ one. weaker one.field) first others here
     of_condition (Join one other) here = here
 
     by : (list_any p asked.select ≡ true) ⊎ (list_any (compares p) asked.conditions ≡ true) → uses asked q ≡ true
@@ -108,7 +117,8 @@ of_asked schema asked table h = by (either (list_any (is_shown_of schema table) 
     of_field field here = (both (nat_eq field.table table) _ here).0
 
     of_condition : (condition : Condition) → is_compared_of schema table condition ≡ true → compares (is_of table) condition ≡ true
-    of_condition (Compare field operator literal) here = of_field field here
+    of_condition (OneOf first others) here =
+        some_weaker (λ one. is_shown_of schema table one.field) (λ one. is_of table one.field) (λ one. of_field one.field) first others here
     of_condition (Join one other) here = here
 
     by : (list_any (is_shown_of schema table) asked.select ≡ true) ⊎ (list_any (is_compared_of schema table) asked.conditions ≡ true) → uses asked (is_of table) ≡ true
@@ -220,7 +230,7 @@ way_is cat hops reached are table (suc most) to follow down e = by (λ above bel
 -- what is so of a test that is a condition
 abbrev IfHolds : Check → Type 0 → Type 0
 IfHolds (Stands number) so = ⊤
-IfHolds (Holds operator literal) so = so
+IfHolds (Holds wanted) so = so
 
 -- the slot of a row in the file of a column that is read for the query, or a row in the reply about a table that it asks for
 pub record IsReadSlot (cat : Catalog) (asked : Query) (top : ℕ) (slot : Slot) : Type 0 where
@@ -311,7 +321,7 @@ module _ (cat : Catalog) (asked : Query) (device : Device) (half : Half) (plan :
   tested : (test : Test) → slice_get plan.tests.items work.at ≡ Some test → (check : Check) → test.check ≡ check
       → IfHolds check (uses asked (is_at test.known.field.table test.known.field.column) ≡ true)
   tested test there (Stands number) e = tt
-  tested test there (Holds operator literal) e =
+  tested test there (Holds wanted) e =
       let is = is_at test.known.field.table test.known.field.column in
       let holds : Condition → Bool = λ c. not (compares is c) in
       let misses : test_meets (λ _. true) holds test ≡ false =
@@ -324,8 +334,8 @@ module _ (cat : Catalog) (asked : Query) (device : Device) (half : Half) (plan :
 
   test_uses : (test : Test) → slice_get plan.tests.items work.at ≡ Some test → (check : Check) → test.check ≡ check → uses asked (is_of test.known.field.table) ≡ true
   test_uses test there (Stands number) e = of_asked cat.schema asked test.known.field.table (looked_up test number there e)
-  test_uses test there (Holds operator literal) e =
-      of_column asked test.known.field.table test.known.field.column (tested test there (Holds operator literal) e)
+  test_uses test there (Holds wanted) e =
+      of_column asked test.known.field.table test.known.field.column (tested test there (Holds wanted) e)
 
   at_test : (test : Test) → slice_get plan.tests.items work.at ≡ Some test → (row : Option ℕ) → reached_at work test.known.field.table ≡ row
       → IsReadNext (with_row row (next.Try test) (way_for plan work test.known.field.table))
@@ -335,9 +345,9 @@ module _ (cat : Catalog) (asked : Query) (device : Device) (half : Half) (plan :
       by : (check : Check) → test.check ≡ check
           → IsReadNeed cat asked plan.top (need_by (check_slot check test.known.source identifier) (check_look check test.known.field.table identifier) NoNeed)
       by (Stands number) c = (row_low test.known.field.table identifier e, looked_up test number there c)
-      by (Holds operator literal) c =
+      by (Holds wanted) c =
           from_source test.known.field.table test.known.field.column identifier test.known.source (source_at cat plan.tests.items work.at test sources_are there)
-          (w.rows test.known.field.table identifier e) (tested test there (Holds operator literal) c)
+          (w.rows test.known.field.table identifier e) (tested test there (Holds wanted) c)
 
   at_value : (known : Known) → slice_get plan.select.items work.put ≡ Some known → (row : Option ℕ) → reached_at work known.field.table ≡ row
       → IsReadNext (with_row row (next.Put known) (way_for plan work known.field.table))

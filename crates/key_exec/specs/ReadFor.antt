@@ -3,12 +3,13 @@ use Rattle.std.specs.Prelude.{◌≡◌, ℕ, ◌&&◌, ◌||◌, Bool, true, fa
 use Rattle.std.specs.List.{list_any}
 use Rattle.ghost_model.specs.core.Schema.{Schema, parent}
 use Rattle.ghost_model.specs.core.Database.{reference_column}
-use Rattle.ghost_model.specs.core.Query.{Query, Field, Condition, Compare, Join}
+use Rattle.ghost_model.specs.core.Query.{Query, Field, Condition, OneOf, Join}
+use Rattle.ghost_model.specs.core.Groups.{some_of}
 use Rattle.ghost_model.specs.laws.MeaningLaws.{IsAtOrBelow}
 
--- whether a query has a column of some kind in its select list, or compares one with a literal
+-- whether a query has a column of some kind in its select list, or tests one
 abbrev pub compares : (is : Field → Bool) → Condition → Bool
-compares is (Compare field operator literal) = is field
+compares is (OneOf first others) = some_of (λ one. is one.field) first others
 compares is (Join one other) = false
 
 abbrev pub uses : Query → (is : Field → Bool) → Bool

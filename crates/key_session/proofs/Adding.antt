@@ -26,7 +26,7 @@ use Rattle.key_session.specs.Telling.{AreKeptSoFar, AreLeft}
 use Rattle.key_session.specs.declared.counts.Counts.{Counts}
 use Rattle.key_exec.specs.declared.damage.Damage.{Damage}
 
-some_same : {X : Type 0} (x y : X) → Some x ≡ Some y → x ≡ y
+pub some_same : {X : Type 0} (x y : X) → Some x ≡ Some y → x ≡ y
 some_same x y e = cc
 
 -- an element of a list with one more at its end
@@ -273,6 +273,10 @@ damage_told told.Marked = refl
 damage_told told.Flash = refl
 damage_told (told.Damaged damage) = refl
 
+-- there is one of them for each reason
+pub one_each : (damages : List (Option Damage)) (reasons : List Reason) → map is_some damages ≡ map is_damage reasons → length damages ≡ length reasons
+one_each damages reasons by_reason = sym (length-map damages is_some) ∙ ap (λ (tests : List Bool). length tests) by_reason ∙ length-map reasons is_damage
+
 module _ (plan : Plan) (pages_told : Bool) (page : ℕ → List ℕ) (catalog : Catalog) (texts : List (List ℕ)) where
   -- a slot that is blamed for the text at a place
   abbrev BlamedAt : (place : ℕ) → Told → Type 0
@@ -321,7 +325,7 @@ module _ (plan : Plan) (pages_told : Bool) (page : ℕ → List ℕ) (catalog : 
   }
     where
       as_many : length met.damages ≡ length reasons
-      as_many = sym (length-map met.damages is_some) ∙ ap (λ (tests : List Bool). length tests) met.by_reason ∙ length-map reasons is_damage
+      as_many = one_each met.damages reasons met.by_reason
 
   -- one more text has a reason, and lines for it
   pub one_reason : PiecesJoin → (journal : Journal) (count : ℕ) (old new : Counts) (since before now marks : ℕ) (marked : Bool) (result : Told)
@@ -332,6 +336,8 @@ module _ (plan : Plan) (pages_told : Bool) (page : ℕ → List ℕ) (catalog : 
       → (have : HaveLines catalog texts journal are.reasons first middle) → HasLines catalog texts journal count (reason_of result) lines → Hands (concat lines) middle last
       → (more : HaveSoFar catalog texts journal (count + 1) (AreKeptSoFar plan pages_told page catalog texts new marks since now)) × (longer : HaveLines catalog texts journal more.reasons first last)
       × (more.reasons ≡ are.reasons ++ reason_of result ∷ []) × (longer.lines ≡ have.lines ++ lines ∷ [])
+      × (more.counted.kept.met.damages ≡ are.counted.kept.met.damages ++ damage_in result ∷ [])
+  unfolding met_more
   one_reason join journal count old new since before now marks marked result first middle last lines are is tells mark counted met blames have has hands =
       let long : length are.reasons ≡ count = are.as_many in
       let longer : length (are.reasons ++ reason_of result ∷ []) ≡ length are.reasons + 1 = length-append are.reasons (reason_of result ∷ []) in
@@ -357,6 +363,7 @@ module _ (plan : Plan) (pages_told : Bool) (page : ℕ → List ℕ) (catalog : 
         both.0,
         refl,
         both.1,
+        refl,
       )
 
 -- the first of the texts that are left

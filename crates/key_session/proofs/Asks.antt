@@ -111,12 +111,12 @@ asks_weigh schema query f g less =
 -- a row of a reply is no wider than one with all visible columns
 pub narrow : (schema : Schema) (query : Query) (table : ℕ) → row_width schema (ask_for schema query table) ≤ spool_width schema table
 narrow schema query table =
-    let columns : List ℕ = filter (is_wanted schema query.select table) (places_of (columns_of schema table)) in
+    let columns : List ℕ = filter (is_wanted schema query table) (places_of (columns_of schema table)) in
     let kinds : List Kind = map (kind_at schema table) columns in
     let cells : sum (map cell_width kinds) ≡ sum_by cell_width kinds = sum_mapped (λ (x : ℕ). x) cell_width kinds in
     let widths = sum_mapped cell_width (kind_at schema table) columns in
     let lower = sum_less (λ (column : ℕ). cell_width (kind_at schema table column)) (width_at schema table) (λ column. as_wide (column_at schema table column)) columns in
-    let seen = sum_fewer (width_at schema table) (is_wanted schema query.select table) (is_visible schema table) (λ column wanted. (both_hold (is_visible schema table column) _ wanted).one) (places_of (columns_of schema table)) in
+    let seen = sum_fewer (width_at schema table) (is_wanted schema query table) (is_visible schema table) (λ column wanted. (both_hold (is_visible schema table column) _ wanted).one) (places_of (columns_of schema table)) in
     let all : sum_by (width_at schema table) (filter (is_visible schema table) (places_of (columns_of schema table))) ≡ sum_by (width_at schema table) (filter (is_visible schema table) (below (length (columns_of schema table)))) =
     ap (λ (ks : List ℕ). sum_by (width_at schema table) (filter (is_visible schema table) ks)) (places_below 0 (columns_of schema table)) in
     omega (arith, cells, widths, lower, seen, all)

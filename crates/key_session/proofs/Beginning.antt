@@ -40,7 +40,8 @@ use Rattle.key_lines.specs.declared.told.ToldText.{ToldText}
 use Rattle.key_exec.specs.Telling.{CanTell, IsUnderWay, HasTold, GoesOn, AreRepliesOf, AreRepliesTo}
 use Rattle.key_exec.specs.declared.telling.Telling.{Telling}
 use Rattle.key_exec.specs.declared.text.Told.{Told}
-use Rattle.key_session.specs.Telling.{SessionSide, IsTelling, AreKeptSoFar, marks_behind, texts_left}
+use Rattle.key_session.specs.Reasons.{AreBlamed}
+use Rattle.key_session.specs.Telling.{SessionSide, IsTelling, marks_behind, texts_left}
 use Rattle.key_session.specs.Going.{CanRun, IsGoing, IsNext, IsTaken, IsRunning, Runs, IsAmid, IsBegun, IsOutAlone, EndsText, leases_of}
 use Rattle.key_session.specs.declared.counts.Counts.{Counts}
 use Rattle.key_session.specs.declared.teller.Teller.{Teller}
@@ -177,12 +178,15 @@ telling_spared plan pages_told catalog texts journal top since sink before now p
       marked = marked_same catalog texts count since.flash.calls before.calls now.calls store store (λ text. refl) calls telling.marked;
       prints = telling.prints;
       damaged = telling.damaged;
-      read = λ damage e. read_later since.flash.calls since.flash.calls before now (omega arith) keeps.gave plan pages_told catalog texts telling.reasons.reasons damage (telling.read damage e);
+      read = read_later since.flash.calls since.flash.calls before now (omega arith) keeps.gave plan pages_told catalog texts telling.reasons.counted.kept.met.damages telling.read;
       reasons = record {
         reasons = telling.reasons.reasons;
         as_many = telling.reasons.as_many;
         each = telling.reasons.each;
-        counted = subst (λ (n : ℕ). AreKeptSoFar plan pages_told since.flash.page catalog texts counts (marks_behind store count) since.flash.faults n telling.reasons.reasons) (sym faults) telling.reasons.counted;
+        counted = record {
+          kept = telling.reasons.counted.kept;
+          faults = subst (AreBlamed (marks_behind store count) telling.reasons.reasons since.flash.faults) (sym faults) telling.reasons.counted.faults;
+        };
       };
       lines = telling.lines;
       answers = telling.answers;

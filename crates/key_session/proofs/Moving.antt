@@ -273,7 +273,7 @@ going_on stay reasons decided plan pages_told catalog texts journal more since s
     marked = tells.marked since.flash.calls going.telling.calls going.telling.marked;
     prints = going.telling.prints;
     damaged = going.telling.damaged;
-    read = λ damage e. read_later since.flash.calls since.flash.calls before now (omega arith) tells.files.gave plan pages_told catalog texts going.telling.reasons.reasons damage (going.telling.read damage e);
+    read = read_later since.flash.calls since.flash.calls before now (omega arith) tells.files.gave plan pages_told catalog texts going.telling.reasons.counted.kept.met.damages going.telling.read;
     reasons = record {
       reasons = going.telling.reasons.reasons;
       as_many = going.telling.reasons.as_many;

@@ -35,17 +35,17 @@ use Rattle.key_exec.specs.Texts.{IsDone, ToldTells, ToldBlames, ToldReads, Why}
 use Rattle.key_exec.specs.Telling.{HasTold, AreLinesOf, AreRepliesOf, AreThere}
 use Rattle.key_exec.specs.declared.text.Told.{Told}
 use Rattle.key_exec.specs.declared.text.Told.TheVariants as told
-use Rattle.key_session.specs.Counting.{one_if, reason_of, IsCounted}
-use Rattle.key_session.specs.Damages.{IsSoOfText, WasRead}
-use Rattle.key_session.specs.Reasons.{HaveSoFar, HasReason, HaveLines, HasLines, HasAnswerLines, HaveAnswerLines}
+use Rattle.key_session.specs.Counting.{damage_in, one_if, reason_of, IsCounted}
+use Rattle.key_session.specs.Damages.{IsSoOfText, AreRead, MeetsFirst}
+use Rattle.key_session.specs.Reasons.{AreBlamed, HaveSoFar, HasReason, HaveLines, HasLines, HasAnswerLines, HaveAnswerLines}
 use Rattle.page_pool.specs.Pools.{Pool}
 use Rattle.key_exec.specs.declared.telling.Telling.{Telling}
 use Rattle.key_session.specs.Telling.{SessionSide, AreMarked, AreKeptSoFar, AreLeft, KeepsFiles, IsTelling, marks_behind, texts_left}
 use Rattle.key_session.specs.Going.{IsTaken, EndsText}
 use Rattle.key_session.specs.declared.teller.Teller.{Teller}
 use Rattle.key_session.proofs.Coming.{answers_so, reason_so, lines_so}
-use Rattle.key_session.proofs.Adding.{TellsMark, one_lines, one_reason, one_damage, told_more, called_more, damage_called_more, still_no_fall, next_number, left_more, some_more}
-use Rattle.key_session.proofs.Readings.{read_later, first_read, told_earlier}
+use Rattle.key_session.proofs.Adding.{TellsMark, one_each, one_lines, one_reason, one_damage, told_more, called_more, damage_called_more, still_no_fall, next_number, left_more, some_more}
+use Rattle.key_session.proofs.Readings.{read_later, one_read, told_earlier}
 use Rattle.key_session.proofs.Marking.{marks_next, marked_next, mark_told}
 
 -- the count of faults never falls, but for its last value
@@ -152,6 +152,9 @@ module _ (join : PiecesJoin) (decided : TextsAreDecided) (laws : PageLaws) (late
   abbrev marks : ℕ
   marks = one_if (is_lost store (old.count + 2))
 
+  abbrev met : MeetsFirst plan pages_told since.flash.page catalog texts telling.reasons.reasons old.counts.damage
+  met = telling.reasons.counted.kept.met
+
   files : KeepsFiles catalog since.flash now.flash
   files = files_kept catalog since.flash before.flash now.flash telling.pages kept_pages
 
@@ -236,6 +239,7 @@ module _ (join : PiecesJoin) (decided : TextsAreDecided) (laws : PageLaws) (late
   both_now : (more : HaveSoFar catalog texts journal (old.count + 1) (AreKeptSoFar plan pages_told since.flash.page catalog texts new.counts marks since.flash.faults now.flash.faults))
       × (longer : HaveLines catalog texts journal more.reasons since.sink now.sink) × (more.reasons ≡ telling.reasons.reasons ++ reason_of result ∷ [])
       × (longer.lines ≡ telling.lines.lines ++ ends.lines ∷ [])
+      × (more.counted.kept.met.damages ≡ telling.reasons.counted.kept.met.damages ++ damage_in result ∷ [])
   both_now =
       one_reason plan pages_told since.flash.page catalog texts join journal old.count old.counts new.counts since.flash.faults before.flash.faults now.flash.faults marks marked result
       since.sink first.sink now.sink ends.lines telling.reasons has_reason tells tells_mark counted ended.first blames_now telling.lines has_lines ends.handed_on
@@ -268,14 +272,17 @@ module _ (join : PiecesJoin) (decided : TextsAreDecided) (laws : PageLaws) (late
         (marked_next catalog texts old.count since.flash.calls before.flash.calls now.flash.calls store calls telling.marked);
     prints = some_more join since.sink first.sink now.sink telling.prints (record { piece = concat ends.lines; handed = ends.handed_on });
     damaged = one_damage plan pages_told since.flash.page catalog texts old.count old.counts.damage new.counts.damage result ended.first blames_now telling.damaged;
-    read = λ damage e. subst (λ (rs : List Reason). WasRead plan pages_told since.flash.calls now.flash catalog texts rs damage) (sym both_now.2)
-        (first_read plan pages_told catalog texts since.flash.calls now.flash telling.reasons.reasons old.count old.counts.damage new.counts.damage result telling.reasons.as_many telling.reasons.counted.kept.counted.found ended.first read_now
-        (λ damage e. read_later since.flash.calls since.flash.calls before.flash now.flash (omega arith) kept_pages.gave plan pages_told catalog texts telling.reasons.reasons damage (telling.read damage e)) damage e);
+    read = subst (AreRead plan pages_told since.flash.calls now.flash catalog texts) (sym both_now.4)
+        (one_read plan pages_told catalog texts since.flash.calls now.flash met.damages old.count result (one_each met.damages telling.reasons.reasons met.by_reason ∙ telling.reasons.as_many) read_now
+        (read_later since.flash.calls since.flash.calls before.flash now.flash (omega arith) kept_pages.gave plan pages_told catalog texts met.damages telling.read));
     reasons = record {
       reasons = both_now.0.reasons;
       as_many = both_now.0.as_many ∙ sym next_count;
       each = both_now.0.each;
-      counted = subst (λ (n : ℕ). AreKeptSoFar plan pages_told since.flash.page catalog texts new.counts n since.flash.faults now.flash.faults both_now.0.reasons) same_marks both_now.0.counted;
+      counted = record {
+        kept = both_now.0.counted.kept;
+        faults = subst (λ (n : ℕ). AreBlamed n both_now.0.reasons since.flash.faults now.flash.faults) same_marks both_now.0.counted.faults;
+      };
     };
     lines = both_now.1;
     answers = λ database knows. (answers_more database knows).0;

@@ -2,10 +2,11 @@
 use Rattle.std.proofs.Common.{◌≡◌, ℕ, ◌+◌, ◌<◌, Bool, true, false, not, ◌&&◌, List, [], ◌∷◌, ◌++◌, length, map, filter, refl, arith, nat_lt, nat_le, lt-ltb, le-leb, Result, Ok, Err, if◌then◌else◌}
 use Rattle.std.specs.Prelude.{◌==◌}
 use Rattle.ghost_model.specs.core.Schema.{Schema, columns_of, is_visible, is_empty, places_from, places_of}
-use Rattle.ghost_model.specs.core.Query.{Query, Condition, Compare, Join}
+use Rattle.ghost_model.specs.core.Query.{Query, Condition, Member, OneOf, Join, members_of_group}
+use Rattle.ghost_model.specs.core.Groups.{each_of}
 use Rattle.ghost_model.specs.readings.QueryReading.{reading}
 use Rattle.ghost_model.specs.core.Channel.{Catalog, Ask}
-use Rattle.ghost_model.specs.core.Asks.{NumberedAsk, asked, asked_from, asked_of, asks_of, asks_of_reading, ask_for, is_needed, is_wanted, row_width}
+use Rattle.ghost_model.specs.core.Asks.{NumberedAsk, asked, asked_from, asked_of, asks_of, asks_of_reading, ask_for, column_test, is_needed, is_shown, is_wanted, row_width}
 use Rattle.ghost_model.specs.laws.ShortWords.{tests_of, is_from}
 use Rattle.ghost_model.specs.forms.Layout.{spool_width}
 use Rattle.ghost_model.proofs.ChannelLemmas.Tests.{false_is_not, both_hold, hold_both}
@@ -56,27 +57,33 @@ module _ (schema : Schema) (table : ℕ) where
   abbrev Seen : Type 0
   Seen = (column : ℕ) × (is_visible schema table column ≡ true)
 
+  shown : (one : Member) → is_shown schema table one ≡ true → Seen
+  shown one is = (one.field.column, (both_hold (one.field.table == table) (is_visible schema table one.field.column) is).other)
+
+  all_shown : (first : Member) (others : List Member) → each_of (is_shown schema table) first others ≡ true → Seen
+  all_shown first [] all = shown first all
+  all_shown first (next ∷ others) all = shown first (both_hold (is_shown schema table first) (each_of (is_shown schema table) next others) all).one
+
   tested : (conditions : List Condition) → is_empty (tests_of schema table conditions) ≡ false → Seen
   tested [] e = let bad : ⊥ = cc in absurd bad
-  tested (Compare field operator value ∷ later) e = go (λ some. tested later some) (field.table == table) (is_visible schema table field.column) refl e
+  tested (OneOf first others ∷ later) e = go (λ some. tested later some) (each_of (is_shown schema table) first others) refl e
     where
-      go : (is_empty (tests_of schema table later) ≡ false → Seen) → (a b : Bool) → is_visible schema table field.column ≡ b
-          → is_empty ((if a && b then record { column = field.column; operator = operator; value = value } ∷ [] else []) ++ tests_of schema table later) ≡ false → Seen
-      go on true true is e = (field.column, is)
-      go on true false is e = on e
-      go on false b is e = on e
+      go : (is_empty (tests_of schema table later) ≡ false → Seen) → (b : Bool) → each_of (is_shown schema table) first others ≡ b
+          → is_empty ((if b then map column_test (members_of_group first others) else []) ++ tests_of schema table later) ≡ false → Seen
+      go on true all e = all_shown first others all
+      go on false all e = on e
   tested (Join one other ∷ later) e = tested later e
 
   seen_of : (query : Query) → is_needed (ask_for schema query table) ≡ true → Seen
   seen_of query needed = go (is_empty columns) refl (is_empty (tests_of schema table query.conditions)) refl needed
     where
       columns : List ℕ
-      columns = filter (is_wanted schema query.select table) (places_of (columns_of schema table))
+      columns = filter (is_wanted schema query table) (places_of (columns_of schema table))
 
-      go : (a : Bool) → is_empty (filter (is_wanted schema query.select table) (places_of (columns_of schema table))) ≡ a
+      go : (a : Bool) → is_empty (filter (is_wanted schema query table) (places_of (columns_of schema table))) ≡ a
           → (b : Bool) → is_empty (tests_of schema table query.conditions) ≡ b → not (a && b) ≡ true → Seen
       go false some b e n =
-          let found = passes (is_wanted schema query.select table) (places_of (columns_of schema table)) some in
+          let found = passes (is_wanted schema query table) (places_of (columns_of schema table)) some in
           (found.0, (both_hold (is_visible schema table found.0) _ found.1).one)
       go true none false some n = tested query.conditions some
       go true none true all n = absurd (false_is_not n)

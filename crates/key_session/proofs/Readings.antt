@@ -1,9 +1,7 @@
 -- What a read gave it gave, after other calls as well.
-use Rattle.std.proofs.Common.{◌≡◌, ◌≤◌, ℕ, zero, suc, ◌+◌, Bool, true, false, List, [], ◌∷◌, ◌++◌, length, inl, inr, refl, sym, ap, ◌∙◌, subst, arith, Option, Some, None}
-use Rattle.std.specs.Prelude.{◌%◌, take, slice_get, is_some}
-use Rattle.std.specs.List.{list_any}
+use Rattle.std.proofs.Common.{◌≡◌, ◌≤◌, ℕ, ◌+◌, Bool, true, List, [], ◌∷◌, ◌++◌, length, inl, inr, sym, ◌∙◌, subst, arith, Option, Some}
+use Rattle.std.specs.Prelude.{◌%◌}
 use Rattle.ghost_model.specs.core.Channel.{Catalog}
-use Rattle.ghost_model.specs.core.Lines.{Reason}
 use Rattle.ghost_model.specs.core.Query.{Query}
 use Rattle.ghost_model.specs.forms.Layout.{run_of_file}
 use Rattle.ghost_model.specs.forms.Slots.{in_slot}
@@ -19,8 +17,9 @@ use Rattle.key_exec.specs.Texts.{ToldReads, WasDamagedFor}
 use Rattle.key_exec.specs.declared.damage.Damage.{Damage}
 use Rattle.key_exec.specs.declared.text.Told.{Told}
 use Rattle.key_exec.specs.declared.text.Told.TheVariants as told
-use Rattle.key_session.specs.Counting.{damage_in, first_damage, is_damage, reason_of}
-use Rattle.key_session.specs.Damages.{IsFirstDamaged, IsSoOfText, WasRead}
+use Rattle.key_session.specs.Counting.{damage_in}
+use Rattle.key_session.specs.Damages.{IsSoOfText, WasRead, AreRead}
+use Rattle.key_session.proofs.Adding.{last_or_before, some_same}
 
 -- what reads gave
 abbrev pub KeepsGiven : (before now : Device) → Type 0
@@ -104,88 +103,41 @@ module _ (early since : ℕ) (before now : Device) (earlier : early ≤ since) (
     is = damage_on plan pages_told catalog was.query was.top side half number slot found was.is;
   }
 
-  pub read_later : (plan : Plan) (pages_told : Bool) (catalog : Catalog) (texts : List (List ℕ)) (reasons : List Reason) (damage : Damage)
-      → WasRead plan pages_told since before catalog texts reasons damage → WasRead plan pages_told early now catalog texts reasons damage
-  read_later plan pages_told catalog texts reasons damage was = (
-    was.0,
-    (
-      was.1.0,
+  pub read_later : (plan : Plan) (pages_told : Bool) (catalog : Catalog) (texts : List (List ℕ)) (damages : List (Option Damage))
+      → AreRead plan pages_told since before catalog texts damages → AreRead plan pages_told early now catalog texts damages
+  read_later plan pages_told catalog texts damages were = λ place damage e.
+      let was = were place damage e in
       record {
-        text = was.1.1.text;
-        stands = was.1.1.stands;
-        half = was.1.1.half;
-        is = damage_for plan pages_told catalog was.1.1.text ((was.0 + 1) % 2) was.1.1.half damage.page damage.slot damage.found was.1.1.is;
-      },
-    ),
-  )
+        text = was.text;
+        stands = was.stands;
+        half = was.half;
+        is = damage_for plan pages_told catalog was.text ((place + 1) % 2) was.half damage.page damage.slot damage.found was.is;
+      }
 
--- the first text that damage ended stays the first behind more texts
-got_kept : (earlier more : List Reason) (place : ℕ) (reason : Reason) → slice_get earlier place ≡ Some reason → slice_get (earlier ++ more) place ≡ Some reason
-got_kept [] more place reason e = cc
-got_kept (first ∷ earlier) more zero reason e = e
-got_kept (first ∷ earlier) more (suc place) reason e = got_kept earlier more place reason e
-
-take_kept : (earlier more : List Reason) (place : ℕ) (reason : Reason) → slice_get earlier place ≡ Some reason → take place (earlier ++ more) ≡ take place earlier
-take_kept [] more place reason e = cc
-take_kept (first ∷ earlier) more zero reason e = refl
-take_kept (first ∷ earlier) more (suc place) reason e = ap (λ (front : List Reason). first ∷ front) (take_kept earlier more place reason e)
-
-first_stays : (earlier more : List Reason) (place : ℕ) → IsFirstDamaged earlier place → IsFirstDamaged (earlier ++ more) place
-first_stays earlier more place first = record {
-  none_before = ap (list_any is_damage) (take_kept earlier more place first.reason first.stands) ∙ first.none_before;
-  reason = first.reason;
-  stands = got_kept earlier more place first.reason first.stands;
-  damaged = first.damaged;
-}
-
-got_last : (earlier : List Reason) (reason : Reason) → slice_get (earlier ++ reason ∷ []) (length earlier) ≡ Some reason
-got_last [] reason = refl
-got_last (first ∷ earlier) reason = got_last earlier reason
-
-take_before : (earlier more : List Reason) → take (length earlier) (earlier ++ more) ≡ earlier
-take_before [] more = refl
-take_before (first ∷ earlier) more = ap (λ (front : List Reason). first ∷ front) (take_before earlier more)
-
--- and where damage ended none of them, the next one is the first that it ends
-first_now : (earlier : List Reason) (reason : Reason) (place : ℕ) → length earlier ≡ place → list_any is_damage earlier ≡ false → is_damage reason ≡ true → IsFirstDamaged (earlier ++ reason ∷ []) place
-first_now earlier reason place long none damaged =
-    subst (IsFirstDamaged (earlier ++ reason ∷ [])) long
-    (record {
-      none_before = ap (list_any is_damage) (take_before earlier (reason ∷ [])) ∙ none;
-      reason = reason;
-      stands = got_last earlier reason;
-      damaged = damaged;
-    })
-
--- the damage that was met first, after one more text
+-- the damage that texts met, after one more text
 module _ (plan : Plan) (pages_told : Bool) (catalog : Catalog) (texts : List (List ℕ)) (since : ℕ) (device : Device) where
   abbrev ReadAt : (place : ℕ) → Told → Type 0
   ReadAt place result = IsSoOfText texts place (λ text side half. ToldReads plan pages_told since device catalog text side half result)
 
-  slot_read : (earlier : List Reason) (place : ℕ) (result : Told) (damage : Damage) → length earlier ≡ place → list_any is_damage earlier ≡ false → ReadAt place result → damage_in result ≡ Some damage
-      → WasRead plan pages_told since device catalog texts (earlier ++ reason_of result ∷ []) damage
-  slot_read earlier place told.Refused damage long none read e = cc
-  slot_read earlier place told.Answered damage long none read e = cc
-  slot_read earlier place told.Host damage long none read e = cc
-  slot_read earlier place told.Link damage long none read e = cc
-  slot_read earlier place told.Protocol damage long none read e = cc
-  slot_read earlier place told.Marked damage long none read e = cc
-  slot_read earlier place told.Flash damage long none read e = cc
-  slot_read earlier place (told.Damaged met) damage long none read e =
-      subst (λ (d : Damage). WasRead plan pages_told since device catalog texts (earlier ++ reason_of (told.Damaged met) ∷ []) d) (some_same met damage e)
-      (place, (first_now earlier (reason_of (told.Damaged met)) place long none refl, record { text = read.text; stands = read.stands; half = read.half; is = read.is }))
-    where
-      some_same : (x y : Damage) → Some x ≡ Some y → x ≡ y
-      some_same x y f = cc
+  slot_read : (place : ℕ) (result : Told) (damage : Damage) → ReadAt place result → damage_in result ≡ Some damage → WasRead plan pages_told since device catalog texts place damage
+  slot_read place told.Refused damage read e = cc
+  slot_read place told.Answered damage read e = cc
+  slot_read place told.Host damage read e = cc
+  slot_read place told.Link damage read e = cc
+  slot_read place told.Protocol damage read e = cc
+  slot_read place told.Marked damage read e = cc
+  slot_read place told.Flash damage read e = cc
+  slot_read place (told.Damaged met) damage read e =
+      subst (λ (d : Damage). WasRead plan pages_told since device catalog texts place d) (some_same met damage e)
+      (record { text = read.text; stands = read.stands; half = read.half; is = read.is })
 
-  pub first_read : (earlier : List Reason) (place : ℕ) (before after : Option Damage) (result : Told) → length earlier ≡ place → is_some before ≡ list_any is_damage earlier
-      → after ≡ first_damage before (damage_in result) → ReadAt place result
-      → ((damage : Damage) → before ≡ Some damage → WasRead plan pages_told since device catalog texts earlier damage)
-      → (damage : Damage) → after ≡ Some damage → WasRead plan pages_told since device catalog texts (earlier ++ reason_of result ∷ []) damage
-  first_read earlier place (Some first) after result long found is read were damage e =
-      let was = were damage (sym is ∙ e) in
-      (was.0, (first_stays earlier (reason_of result ∷ []) was.0 was.1.0, was.1.1))
-  first_read earlier place None after result long found is read were damage e = slot_read earlier place result damage long (sym found) read (sym is ∙ e)
+  pub one_read : (damages : List (Option Damage)) (count : ℕ) (result : Told) → length damages ≡ count → ReadAt count result
+      → AreRead plan pages_told since device catalog texts damages → AreRead plan pages_told since device catalog texts (damages ++ damage_in result ∷ [])
+  one_read damages count result long read were = λ place damage e.
+      elim (last_or_before damages (damage_in result) place (Some damage) e) [
+        | inl f ↦ were place damage f
+        | inr f ↦ subst (λ (n : ℕ). WasRead plan pages_told since device catalog texts n damage) (sym (f.0 ∙ long)) (slot_read count result damage read f.1)
+      ]
 
 -- a text was told after the session had begun
 pub told_earlier : (plan : Plan) (pages_told : Bool) (catalog : Catalog) (early since : ℕ) (device : Device) (text : List ℕ) (side : ℕ) (half : Half) (result : Told) → early ≤ since

@@ -72,7 +72,7 @@ at_first join plan pages_told catalog texts since pool pump count counts left re
     };
     prints = record { piece = []; handed = join.none since.sink };
     damaged = λ damage e. absurd (none_some damage (sym is_none.damage ∙ e));
-    read = λ damage e. absurd (none_some damage (sym is_none.damage ∙ e));
+    read = λ place damage e. cc;
     reasons = record {
       reasons = [];
       as_many = sym none;
@@ -356,10 +356,7 @@ has_run later never went link_before link_now plan pages_told catalog at texts s
             last.damaged damage
             (damaged_so now.sink.failed (standing_after catalog (asked_of catalog.schema texts) journal).stopped (standing_after catalog (asked_of catalog.schema texts) journal).heard.broken _ _ _ counts.by_flash counts.damage damage
             (sym status_is ∙ e));
-        damage_read = λ damage e.
-            last.read damage
-            (damaged_so now.sink.failed (standing_after catalog (asked_of catalog.schema texts) journal).stopped (standing_after catalog (asked_of catalog.schema texts) journal).heard.broken _ _ _ counts.by_flash counts.damage damage
-            (sym status_is ∙ e));
+        damage_read = last.read;
         undamaged = undamaged;
         answered = answers live.proper is_finished (record { reasons = have; answers = last.answers; undamaged = undamaged });
         few_calls = few live.proper is_finished count;

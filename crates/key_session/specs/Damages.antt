@@ -1,5 +1,5 @@
--- The damage that texts met: each text that it ended names a slot that is damaged, one that is read for this text, and the first of
--- them in the order of the texts is the one that is told.
+-- The damage that texts met: each text that it ended names a slot that is damaged, one that is read for this text and that the session
+-- read for it, and the first of them in the order of the texts is the one that is told.
 use Rattle.std.specs.Prelude.{◌≡◌, ℕ, ◌+◌, ◌%◌, Bool, true, false, List, map, take, slice_get, Option, Some, is_some}
 use Rattle.std.specs.List.{list_any}
 use Rattle.ghost_model.specs.core.Channel.{Catalog}
@@ -36,13 +36,16 @@ pub record IsFirstDamaged (reasons : List Reason) (place : ℕ) : Type 0 where
   pub stands : slice_get reasons place ≡ Some reason
   pub damaged : is_damage reason ≡ true
 
--- the session read it there for the first of them that damage ended, from so many calls on: in a slot of a file that the plan reads for
--- this text, or, only where the pages are not told, of the half of the spool in which its replies lie, or of scratch
-abbrev pub WasRead : (by : Plan) (pages_told : Bool) (since : ℕ) → Device → Catalog → (texts : List (List ℕ)) → (reasons : List Reason) → Damage → Type 0
-WasRead by pages_told since device catalog texts reasons damage =
-    (place : ℕ)
-    × (IsFirstDamaged reasons place
-    × IsSoOfText texts place (λ text side half. WasDamagedFor by pages_told since device catalog text side half damage.page damage.slot damage.found))
+-- the session read it there for the text at a place, from so many calls on: in a slot of a file that the plan reads for this text, or,
+-- only where the pages are not told, of the half of the spool in which its replies lie, or of scratch
+abbrev pub WasRead : (by : Plan) (pages_told : Bool) (since : ℕ) → Device → Catalog → (texts : List (List ℕ)) (place : ℕ) → Damage → Type 0
+WasRead by pages_told since device catalog texts place damage =
+    IsSoOfText texts place (λ text side half. WasDamagedFor by pages_told since device catalog text side half damage.page damage.slot damage.found)
+
+-- and so of each text that met one of these, which stand in the order of the texts
+abbrev pub AreRead : (by : Plan) (pages_told : Bool) (since : ℕ) → Device → Catalog → (texts : List (List ℕ)) → (damages : List (Option Damage)) → Type 0
+AreRead by pages_told since device catalog texts damages =
+    (place : ℕ) (damage : Damage) → slice_get damages place ≡ Some (Some damage) → WasRead by pages_told since device catalog texts place damage
 
 -- some texts have these reasons, and this is the damage that the first of them met that damage ended
 pub record MeetsFirst (by : Plan) (pages_told : Bool) (page : ℕ → List ℕ) (catalog : Catalog) (texts : List (List ℕ)) (reasons : List Reason) (first : Option Damage) : Type 0 where

@@ -15,7 +15,7 @@ use Rattle.leakless_plan.specs.declared.plan.Plan.{Plan}
 use Rattle.key_exec.specs.Reading.{KnowsBy, KnowsButBy}
 use Rattle.key_session.specs.Answering.{AnswersWhereSound, CallsAreFew}
 use Rattle.key_session.specs.Counting.{is_refusal, is_fault, is_flash, is_damage}
-use Rattle.key_session.specs.Damages.{IsSlot, WasRead, MeetsFirst}
+use Rattle.key_session.specs.Damages.{IsSlot, AreRead, MeetsFirst}
 use Rattle.key_session.specs.Reasons.{HaveReasons, HaveLines, HaveAnswerLines, is_refused_text}
 use Rattle.key_session.specs.Refusing.{first_code}
 use Rattle.key_session.specs.Telling.{SessionSide}
@@ -101,7 +101,8 @@ pub record HasRun (goes : Journal → Type 0) (link_before link_now : ℕ) (by :
   -- each text is told by its lines: the rule by which it is refused, and the rows that were given
   pub are_told : AreTold catalog.schema texts lines.lines (told_in tally.told)
   pub damaged : (damage : Damage) → tally.status ≡ status.Damaged damage → IsSlot by pages_told since.flash.page catalog texts damage
-  pub damage_read : (damage : Damage) → tally.status ≡ status.Damaged damage → WasRead by pages_told since.flash.calls now.flash catalog texts reasons.reasons damage
+  -- of each text that damage ended the session read the slot for it; the status names that of the first of them
+  pub damage_read : AreRead by pages_told since.flash.calls now.flash catalog texts reasons.counted.first.damages
   -- and where they are those of a database, no text met damage
   pub undamaged : (database : Database) → KnowsBy by pages_told since.flash.page catalog database → list_any is_damage reasons.reasons ≡ false
   -- an honest host, pages that hold and no fault: all is printed, and the status is Ok

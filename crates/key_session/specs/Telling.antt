@@ -22,7 +22,7 @@ use Rattle.leakless_plan.specs.declared.plan.Plan.{Plan}
 use Rattle.key_exec.specs.Reading.{KnowsButBy}
 use Rattle.key_exec.specs.Rows.{PrintsSome}
 use Rattle.key_session.specs.Counting.{one_if}
-use Rattle.key_session.specs.Damages.{IsSlot, WasRead, AreKept}
+use Rattle.key_session.specs.Damages.{IsSlot, AreRead, AreKept}
 use Rattle.key_session.specs.Reasons.{AreBlamed, HaveSoFar, HaveLines, HaveAnswerLines, is_refused_text}
 use Rattle.key_exec.specs.declared.damage.Damage.{Damage}
 use Rattle.key_session.specs.declared.counts.Counts.{Counts}
@@ -87,7 +87,7 @@ pub record IsTelling (by : Plan) (pages_told : Bool) (catalog : Catalog) (texts 
   pub prints : PrintsSome since.sink sink
   pub damaged : (damage : Damage) → counts.damage ≡ Some damage → IsSlot by pages_told since.flash.page catalog texts damage
   pub reasons : HaveSoFar catalog texts journal count (AreKeptSoFar by pages_told since.flash.page catalog texts counts (marks_behind replies count) since.flash.faults device.faults)
-  pub read : (damage : Damage) → counts.damage ≡ Some damage → WasRead by pages_told since.flash.calls device catalog texts reasons.reasons damage
+  pub read : AreRead by pages_told since.flash.calls device catalog texts reasons.counted.kept.met.damages
   pub lines : HaveLines catalog texts journal reasons.reasons since.sink sink
   pub answers : (database : Database) → KnowsButBy by pages_told since.flash.page catalog database
       → HaveAnswerLines catalog (hidden_of catalog.schema database) texts journal reasons.reasons since.sink sink

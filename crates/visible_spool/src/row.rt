@@ -28,7 +28,7 @@ impl Model for SpoolRow {
 }
 
 impl SpoolRow {
-    /// The row that has these bytes, 4 to 1,540 of them.
+    /// The row that has these bytes, 4 to 1,564 of them.
     pub(crate) fn of(bytes: &[u8]) -> SpoolRow
         requires some { 4 ≤ length bytes.now }
         requires most { length bytes.now ≤ 1564 }

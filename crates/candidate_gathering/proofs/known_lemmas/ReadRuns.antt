@@ -7,8 +7,7 @@ use Rattle.std.proofs.lemmas.Bool.{and_parts, eqb-true, eq-eqb, le-leb, lt-ltb, 
 use Rattle.std.proofs.lemmas.Option.{slice_get_within}
 use Rattle.ghost_model.specs.core.Schema.{Schema, is_empty}
 use Rattle.ghost_model.specs.core.Channel.{Catalog}
-use Rattle.ghost_model.specs.core.Query.{Condition, Field, Operator, Query, Compare, Join}
-use Rattle.ghost_model.specs.core.Values.{Value}
+use Rattle.ghost_model.specs.core.Query.{Condition, Field, Member, Query, Test, Compared, IsNull, IsNotNull, OneOf, Join}
 use Rattle.ghost_model.specs.forms.Layout.{above_of, count_of, is_below, is_hidden, levels_of, scratch_end, spool_end, File, IndexHeader, IndexDirectory, IndexLevel, IdDirectory, IdLevel, run_of_file}
 use Rattle.ghost_model.specs.forms.Runs.{Run, id_at, number_in, page_of}
 use Rattle.ghost_model.specs.forms.Slots.{has_file}
@@ -25,6 +24,7 @@ use Rattle.leakless_plan.specs.Choices.{crosses, form_of, form_with, forms_of, i
 use Rattle.flash_pages.proofs.ListFrames.{listed_by_width, listed_kept}
 use Rattle.climbing_index.specs.declared.index.ClimbingIndex.{ClimbingIndex}
 use Rattle.climbing_index.specs.declared.index.IdIndex.{IdIndex}
+use Rattle.climbing_index.specs.declared.search.Group.{Group}
 use Rattle.spill_pass.specs.Lists.{IsOrdered, id_of}
 use Rattle.visible_spool.specs.declared.half.Half.{Half}
 use Rattle.visible_spool.specs.declared.reply.Reply.{Reply as ReplyModel}
@@ -38,13 +38,13 @@ use Rattle.entry_lists.specs.Given.{IndexMay}
 use Rattle.entry_lists.proofs.ValueLists.{file_at}
 use Rattle.condition_lists.specs.declared.term.Term.{Term}
 use Rattle.condition_lists.specs.declared.term.Term.TheVariants.{Ranges, Entries, Identifiers, TopReply, Reply}
-use Rattle.condition_lists.specs.Terms.{AreTableTerms, AreTermsBy, IsIndexAt, IsIdIndexAt, IsReplyTermOf, IsTermOf, has_level, is_compared, is_listed, is_replied, is_united, unites_whole}
+use Rattle.condition_lists.specs.Terms.{AreTableTerms, AreTermsBy, IsIndexAt, IsIdIndexAt, IsReplyTermOf, IsIdentifiersTerm, IsTermOf, IsTermOfTest, has_level, is_compared, is_listed, is_replied, is_united, unites_whole}
 use Rattle.condition_lists.proofs.PathLemmas.{joined}
 use Rattle.condition_lists.proofs.PlaceLemmas.{found}
 use Rattle.candidate_gathering.specs.searching.Begun.{rows_list}
 use Rattle.candidate_gathering.specs.searching.Given.{SearchMay}
 use Rattle.candidate_gathering.proofs.searching_lemmas.Places.{some_above, within_above}
-use Rattle.candidate_gathering.specs.known.Known.{compares, is_comparison_of}
+use Rattle.candidate_gathering.specs.known.Known.{compares, is_member_of}
 use Rattle.candidate_gathering.specs.known.Laws.{RunsMay}
 use Rattle.candidate_gathering.specs.known.May.{ReplyMay, TermMay, TermsMay, files_in, is_column, is_run_read, is_same_run, lies_in, may_blame, since_for}
 use Rattle.candidate_gathering.specs.known.Reading.{AreTaken, IsReadByForms, MayTake, crosses_at, has_ids, has_lists, has_set, is_read_by, may_unite, seeks_by}
@@ -239,9 +239,10 @@ any_some : {X : Type 0} (test : X → Bool) (xs : List X) → list_any test xs �
 any_some test [] any = absurd (cc any)
 any_some test (x ∷ xs) any = refl
 
-compared_by : (asked : Query) (wanted : Field) (operator : Operator) (literal : Value) → Among (Compare wanted operator literal) asked.conditions → compares asked wanted.table wanted.column ≡ true
-compared_by asked wanted operator literal among =
-    any_among (is_comparison_of wanted.table wanted.column) asked.conditions (Compare wanted operator literal) among
+compared_by : (asked : Query) (member : Member) → Among (OneOf member []) asked.conditions → compares asked member.field.table member.field.column ≡ true
+compared_by asked member among =
+    let wanted = member.field in
+    any_among (is_member_of wanted.table wanted.column) asked.conditions (OneOf member []) among
     (both (nat_eq wanted.table wanted.table) (nat_eq wanted.column wanted.column) (eq-eqb wanted.table wanted.table refl) (eq-eqb wanted.column wanted.column refl))
 
 level_there : (schema : Schema) (top table : ℕ) → has_level schema top table ≡ true → table < length schema
@@ -297,16 +298,27 @@ module _ (orders : FilesLieInOrder) (levels : LevelsAreAncestors) (told : Bool) 
               (both (has_set cat.schema asked forced top at) (compares asked table 0) set compared)
         ])
 
+    identifiers_may : (wanted : Field) (test : Test) (index : IdIndex) (level : ℕ) (first second : Group) → compares asked wanted.table wanted.column ≡ true
+        → IsIdentifiersTerm cat at wanted test index level first second → IndexMay S index.directory (level - 1)
+    identifiers_may wanted IsNull index level first second compared is = absurd is
+    identifiers_may wanted IsNotNull index level first second compared is = absurd is
+    identifiers_may wanted (Compared operator literal) index level first second compared is =
+        let C : ℕ → Type 0 = λ c. compares asked wanted.table c ≡ true in
+        ids_here wanted.table level index is.index_at (subst C is.column_is compared)
+
+    test_may : (wanted : Field) (test : Test) (term : Term) → compares asked wanted.table wanted.column ≡ true → IsTermOfTest cat at wanted test term
+        → TermMay S half device.page at (count_of cat at) term
+    test_may wanted test (Ranges first second) compared is = tt
+    test_may wanted test (Entries table column index level bounds) compared is =
+        entries_may orders levels told calls cat asked forced top side tree at wanted.table wanted.column index level is.2.index_at compared lists_here
+    test_may wanted test (Identifiers table index level first second) compared is = identifiers_may wanted test index level first second compared is.1
+    test_may wanted test TopReply compared is = absurd is
+    test_may wanted test (Reply table index level) compared is = absurd is
+
     condition_may : (condition : Condition) (term : Term) → Among condition asked.conditions → IsTermOf cat at condition term → TermMay S half device.page at (count_of cat at) term
     condition_may (Join one other) term among is = absurd is
-    condition_may (Compare wanted operator literal) (Ranges first second) among is = tt
-    condition_may (Compare wanted operator literal) (Entries table column index level bounds) among is =
-        entries_may orders levels told calls cat asked forced top side tree at wanted.table wanted.column index level is.2.index_at (compared_by asked wanted operator literal among) lists_here
-    condition_may (Compare wanted operator literal) (Identifiers table index level first second) among is =
-        let C : ℕ → Type 0 = λ c. compares asked wanted.table c ≡ true in
-        ids_here wanted.table level index is.1.index_at (subst C is.1.column_is (compared_by asked wanted operator literal among))
-    condition_may (Compare wanted operator literal) TopReply among is = absurd is
-    condition_may (Compare wanted operator literal) (Reply table index level) among is = absurd is
+    condition_may (OneOf member []) term among is = test_may member.field member.test term (compared_by asked member among) is
+    condition_may (OneOf member (next ∷ others)) term among is = absurd is
 
   -- the reply of the table itself
   own_reply_may : (at : ℕ) → at < length cat.schema → ReplyMay S half device.page (count_of cat at) at

@@ -7,7 +7,7 @@ use Rattle.std.proofs.lemmas.List.FromFn.{length-range_with_len}
 use Rattle.ghost_model.specs.core.Schema.{Kind}
 use Rattle.ghost_model.specs.core.Values.{Value, Database}
 use Rattle.ghost_model.specs.core.Channel.{Catalog}
-use Rattle.ghost_model.specs.core.Query.{Operator}
+use Rattle.ghost_model.specs.core.Query.{Operator, Test}
 use Rattle.ghost_model.specs.core.Replies as replies
 use Rattle.ghost_model.specs.core.Split.{hidden_of}
 use Rattle.ghost_model.specs.forms.Flash.{ids}
@@ -96,20 +96,20 @@ behind_of {first = first} lists first_is second_is behind =
 pub entries :
     EntriesHaveValueLists → GroupsAscend → ListsAreOfTerms → ListsComeInOrder → ListsAreWithinCosts → WorkGrows
     → (page right : ℕ → List ℕ) (cat : Catalog) (database : Database) → IsOf cat database
-    → (given : List replies.Reply) (top table column : ℕ) (operator : Operator) (literal : Value) (index : ClimbingIndex) (level : ℕ) (bounds : Bounds)
-    → AreEntriesOf cat top table column operator literal index level bounds
+    → (given : List replies.Reply) (top table column : ℕ) (test : Test) (index : ClimbingIndex) (level : ℕ) (bounds : Bounds)
+    → AreEntriesOf cat top table column test index level bounds
     → (values : List (List ℕ)) → HoldsIndexWhole right cat (hidden_of cat.schema database) table column values
     → HoldsIndexBut page cat (hidden_of cat.schema database) table column values
     → (first second : Group) → AreEntries index.directory.kind bounds values first second
     → (lists : EntryLists) → AreListsAt index.directory level first second (count_of cat top) lists
     → HaveRows page right cat database given top (of_term.Entries table column index level bounds) (Entries lists)
-entries have ascend of_terms order costs grows page right cat database of given top table column operator literal index level bounds are values whole but first second found lists begun =
+entries have ascend of_terms order costs grows page right cat database of given top table column test index level bounds are values whole but first second found lists begun =
     let at = are.index_at in
     let over = over_of of in
     let hidden = hidden_of cat.schema database in
     let level_is = begun.level_is in
     let near = slice_get_within (levels_of cat.schema table) level top at.level_is in
-    let behind = ascend cat database over top table column index level at operator literal bounds are.bounds_are are.kind values whole.are_values first second found.groups in
+    let behind = ascend cat database over top table column index level at test bounds are.bounds_are are.kind values whole.are_values first second found.groups in
     let rows_are : rows_at cat (levels_of cat.schema table) lists.level ≡ count_of cat top =
     ap (rows_at cat (levels_of cat.schema table)) level_is ∙ ap (count_of cat) (indexed (levels_of cat.schema table) level top at.level_is) in
     let has = have page right cat database of table column at.hidden values whole but index at.index_is lists

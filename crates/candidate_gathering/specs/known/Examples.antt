@@ -1,7 +1,7 @@
 -- Which files plans read for texts over the clinic, and of which a slot may be blamed.
 use Rattle.std.specs.Prelude.{◌≡◌, ℕ, Bool, true, false, List, [], ◌∷◌, codes, filter, Option, Some, None, Result, Ok, Err}
 use Rattle.ghost_model.specs.core.Values.{Text}
-use Rattle.ghost_model.specs.core.Query.{Query, Compare, Join, Equal}
+use Rattle.ghost_model.specs.core.Query.{Query, compared, Join, Equal}
 use Rattle.ghost_model.specs.forms.Layout.{File, Cells, Subtrees, IndexHeader, IndexDirectory, IndexLevel, IdDirectory, IdLevel, run_of_file}
 use Rattle.ghost_model.specs.refusals.QueryMeaning.{Refusal, field}
 use Rattle.ghost_model.specs.readings.QueryReading.{reading}
@@ -48,14 +48,14 @@ abbrev pub spanish : Query
 spanish = record {
   from = 2 ∷ 0 ∷ [];
   select = field 2 0 ∷ [];
-  conditions = Join (field 2 3) (field 0 0) ∷ Compare (field 0 2) Equal (Text (codes "ES")) ∷ [];
+  conditions = Join (field 2 3) (field 0 0) ∷ compared (field 0 2) Equal (Text (codes "ES")) ∷ [];
 }
 
 abbrev pub for_flu : Query
 for_flu = record {
   from = 2 ∷ [];
   select = field 2 0 ∷ [];
-  conditions = Compare (field 2 2) Equal (Text (codes "flu")) ∷ [];
+  conditions = compared (field 2 2) Equal (Text (codes "flu")) ∷ [];
 }
 
 -- whether a slot of the directory of doctor.country may be blamed for a query

@@ -3,7 +3,7 @@
 use Rattle.std.specs.Prelude.{◌≡◌, ◌↔◌, ℕ, ◌-◌, ◌≤◌, List, map}
 use Rattle.ghost_model.specs.core.Values.{Value, Database}
 use Rattle.ghost_model.specs.core.Channel.{Catalog}
-use Rattle.ghost_model.specs.core.Query.{Operator}
+use Rattle.ghost_model.specs.core.Query.{Operator, Test}
 use Rattle.ghost_model.specs.core.Replies as replies
 use Rattle.ghost_model.specs.core.Split.{hidden_of}
 use Rattle.ghost_model.specs.forms.Layout.{count_of}
@@ -42,17 +42,17 @@ pub record HaveRows (page right : ℕ → List ℕ) (cat : Catalog) (database : 
   pub cost : union_work (source_in lists).lists_left (ids_of ids) ≤ union_cost cat database given top term
 
 pub record ListsHaveTheirRows : Type 0 where
-  -- a comparison of a hidden column: the lists of the entries that a search finds between the bounds, at the level of the top table
+  -- a member of a hidden column: the lists of the entries that a search finds between the bounds, at the level of the top table
   pub entries :
       (page right : ℕ → List ℕ) (cat : Catalog) (database : Database) → IsOf cat database
-      → (given : List replies.Reply) (top table column : ℕ) (operator : Operator) (literal : Value) (index : ClimbingIndex) (level : ℕ) (bounds : Bounds)
-      → AreEntriesOf cat top table column operator literal index level bounds
+      → (given : List replies.Reply) (top table column : ℕ) (test : Test) (index : ClimbingIndex) (level : ℕ) (bounds : Bounds)
+      → AreEntriesOf cat top table column test index level bounds
       → (values : List (List ℕ)) → HoldsIndexWhole right cat (hidden_of cat.schema database) table column values
       → HoldsIndexBut page cat (hidden_of cat.schema database) table column values
       → (first second : Group) → AreEntries index.directory.kind bounds values first second
       → (lists : EntryLists) → AreListsAt index.directory level first second (count_of cat top) lists
       → HaveRows page right cat database given top (of_term.Entries table column index level bounds) (Entries lists)
-  -- a comparison of the identifier of a table below the top one; an id index has no lists for its own table, so levels begin at the
+  -- a member of the identifier of a table below the top one; an id index has no lists for its own table, so levels begin at the
   -- parent
   pub identifiers :
       (page right : ℕ → List ℕ) (cat : Catalog) (database : Database) → IsOf cat database

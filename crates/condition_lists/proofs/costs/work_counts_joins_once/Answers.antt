@@ -4,11 +4,11 @@ use Rattle.std.proofs.lemmas.List.Sums.{sum_by-cons, sum_by-append}
 use Rattle.ghost_model.specs.core.Schema.{Schema, parent, first_of}
 use Rattle.ghost_model.specs.core.Values.{Row, Database}
 use Rattle.ghost_model.specs.core.Channel.{Ask}
-use Rattle.ghost_model.specs.core.Query.{Query, Condition, Compare, Join, is_among, top_of}
+use Rattle.ghost_model.specs.core.Query.{Query, Condition, OneOf, Join, is_among, top_of}
 use Rattle.ghost_model.specs.core.Meaning.{answer}
 use Rattle.ghost_model.specs.core.Asks.{asks_of}
 use Rattle.ghost_model.specs.forms.Layout.{is_hidden}
-use Rattle.spj_parse.specs.Resolved.{linked, joins_of, join_to, join_with, join_by, keys_between, is_comparison}
+use Rattle.spj_parse.specs.Resolved.{linked, joins_of, join_to, join_with, join_by, keys_between, is_group}
 use Rattle.ghost_model.specs.forms.QueryWork.{bits, condition_work, reply_work, honest_rows, work_by_top}
 use Rattle.condition_lists.proofs.costs.work_counts_joins_once.Goals as goal
 
@@ -37,23 +37,23 @@ module _ (schema : Schema) (database : Database) where
         let c = no_work from tables in
         omega (arith, a, b, c)
 
-    comparisons : (conditions : List Condition) → sum_by work_of (filter is_comparison conditions) ≡ sum_by work_of conditions
-    comparisons [] = refl
-    comparisons (Compare column operator literal ∷ conditions) =
-        let a = sum_by-cons work_of (Compare column operator literal) (filter is_comparison conditions) in
-        let b = sum_by-cons work_of (Compare column operator literal) conditions in
-        let c = comparisons conditions in
+    members : (conditions : List Condition) → sum_by work_of (filter is_group conditions) ≡ sum_by work_of conditions
+    members [] = refl
+    members (OneOf first others ∷ conditions) =
+        let a = sum_by-cons work_of (OneOf first others) (filter is_group conditions) in
+        let b = sum_by-cons work_of (OneOf first others) conditions in
+        let c = members conditions in
         omega (arith, a, b, c)
-    comparisons (Join one other ∷ conditions) =
+    members (Join one other ∷ conditions) =
         let b = sum_by-cons work_of (Join one other) conditions in
-        let c = comparisons conditions in
+        let c = members conditions in
         omega (arith, b, c)
 
     same_conditions : (asked : Query) → sum_by work_of (linked schema asked).conditions ≡ sum_by work_of asked.conditions
     same_conditions asked =
-        let a = sum_by-append work_of (joins_of schema asked.from) (filter is_comparison asked.conditions) in
+        let a = sum_by-append work_of (joins_of schema asked.from) (filter is_group asked.conditions) in
         let b = no_work asked.from asked.from in
-        let c = comparisons asked.conditions in
+        let c = members asked.conditions in
         omega (arith, a, b, c)
 
   -- the work by its parts

@@ -14,7 +14,7 @@ second_within kind None values second none more = absurd (omega (arith, none, mo
 second_within kind (Some pair) values second is more = is.within
 
 pub returns : goal.returns
-returns c = λ cat database over top table column index level at operator literal bounds are of_kind values values_are first second groups some more.
+returns c = λ cat database over top table column index level at test bounds are of_kind values values_are first second groups some more.
     ascend cat database over c.hidden_cells_of_databases.ensures table column at.hidden c.bounds_are_of_values.ensures c.cell_order_is_value_order.ensures
-    index.directory.kind at.index_is.kind_is operator literal bounds are of_kind values values_are first second groups
+    index.directory.kind at.index_is.kind_is test bounds are of_kind values values_are first second groups
     (second_within index.directory.kind (second_of bounds) values second groups.second_is more) some more
