@@ -5,7 +5,7 @@ use tree_schema::Mark;
 
 /// What a schema is to be.
 const FORM: &str =
-    "write for each table CREATE TABLE name (id INTEGER PRIMARY KEY, column, column); a column being a name and INTEGER, CHAR(n) or INTEGER REFERENCES table(id), and HIDDEN behind it where only the key may have it";
+    "write for each table CREATE TABLE name (id INTEGER PRIMARY KEY, column, column); a column being a name and INTEGER, CHAR(n) or INTEGER REFERENCES table(id), behind the first two NULL where it may be empty, and HIDDEN at the end where only the key may have it";
 
 /// Words that other schemas have, and behind `|` what stands for them here.
 const OTHER_WORDS: &str =
@@ -13,7 +13,6 @@ const OTHER_WORDS: &str =
 date datetime timestamp time|there are no dates: write CHAR(10) for 2024-01-31, or INTEGER for 20240131
 decimal numeric float real double money number|there are whole numbers alone: write INTEGER, and keep tenths, as 142 for 14.2
 bigint smallint tinyint serial boolean bool|write INTEGER
-not null|leave it out: there is no NULL
 foreign constraint unique index|leave it out: a foreign key is a column INTEGER REFERENCES table(id)
 default check collate comment on|it is not in this language: leave it out";
 
@@ -31,6 +30,13 @@ pub(crate) fn schema_cure(stop: &Stop<'_>) -> &'static str {
         },
         Mark::Primary if stop.mark_before() == Mark::Comma => {
             "write id INTEGER PRIMARY KEY as the first column"
+        }
+        Mark::Primary | Mark::References if stop.mark_before() == Mark::Null => {
+            "id and foreign keys are never NULL: leave NULL out"
+        }
+        Mark::Not => "a column that may not be NULL is the rule: leave NOT NULL out",
+        Mark::Null => {
+            "NULL stands behind INTEGER or CHAR(n), and HIDDEN behind it; id and foreign keys are never NULL"
         }
         Mark::Name | Mark::Reserved => word_cure(OTHER_WORDS, stop.token.bytes).unwrap_or(FORM),
         _ => FORM,

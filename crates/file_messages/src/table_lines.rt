@@ -69,7 +69,9 @@ impl<'a> Display for BrokenFile<'a> {
             BrokenTable::BadId { .. } => f.write_str(
                 "write 1, 2, 3 and so on; examples/number_rows.py makes them of other keys",
             ),
-            BrokenTable::BadInt { value, .. } => f.write_str(number_cure(&value)),
+            BrokenTable::BadInt { field, value } => {
+                f.write_str(number_cure(&value, is_reference(self.schema, &field.at)))
+            }
             BrokenTable::BadChars { field, value } => {
                 let most = length_at(self.schema, &field.at);
                 write!(f, "{}", CharsFault { value, most })
@@ -81,11 +83,22 @@ impl<'a> Display for BrokenFile<'a> {
     }
 }
 
-/// What to write in place of a field that is no number.
-fn number_cure(value: &Shown) -> &'static str {
+/// Whether the column at a place is a foreign key.
+fn is_reference(schema: &Schema, at: &Place) -> bool {
+    match schema.column(usize::from(at.table), usize::from(at.column)) {
+        Some(column) => column.child.is_some(),
+        None => false,
+    }
+}
+
+/// What to write in place of a field that is no number, in a foreign key or in another column.
+fn number_cure(value: &Shown, is_reference: bool) -> &'static str {
     match value {
+        Shown::Whole(front) if front.len == 0 && is_reference => {
+            "it is empty, and a foreign key is never NULL: write the id of a row"
+        }
         Shown::Whole(front) if front.len == 0 => {
-            "it is empty, and there is no NULL: write a number that stands for it, as -1"
+            "it is empty: write NULL behind INTEGER in the schema, or a number that stands for it, as -1"
         }
         Shown::Whole(front) if has(front, b'.') || has(front, b',') => {
             "write a whole number, and keep tenths, as 142 for 14.2"
@@ -93,7 +106,7 @@ fn number_cure(value: &Shown) -> &'static str {
         Shown::Whole(front) if has(front, b'-') || has(front, b'/') => {
             "write a whole number, as 5 or -12, and a date as 20240131"
         }
-        _ => "write a whole number, as 5 or -12, with no blank; there is no NULL",
+        _ => "write a whole number, as 5 or -12, with no blank; NULL is an empty field",
     }
 }
 

@@ -40,8 +40,9 @@ impl<'a> Read<'a> {
     /// Whether it has a condition.
     pub(crate) fn has_conditions(&self) -> bool {
         for part in &self.parts {
-            if let Part::Compared(_, _) | Part::Between(_, _, _) | Part::Joined(_, _) = part {
-                return true;
+            match part {
+                Part::Star(_) | Part::Selected(_) | Part::Table(_) => {}
+                _ => return true,
             }
         }
         false

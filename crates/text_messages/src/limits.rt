@@ -23,7 +23,7 @@ pub(crate) fn over_limit(text: &Read<'_>) -> Result<Option<Found>, AllocError> {
     let mut count = Count {
         tables: 0,
         columns: 0,
-        literals: 0,
+        conditions: 0,
     };
     for part in &text.parts {
         if let Some(name) = long_name(part) {
@@ -46,7 +46,7 @@ pub(crate) fn over_limit(text: &Read<'_>) -> Result<Option<Found>, AllocError> {
 struct Count {
     tables: usize,
     columns: usize,
-    literals: usize,
+    conditions: usize,
 }
 
 impl Count {
@@ -55,16 +55,20 @@ impl Count {
         match part {
             Part::Table(_) => self.tables = self.tables.saturating_add(1),
             Part::Selected(_) => self.columns = self.columns.saturating_add(1),
-            Part::Compared(_, _) => self.literals = self.literals.saturating_add(1),
-            Part::Between(_, _, _) => self.literals = self.literals.saturating_add(2),
+            Part::Compared(_, _) | Part::Tested(_) => {
+                self.conditions = self.conditions.saturating_add(1)
+            }
+            Part::Between(_, _, _) => self.conditions = self.conditions.saturating_add(2),
             Part::Star(_) | Part::Joined(_, _) => {}
         }
         if self.tables > MAX_TABLES {
             Some("FROM names more than 12 tables: write at most 12")
         } else if self.columns > MAX_SELECTED {
             Some("more than 32 columns are selected: write at most 32")
-        } else if self.literals > MAX_CONDITIONS {
-            Some("more than 16 conditions have a value, BETWEEN being two: write at most 16")
+        } else if self.conditions > MAX_CONDITIONS {
+            Some(
+                "there are more than 16 conditions, BETWEEN being two and a join none: write at most 16",
+            )
         } else {
             None
         }
@@ -77,6 +81,7 @@ fn at_of(part: &Part<'_>) -> usize {
         Part::Star(token) | Part::Table(token) => token.at,
         Part::Selected(column)
         | Part::Compared(column, _)
+        | Part::Tested(column)
         | Part::Between(column, _, _)
         | Part::Joined(column, _) => column.at(),
     }

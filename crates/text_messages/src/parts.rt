@@ -78,6 +78,9 @@ pub(crate) enum Part<'a> {
     /// A column that is compared with a literal.
     Compared(Column<'a>, Literal<'a>),
 
+    /// A column that is NULL, or is not.
+    Tested(Column<'a>),
+
     /// A column that lies between two literals.
     Between(Column<'a>, Literal<'a>, Literal<'a>),
 
@@ -90,9 +93,10 @@ impl<'a> Part<'a> {
     pub(crate) fn columns(&self) -> [Option<Column<'a>>; 2] {
         match *self {
             Part::Star(_) | Part::Table(_) => [None, None],
-            Part::Selected(column) | Part::Compared(column, _) | Part::Between(column, _, _) => {
-                [Some(column), None]
-            }
+            Part::Selected(column)
+            | Part::Compared(column, _)
+            | Part::Tested(column)
+            | Part::Between(column, _, _) => [Some(column), None],
             Part::Joined(left, right) => [Some(left), Some(right)],
         }
     }
@@ -178,15 +182,16 @@ impl<'a> Reader<'a> {
     fn condition(&mut self) -> Part<'a> {
         let column = self.column();
         let operator = self.take();
-        if operator.mark == Mark::Between {
-            let low = self.literal();
-            let _and = self.take();
-            return Part::Between(column, low, self.literal());
+        match (operator.mark, self.token.mark) {
+            (Mark::Is, _) => Part::Tested(column),
+            (Mark::Between, _) => {
+                let low = self.literal();
+                let _and = self.take();
+                Part::Between(column, low, self.literal())
+            }
+            (_, Mark::Name) => Part::Joined(column, self.column()),
+            _ => Part::Compared(column, self.literal()),
         }
-        if self.token.mark == Mark::Name {
-            return Part::Joined(column, self.column());
-        }
-        Part::Compared(column, self.literal())
     }
 
     /// The part that begins with the name at hand.

@@ -134,7 +134,7 @@ fn remedy(refusal: &Refusal) -> &'static str {
     match refusal {
         Refusal::Syntax { .. } => "it is no text of the grammar",
         Refusal::Limit => {
-            "it is too large: write at most 4096 bytes, 12 tables, 32 columns, 16 conditions with a value (BETWEEN has two), and 32 bytes a name"
+            "it is too large: write at most 4096 bytes, 12 tables, 32 columns, 16 conditions (BETWEEN is two, a join none), and 32 bytes a name"
         }
         Refusal::UnknownTable => {
             "it names a table that is not there: write behind FROM, and before a point, the names of the schema's tables"

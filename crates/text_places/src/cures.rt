@@ -18,6 +18,8 @@ const STAR_ALONE: &str = "* stands alone: write SELECT * FROM, or the columns by
 const NO_ARITHMETIC: &str =
     "there is no arithmetic: write a whole number, or a text between ' and '";
 
+const NULL_TESTS: &str = "write IS NULL or IS NOT NULL";
+
 /// Words that other languages of queries have, and behind `|` what stands for them here.
 const OTHER_WORDS: &str =
     "join inner left right full outer cross natural on using|there is no JOIN .. ON: write FROM a, b WHERE a.f = b.id, f being the foreign key
@@ -28,8 +30,8 @@ like ilike glob similar regexp|it is not in this language: for a beginning write
 as|there are no second names: leave it out
 or|it is not built yet: write a text for each side
 in|it is not built yet: write a text for each value
-is null|it is not built yet, and there is no NULL: compare with the value that stands for it
-not|it is not in this language: write <>, or the opposite comparison
+isnull notnull|write IS NULL or IS NOT NULL
+not|it stands behind IS alone: write <>, or the opposite comparison
 count min max sum group by|it is not built yet: count or sum up the printed lines";
 
 /// What a text cannot go on with, and what stands round it.
@@ -115,6 +117,11 @@ impl<'a> Stop<'a> {
         if self.before.is_none() {
             return "a text begins with SELECT, and changes no data";
         }
+        match self.mark_before() {
+            Mark::Is => return "write NULL or NOT NULL behind IS; a value is compared by =",
+            Mark::Not => return "write NULL behind IS NOT; a value is compared by <>",
+            _ => {}
+        }
         match self.token.mark {
             Mark::Name => self.cure_of_name(),
             Mark::Select if !self.wants_name() => "put ; between two texts",
@@ -133,10 +140,28 @@ impl<'a> Stop<'a> {
 
     /// What to write in place of a word that is no name here.
     fn cure_of_reserved(&self) -> &'static str {
-        if self.wants_name() && self.next.mark != Mark::Open {
-            return "the word is reserved, and no table or column has it as its name";
+        let in_where = self.list == Mark::Where;
+        match self.token.mark {
+            Mark::Not if in_where && self.wants_name() => {}
+            _ if self.wants_name() && self.next.mark != Mark::Open => {
+                return "the word is reserved, and no table or column has it as its name";
+            }
+            Mark::Is => return "it stands in WHERE behind a column: write column IS NULL",
+            Mark::Not if in_where && self.next.mark == Mark::Null => return "write IS NOT NULL",
+            Mark::Null if in_where => return self.cure_of_null(),
+            _ => {}
         }
         word_cure(OTHER_WORDS, self.token.bytes).unwrap_or(FORM)
+    }
+
+    /// What to write in place of NULL within a condition.
+    fn cure_of_null(&self) -> &'static str {
+        match self.mark_before() {
+            Mark::Equal | Mark::Name => "write IS NULL",
+            Mark::Unequal => "write IS NOT NULL",
+            Mark::Null => FORM,
+            _ => NULL_TESTS,
+        }
     }
 
     /// What to write in place of a word that could be a name elsewhere.

@@ -21,7 +21,6 @@ use Rattle.session_laws.specs.Local.{IsLocal, IsUnbroken, LocalSessionsAreServed
 use Rattle.key_session.specs.Reasons.{HaveReasons, HaveLines}
 use Rattle.key_session.specs.Refusing.{first_code}
 use Rattle.key_session.specs.Running.{IsTallied, blames_flash, is_sink as wrote_none, is_damaged as is_damage}
-use Rattle.key_session.specs.Damages.{WasRead}
 use Rattle.leakless_plan.specs.declared.plan.Plan.{Plan}
 use Rattle.key_exec.specs.Plans.{by_pre}
 use Rattle.key_session.specs.Calls.{session_calls}
@@ -35,7 +34,7 @@ use Rattle.key_lines.specs.declared.told.ToldText.{ToldText}
 use Rattle.key_commands.specs.local.Lines.{AreAnswered, Gives, GivesByTally, ToldTextsAreGiven, is_cut, bytes_given}
 use Rattle.key_commands.specs.local.Running.{RanOver, KeepsLines}
 use Rattle.key_inputs.specs.Outside.{Outside, outside}
-use Rattle.key_commands.specs.local.Sessions.{IsFirstSlot, session_side_in, is_sink, is_damaged}
+use Rattle.key_commands.specs.local.Sessions.{IsFirstSlot, HaveSlots, session_side_in, is_sink, is_damaged}
 use Rattle.key_commands.specs.declared.local.ends.LocalEnd.{LocalEnd}
 use Rattle.key_commands.specs.declared.local.ends.LocalEnd.TheVariants as ends
 use Rattle.key_commands.proofs.local_lemmas.FirstSlots.{slot_stays}
@@ -83,8 +82,8 @@ unfoldable pub ran_over : (by : Plan) (told : Bool) (catalog : Catalog) (databas
     (λ reasons. IsTallied by told before.device.page catalog texts (wrote_none tally.status) (standing_after catalog (asked_of catalog.schema texts) journal) reasons tally) before.device.faults after.device.faults)
     → (lines : HaveLines catalog texts journal reasons.reasons (handed false before.sink_faults before.written) (handed (wrote_none tally.status) after.sink_faults after.written))
     → AreTold catalog.schema texts lines.lines (told_in tally.told) → ((t : told ≡ true) → (answered t).answers.lines ≡ lines.lines)
-    → ((damage : Damage) → tally.status ≡ status.Damaged damage → IsFirstSlot by told before.device.page catalog texts reasons.reasons damage)
-    → ((damage : Damage) → tally.status ≡ status.Damaged damage → WasRead by told before.device.calls after.device catalog texts reasons.reasons damage) → ChangesOnly (static_end catalog) (scratch_end catalog) before.device after.device
+    → ((damage : Damage) → tally.status ≡ status.Damaged damage → IsFirstSlot by told before.device.page before.device.calls after.device catalog texts reasons.reasons damage)
+    → HaveSlots by told before.device.calls after.device catalog texts reasons.reasons → ChangesOnly (static_end catalog) (scratch_end catalog) before.device after.device
     → is_sink end ≡ wrote_none tally.status → (end ≡ ends.Ok → tally.status ≡ status.Ok) → (end ≡ ends.Flash → blames_flash tally.status ≡ true)
     → (blames_flash tally.status ≡ true → Rose before.device.calls after.device.calls) → (is_damage tally.status ≡ true → Rose before.device.calls after.device.calls)
     → ((damage : Damage) → end ≡ ends.Damaged damage → tally.status ≡ status.Damaged damage)
@@ -143,9 +142,9 @@ ran_over by told catalog database texts name end tally before after journal serv
           let none_found : is_damage tally.status ≡ false = ap is_damage all.status_is ∙ no_damage (wrote_none tally.status) (standing_after catalog (asked_of catalog.schema texts) journal) (list_any is_cut all.gives.given) stays right none in
           false_is_not (sym none_found ∙ damage_found end tally.status damaged found));
       damaged = λ damage is.
-          slot_stays stays_damaged by told before.device.page after.device.page catalog texts reasons.reasons damage tree
+          slot_stays stays_damaged by told before.device.page after.device.page before.device.calls after.device catalog texts reasons.reasons damage tree
           (λ number static. (pages.below number static).bytes) (blamed damage (damaged damage is));
-      damage_read = λ damage is. was_read damage (damaged damage is);
+      damage_read = was_read;
     }
 
 -- and so over what the files and their counts are known to be

@@ -16,7 +16,6 @@ use Rattle.edge_traits.specs.Written.{grown}
 use Rattle.local_links.specs.Journaling.{told_file}
 use Rattle.local_links.specs.declared.host_link.HostLink.{HostLink}
 use Rattle.key_session.specs.Calls.{session_calls}
-use Rattle.key_session.specs.Damages.{WasRead}
 use Rattle.key_session.specs.Reasons.{HaveReasons, HaveLines}
 use Rattle.key_exec.specs.declared.damage.Damage.{Damage}
 use Rattle.key_session.specs.declared.tally.SessionStatus.{SessionStatus}
@@ -26,7 +25,7 @@ use Rattle.key_lines.specs.Told.{AreTold}
 use Rattle.key_lines.specs.declared.told.ToldText.{ToldText}
 use Rattle.key_commands.specs.local.Lines.{Gives, is_cut, lines_in}
 use Rattle.key_inputs.specs.Outside.{Outside}
-use Rattle.key_commands.specs.local.Sessions.{IsFirstSlot, TellsReasons, session_side_in, is_sink, is_damaged}
+use Rattle.key_commands.specs.local.Sessions.{IsFirstSlot, HaveSlots, TellsReasons, session_side_in, is_sink, is_damaged}
 use Rattle.key_commands.specs.local.Preparing.{IsHosted}
 use Rattle.key_commands.specs.declared.local.ends.LocalEnd.{LocalEnd}
 use Rattle.key_commands.specs.declared.local.ends.LocalEnd.TheVariants as ends
@@ -70,5 +69,5 @@ pub record RanOver (by : Plan) (told : Bool) (catalog : Catalog) (database : Dat
   pub called : end ≡ ends.Flash → Rose before.device.calls after.device.calls
   pub damage_called : is_damaged end ≡ true → Rose before.device.calls after.device.calls
   pub undamaged : told ≡ true → is_damaged end ≡ false
-  pub damaged : (damage : Damage) → end ≡ ends.Damaged damage → IsFirstSlot by told after.device.page catalog texts reasons.reasons damage
-  pub damage_read : (damage : Damage) → end ≡ ends.Damaged damage → WasRead by told before.device.calls after.device catalog texts reasons.reasons damage
+  pub damaged : (damage : Damage) → end ≡ ends.Damaged damage → IsFirstSlot by told after.device.page before.device.calls after.device catalog texts reasons.reasons damage
+  pub damage_read : HaveSlots by told before.device.calls after.device catalog texts reasons.reasons

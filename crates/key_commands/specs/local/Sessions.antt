@@ -1,6 +1,6 @@
 -- What a session with a host in the key's own process does: it goes by the one journal of its database and its texts, keeps
 -- that journal where a file is named for it, and gives each text's lines.
-use Rattle.std.specs.Prelude.{◌≡◌, ℕ, ◌+◌, ◌≤◌, Bool, true, false, List, [], length, Option, None, Some, ⊤}
+use Rattle.std.specs.Prelude.{◌≡◌, ℕ, ◌+◌, ◌≤◌, Bool, true, false, List, [], length, slice_get, Option, None, Some, ⊤}
 use Rattle.std.specs.List.{list_any}
 use Rattle.ghost_model.specs.core.Causes.{Rose}
 use Rattle.ghost_model.specs.core.Channel.{Catalog, Journal}
@@ -16,7 +16,7 @@ use Rattle.ghost_model.specs.core.Split.{hidden_of}
 use Rattle.ghost_model.specs.core.Values.{Database}
 use Rattle.flash_build.specs.Building.{load_calls}
 use Rattle.session_laws.specs.Local.{IsLocal}
-use Rattle.edge_traits.specs.Devices.{Counts}
+use Rattle.edge_traits.specs.Devices.{Device, Counts}
 use Rattle.edge_traits.specs.Files.{Files, HasFile, SameBut}
 use Rattle.edge_traits.specs.Written.{grown}
 use Rattle.leakless_plan.specs.declared.plan.Plan.{Plan}
@@ -94,11 +94,19 @@ TellsReasons ends.Depot reasons = ⊤
 TellsReasons ends.Flash reasons = list_any is_flash reasons ≡ true
 TellsReasons (ends.Damaged damage) reasons = (list_any is_flash reasons ≡ false) × (list_any is_damage reasons ≡ true)
 
--- of texts with these reasons, the first that damage ended has this damaged slot, which is read for it
-pub record IsFirstSlot (by : Plan) (told : Bool) (page : ℕ → List ℕ) (catalog : Catalog) (texts : List (List ℕ)) (reasons : List Reason) (damage : Damage) : Type 0 where
+-- of texts with these reasons, the first that damage ended has this damaged slot, which is read for it and which the session read for
+-- it, from so many calls on
+pub record IsFirstSlot (by : Plan) (told : Bool) (page : ℕ → List ℕ) (since : ℕ) (device : Device) (catalog : Catalog) (texts : List (List ℕ)) (reasons : List Reason) (damage : Damage) : Type 0 where
   pub place : ℕ
   pub first : IsFirstDamaged reasons place
   pub slot : IsSlotOf by told page catalog texts place damage
+  pub read : WasRead by told since device catalog texts place damage
+
+-- for each of them that damage ended the session read a damaged slot so
+abbrev pub HaveSlots : (by : Plan) (told : Bool) (since : ℕ) → Device → Catalog → (texts : List (List ℕ)) → (reasons : List Reason) → Type 0
+HaveSlots by told since device catalog texts reasons =
+    (place : ℕ) (reason : Reason) → slice_get reasons place ≡ Some reason → is_damage reason ≡ true
+    → (damage : Damage) × WasRead by told since device catalog texts place damage
 
 -- a session was held to its end
 pub record Ran (told : Bool) (one : Subject) (end : LocalEnd) (before after : Outside) (entries : List ToldText) : Type 0 where
@@ -136,10 +144,11 @@ pub record Ran (told : Bool) (one : Subject) (end : LocalEnd) (before after : Ou
   -- where the pages are told none is
   pub undamaged : told ≡ true → is_damaged end ≡ false
   -- it is that of the first text that damage ended: where all rows are looked at one of a hidden column, which has no value of it; by the
-  -- indexes, where what the pages are of is known, a damaged one of a file that is read for this text
-  pub damaged : (damage : Damage) → end ≡ ends.Damaged damage → IsFirstSlot one.words.plan told after.device.page (catalog_in one) one.texts reasons.reasons damage
-  -- and the session read it there for this text
-  pub damage_read : (damage : Damage) → end ≡ ends.Damaged damage → WasRead one.words.plan told since.flash.calls after.device (catalog_in one) one.texts reasons.reasons damage
+  -- indexes, where what the pages are of is known, a damaged one of a file that is read for this text; and the session read it there for
+  -- this text
+  pub damaged : (damage : Damage) → end ≡ ends.Damaged damage → IsFirstSlot one.words.plan told after.device.page since.flash.calls after.device (catalog_in one) one.texts reasons.reasons damage
+  -- and so it read one for each text that damage ended, whatever the end
+  pub damage_read : HaveSlots one.words.plan told since.flash.calls after.device (catalog_in one) one.texts reasons.reasons
   -- and the flash has been made for it, under the name that the words say
   pub name : after.device.name ≡ Some one.words.flash
   pub holds : told ≡ true → Holds after.device.page (catalog_in one) (hidden_of one.schema one.database)

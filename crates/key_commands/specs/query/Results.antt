@@ -52,7 +52,8 @@ pub record Runs (goes : Journal → Type 0) (link_before link_now : ℕ) (told :
   pub enough : need cat ≤ opened.page_count
   pub script : List ℕ
   pub is_script : IsScript before.files words.script script
-  -- a slot that the status names as damaged is that of the first text that damage ended, one that is read for it (`reasons`, `damage_read`)
+  -- a slot that the status names as damaged is that of the first text that damage ended; for each text that damage ended the session read
+  -- one that is read for it (`reasons`, `damage_read`)
   pub ran : HasRun goes link_before link_now words.plan told cat words.to (texts_of script) (side_since before opened) (side_now tally after) tally
   pub answered : AnswersWhereSound words.plan told cat (texts_of script) ran.journal (side_since before opened) (side_now tally after) tally
   pub texts : tally.texts ≡ length (texts_of script)

@@ -9,7 +9,7 @@ use Rattle.key_session.specs.Running.{is_sink, blames_flash, spares_flash}
 use Rattle.key_commands.specs.local.Sessions.{told_by_end}
 use Rattle.key_commands.specs.declared.local.ends.LocalEnd.{LocalEnd}
 use Rattle.key_commands.proofs.local_lemmas.Causing.{causes_of}
-use Rattle.key_commands.proofs.local_lemmas.FirstSlots.{first_slot}
+use Rattle.key_commands.proofs.local_lemmas.FirstSlots.{first_slot, slots_read}
 use Rattle.key_commands.proofs.local_lemmas.Hosting.{hosted_as}
 use Rattle.key_commands.proofs.local_lemmas.Settings.{setting_of}
 use Rattle.key_commands.proofs.local_lemmas.Statuses.{is_local_status, damage_is}
@@ -64,11 +64,12 @@ returns-clause-ran g c = λ database stored hosts known files faults appends.
           ran.reasons ran.lines ran.are_told
           (λ t. ran.same database (c.knowledge_is_enough.ensures.enough c.args.words.now.plan g.F.Flash.told (g.F.Flash.state c.args.flash.now).page cat database (c.catalogs_are_limited.ensures cat is).tree (known t)))
           (λ damage is.
-          first_slot c.args.words.now.plan g.F.Flash.told (g.F.Flash.state c.args.flash.now).page cat texts ran.reasons.reasons ran.reasons.counted.damage damage ran.reasons.counted.first
+          first_slot c.args.words.now.plan g.F.Flash.told (g.F.Flash.state c.args.flash.now).page (g.F.Flash.state c.args.flash.now).calls (g.F.Flash.state c.run_session-tally.new.flash) cat texts ran.reasons.reasons ran.reasons.counted.damage ran.reasons.counted.first ran.damage_read damage
           (damage_is (is_sink c.run_session-tally.result.status) (standing_after cat (asked_of cat.schema texts) ran.journal) (list_any is_flash ran.reasons.reasons) ran.reasons.counted.damage damage
           (going cat database texts ran.journal unbroken) (valid cat database texts ran.journal unbroken) (granted cat database texts ran.journal unbroken)
           (sym ran.reasons.counted.status_is ∙ is)))
-          ran.damage_read c.run_session-tally.ensures.pages c.end_of.ensures.sink c.end_of.ensures.whole (λ is. c.end_of.ensures.flash (ap (λ (end : LocalEnd). (told_by_end end).flash) is)) c.run_session-tally.ensures.flash_called c.run_session-tally.ensures.damage_called c.end_of.ensures.damaged
+          (slots_read c.args.words.now.plan g.F.Flash.told (g.F.Flash.state c.args.flash.now).page (g.F.Flash.state c.args.flash.now).calls (g.F.Flash.state c.run_session-tally.new.flash) cat texts ran.reasons.reasons ran.reasons.counted.damage ran.reasons.counted.first ran.damage_read)
+          c.run_session-tally.ensures.pages c.end_of.ensures.sink c.end_of.ensures.whole (λ is. c.end_of.ensures.flash (ap (λ (end : LocalEnd). (told_by_end end).flash) is)) c.run_session-tally.ensures.flash_called c.run_session-tally.ensures.damage_called c.end_of.ensures.damaged
           (λ t is_pre unfailed. ran.few_calls database is_pre
           (record { host = is_honest c.this_host_is_honest.ensures cat database texts ran.journal goes.is_local unbroken; pages = known t; flash = unfailed }));
       moves = ap (λ counts. counts.moves) c.counts-counts.ensures.counts ∙ from_nothing _ _ _ none.moves ran.went.counted.moves;
