@@ -9,8 +9,8 @@ use channel_codec::ask::{Ask, is_proper, put_ask};
 use channel_codec::asking::ask_of;
 use channel_codec::frame::{FRAME_BYTES, Frame, PAYLOAD_BYTES, put_frame};
 use channel_codec::reading::{Got, frame_of};
-use ghost_base::Operator;
 use ghost_base::value::Value;
+use ghost_base::{Operator, Test};
 use itoa::Buffer;
 use tree_schema::read_schema;
 
@@ -152,6 +152,11 @@ clinic: table 1 where 1>30: 01 00 01 01 05 800000000000001e
 clinic: table 1 where 1>=-9223372036854775808: 01 00 01 01 06 0000000000000000
 note: table 0 where 1=a: 00 00 01 01 01 61000000
 fees: table 1 column 1 column 3 where 3>=-1: 01 02 01 03 01 03 06 7fffffffffffffff
+clinic: table 2 where 1=2 or 1=9: 02 00 02 01 81 8000000000000002 01 01 8000000000000009
+clinic: table 2 where 1 is null: 02 00 01 01 07
+clinic: table 2 where 1 is not null: 02 00 01 01 08
+fees: table 0 where 1=x or 1 is not null or 1 is null where 1<>y: 00 00 04 01 81 7800000000000000 01 88 01 07 01 02 7900000000000000
+fees: table 1 where 1<=5 where 3 is null or 1>9: 01 00 03 01 04 8000000000000005 03 87 01 05 8000000000000009
 fees: none
 fees: none: 00 01
 fees: none: 02 00 00
@@ -163,9 +168,13 @@ fees: none: 00 01 01 00 00
 fees: none: 00 00 01 01 07 63617264696f0000
 fees: none: 00 00 01 01 00 63617264696f0000
 fees: none: 00 00 01 01 09 63617264696f0000
-fees: none: 00 00 01 01 80 63617264696f0000
+fees: none: 00 00 01 01 08 63617264696f0000
+fees: none: 00 00 02 01 80 63617264696f0000 01 07
+fees: none: 00 00 02 01 89 63617264696f0000 01 07
 fees: none: 00 00 01 01 81 63617264696f0000
-fees: none: 00 00 01 01 89 63617264696f0000
+fees: none: 00 00 01 01 87
+fees: none: 00 00 01 02 07
+fees: none: 00 00 01 00 08
 fees: none: 00 00 01 01 01
 fees: none: 00 00 01 01 01 63617264696f00
 fees: none: 00 00 01 01 01 63617264696f0078
@@ -200,6 +209,22 @@ fn sign(operator: Operator) -> &'static [u8] {
     }
 }
 
+/// Adds what is tested of a value.
+fn add_test(said: &mut Bytes, test: &Test) {
+    match test {
+        Test::Compared(operator, literal) => {
+            add(said, sign(*operator));
+            match literal {
+                Value::Null => add(said, b"NULL"),
+                Value::Int(number) => add(said, Buffer::new().format(*number).as_bytes()),
+                Value::Chars(text) => add(said, text.as_bytes()),
+            }
+        }
+        Test::IsNull => add(said, b" is null"),
+        Test::IsNotNull => add(said, b" is not null"),
+    }
+}
+
 /// What an ask is for.
 fn asked(ask: &Ask) -> Bytes {
     let mut said = Bytes::new();
@@ -207,14 +232,12 @@ fn asked(ask: &Ask) -> Bytes {
     for column in ask.columns.as_slice() {
         add_number(&mut said, b" column ", *column as u64);
     }
+    let mut more = false;
     for test in ask.tests.as_slice() {
-        add_number(&mut said, b" where ", test.column as u64);
-        add(&mut said, sign(test.operator));
-        match test.value {
-            Value::Null => add(&mut said, b"NULL"),
-            Value::Int(number) => add(&mut said, Buffer::new().format(number).as_bytes()),
-            Value::Chars(text) => add(&mut said, text.as_bytes()),
-        }
+        let before: &[u8] = if more { b" or " } else { b" where " };
+        add_number(&mut said, before, test.column as u64);
+        add_test(&mut said, &test.test);
+        more = test.more;
     }
     said
 }

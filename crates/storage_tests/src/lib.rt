@@ -19,6 +19,8 @@ mod links;
 #[cfg(test)]
 mod no_writes;
 #[cfg(test)]
+mod nullable_columns;
+#[cfg(test)]
 mod places;
 #[cfg(test)]
 mod ranks;

@@ -1,7 +1,7 @@
 //! What query texts over the clinic mean, and how a script is cut into texts.
 
 use crate::clinic::{SCHEMA, put_value};
-use ghost_base::Operator;
+use ghost_base::{Operator, Test};
 use spj_parse::{Field, Query, Texts, read_query, text_count};
 use std::alloc::{AllocError, Global};
 use std::fmt::Write;
@@ -75,18 +75,29 @@ fn put_field(out: &mut String, field: &Field) -> Result<(), AllocError> {
     write!(out, " {}.{}", field.table, field.column)
 }
 
-/// Writes the joins and the comparisons of a query.
+/// Writes what is tested of a column.
+fn put_test(out: &mut String, test: &Test) -> Result<(), AllocError> {
+    match test {
+        Test::Compared(operator, literal) => {
+            write!(out, "{}", sign_of(*operator))?;
+            put_value(out, literal)
+        }
+        Test::IsNull => write!(out, " is null"),
+        Test::IsNotNull => write!(out, " is not null"),
+    }
+}
+
+/// Writes the joins and the members of a query.
 fn put_conditions(out: &mut String, query: &Query) -> Result<(), AllocError> {
     for (i, join) in query.joins().iter().enumerate() {
         write!(out, "{}", if i == 0 { " join" } else { "" })?;
         put_field(out, &join.key)?;
         write!(out, "={}.{}", join.identifier.table, join.identifier.column)?;
     }
-    for (i, comparison) in query.comparisons().iter().enumerate() {
+    for (i, member) in query.members().iter().enumerate() {
         write!(out, "{}", if i == 0 { " where" } else { "" })?;
-        put_field(out, &comparison.field)?;
-        write!(out, "{}", sign_of(comparison.operator))?;
-        put_value(out, &comparison.value)?;
+        put_field(out, &member.field)?;
+        put_test(out, &member.test)?;
     }
     Ok(())
 }

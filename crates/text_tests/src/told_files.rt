@@ -25,16 +25,25 @@ M\u{fc}ller|byte 2 of it is C3, of an accented letter: write it as plain letters
 a\tb|byte 2 of it is 09, a tab: write a blank; a text has bytes from 20 to 7E";
 
 /// Fields of the visits' days that are refused, and behind `|` what is told.
-const NUMBERS: &str = "|it is empty, and there is no NULL: write a number that stands for it, as -1
+const NUMBERS: &str =
+    "|it is empty: write NULL behind INTEGER in the schema, or a number that stands for it, as -1
 14.2|write a whole number, and keep tenths, as 142 for 14.2
 2024-01-31|write a whole number, as 5 or -12, and a date as 20240131
- 5|write a whole number, as 5 or -12, with no blank; there is no NULL";
+ 5|write a whole number, as 5 or -12, with no blank; NULL is an empty field";
+
+/// Fields of the visits' doctors that are refused, and behind `|` what is told.
+const REFERENCES: &str = "|it is empty, and a foreign key is never NULL: write the id of a row
+x|write a whole number, as 5 or -12, with no blank; NULL is an empty field";
 
 /// Schemas that are not in the grammar, and behind `|` where each stops and what is told.
 const SCHEMAS: &str =
     "CREATE TABLE t (id INTEGER PRIMARY KEY, c VARCHAR(8));|42|the kinds are INTEGER and CHAR(n), n from 1 to 64
 CREATE TABLE t (id INTEGER PRIMARY KEY, c DATE);|42|there are no dates: write CHAR(10) for 2024-01-31, or INTEGER for 20240131
-CREATE TABLE t (id INTEGER PRIMARY KEY, c CHAR(8) NOT NULL);|50|leave it out: there is no NULL
+CREATE TABLE t (id INTEGER PRIMARY KEY, c CHAR(8) NOT NULL);|50|a column that may not be NULL is the rule: leave NOT NULL out
+CREATE TABLE t (id INTEGER PRIMARY KEY, c CHAR(8) HIDDEN NULL);|57|NULL stands behind INTEGER or CHAR(n), and HIDDEN behind it; id and foreign keys are never NULL
+CREATE TABLE t (id INTEGER PRIMARY KEY NULL);|39|NULL stands behind INTEGER or CHAR(n), and HIDDEN behind it; id and foreign keys are never NULL
+CREATE TABLE t (id INTEGER PRIMARY KEY, c INTEGER REFERENCES u NULL);|63|NULL stands behind INTEGER or CHAR(n), and HIDDEN behind it; id and foreign keys are never NULL
+CREATE TABLE t (id INTEGER PRIMARY KEY, c INTEGER NULL REFERENCES u);|55|id and foreign keys are never NULL: leave NULL out
 CREATE TABLE t (id INTEGER PRIMARY KEY) CREATE TABLE u (id INTEGER PRIMARY KEY);|40|end each CREATE TABLE by );
 CREATE TABLE \"t\" (id INTEGER PRIMARY KEY);|13|a name stands without quotes";
 
@@ -64,7 +73,12 @@ fn a_broken_table_is_told_by_its_cause_and_without_its_rows(rt: HostRuntime) -> 
         table: Shown::of(b"doctor"),
         line: Some(1),
     });
-    for (cases, table, column) in [(HEADERS, 0, 0), (CHARS, 0, 1), (NUMBERS, 2, 1)] {
+    for (cases, table, column) in [
+        (HEADERS, 0, 0),
+        (CHARS, 0, 1),
+        (NUMBERS, 2, 1),
+        (REFERENCES, 2, 3),
+    ] {
         for case in cases.split('\n') {
             let (written, told) = case.split_once('|').unwrap_or((case, ""));
             let field = field_at(table, column);

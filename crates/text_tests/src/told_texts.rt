@@ -19,11 +19,14 @@ SELECT day, name FROM visit|13: text 1: name is a column of patient, which is no
 SELECT specialty FROM patient|8: text 1: specialty is a column of doctor, which is not in FROM: write FROM patient, doctor, visit WHERE pat = patient.id AND doc = doctor.id
 SELECT doctor.id FROM visit|8: text 1: id is a column of doctor, which is not in FROM: write FROM visit, doctor WHERE doc = doctor.id
 SELECT id FROM visit, doctor WHERE doc = doctor.id|8: text 1: visit and doctor both have a column id: write visit.id or doctor.id
-SELECT day FROM visit, visit|24: text 1: visit stands twice in FROM: write it once";
+SELECT day FROM visit, visit|24: text 1: visit stands twice in FROM: write it once
+SELECT day FROM visit WHERE day IS NOT NULL AND dai IS NULL|49: text 1: no table in FROM has a column dai: visit has id, day, purpose, doc, pat
+SELECT day FROM visit WHERE visits.day IS NULL|29: text 1: there is no table visits: the tables are doctor, patient, visit";
 
 const LITERALS: &str =
     "SELECT day FROM visit WHERE day = '5'|35: text 1: day is INTEGER, and '5' a text: write a whole number without quotes
 SELECT age FROM patient WHERE name = -5|38: text 1: name is CHAR(8), and -5 a number: write '-5'
+SELECT age FROM patient WHERE age IS NOT NULL AND name = 5|58: text 1: name is CHAR(8), and 5 a number: write '5'
 SELECT age FROM patient WHERE name BETWEEN 'a' AND 7|52: text 1: name is CHAR(8), and 7 a number: write '7'
 SELECT age FROM patient WHERE name = 'it''s long'|38: text 1: name is CHAR(8), and 'it''s long' has 9 bytes: write at most 8
 SELECT age FROM patient WHERE age = -9223372036854775809|37: text 1: -9223372036854775809 is outside 64 bits: write a number from -9223372036854775808 to 9223372036854775807";
@@ -31,13 +34,15 @@ SELECT age FROM patient WHERE age = -9223372036854775809|37: text 1: -9223372036
 const LINKS: &str =
     "SELECT age FROM patient, visit|17: text 1: patient has no join: write WHERE pat = patient.id
 SELECT day FROM visit, doctor WHERE day = 5|24: text 1: doctor has no join: write AND doc = doctor.id
+SELECT day FROM visit, doctor WHERE day IS NULL|24: text 1: doctor has no join: write AND doc = doctor.id
 SELECT age FROM patient, doctor|26: text 1: patient and doctor are not linked in FROM: write FROM patient, doctor, visit WHERE pat = patient.id AND doc = doctor.id
 SELECT day FROM visit, doctor WHERE visit.id = doctor.id|37: text 1: visit.id = doctor.id is no foreign key and the id that it names: write FROM visit, doctor WHERE doc = doctor.id
 SELECT day FROM visit WHERE doc = pat|29: text 1: two columns of one table are not compared: leave out doc = pat";
 
 const LIMITS: &str =
     "SELECT aaaaaaaaaaaaaaaaaaaaaaaaaaaaaaaaa FROM visit|8: text 1: the name aaaaaaaaaaaaaaaaaaaaaaaaaaaaaaaaa has 33 bytes: write at most 32
-SELECT * FROM visit, visit, visit, visit, visit, visit, visit|8: text 1: * stands for 35 columns here: write at most 32 by their names";
+SELECT * FROM visit, visit, visit, visit, visit, visit, visit|8: text 1: * stands for 35 columns here: write at most 32 by their names
+SELECT day FROM visit WHERE id IS NULL AND id IS NULL AND id IS NULL AND id IS NULL AND id IS NULL AND id IS NULL AND id IS NULL AND id IS NULL AND id IS NULL AND id IS NULL AND id IS NULL AND id IS NULL AND id IS NULL AND id IS NULL AND id IS NULL AND day IS NOT NULL AND pat IS NULL|274: text 1: there are more than 16 conditions, BETWEEN being two and a join none: write at most 16";
 
 /// Texts, and behind `|` the column of the place, the word with which the text cannot go on, and what to write.
 const WORDS: &str =
@@ -55,7 +60,20 @@ SELECT day AS d FROM visit|12: text 1 cannot go on with AS: there are no second 
 SELECT day doc FROM visit|12: text 1 cannot go on with doc: put a comma between two columns, or FROM before a table; there are no second names
 SELECT day FROM visit WHERE day = 1 OR day = 2|37: text 1 cannot go on with OR: it is not built yet: write a text for each side
 SELECT day FROM visit WHERE day IN (1, 2)|33: text 1 cannot go on with IN: it is not built yet: write a text for each value
-SELECT day FROM visit WHERE day IS NULL|33: text 1 cannot go on with IS: it is not built yet, and there is no NULL: compare with the value that stands for it
+SELECT day FROM visit WHERE day = NULL|35: text 1 cannot go on with NULL: write IS NULL
+SELECT day FROM visit WHERE day NULL|33: text 1 cannot go on with NULL: write IS NULL
+SELECT day FROM visit WHERE day <> null|36: text 1 cannot go on with null: write IS NOT NULL
+SELECT day FROM visit WHERE day > NULL|35: text 1 cannot go on with NULL: write IS NULL or IS NOT NULL
+SELECT day FROM visit WHERE day BETWEEN NULL AND 5|41: text 1 cannot go on with NULL: write IS NULL or IS NOT NULL
+SELECT day FROM visit WHERE day NOT NULL|33: text 1 cannot go on with NOT: write IS NOT NULL
+SELECT day FROM visit WHERE day NOTNULL|33: text 1 cannot go on with NOTNULL: write IS NULL or IS NOT NULL
+SELECT day FROM visit WHERE day NOT BETWEEN 1 AND 2|33: text 1 cannot go on with NOT: it stands behind IS alone: write <>, or the opposite comparison
+SELECT day FROM visit WHERE NOT day = 5|29: text 1 cannot go on with NOT: it stands behind IS alone: write <>, or the opposite comparison
+SELECT day FROM visit WHERE day IS 5|36: text 1 cannot go on with 5: write NULL or NOT NULL behind IS; a value is compared by =
+SELECT day FROM visit WHERE day IS|35: text 1 cannot end here: write NULL or NOT NULL behind IS; a value is compared by =
+SELECT day FROM visit WHERE purpose IS NOT 'flu'|44: text 1 cannot go on with 'flu': write NULL behind IS NOT; a value is compared by <>
+SELECT day IS NULL FROM visit|12: text 1 cannot go on with IS: it stands in WHERE behind a column: write column IS NULL
+SELECT null FROM visit|8: text 1 cannot go on with null: the word is reserved, and no table or column has it as its name
 SELECT day FROM visit WHERE purpose LIKE 'f'|37: text 1 cannot go on with LIKE: it is not in this language: for a beginning write c >= 'Mue' AND c < 'Muf'
 SELECT day FROM visit WHERE (day = 1)|29: text 1 cannot go on with (: there are no brackets: write conditions with AND between them
 SELECT day FROM visit WHERE day != 5|33: text 1 cannot go on with !: write <> for unequal
