@@ -9,14 +9,14 @@ import re
 
 VERSION = 2
 KINDS = {1: 'HELLO', 2: 'ASK', 3: 'MORE', 4: 'BYE', 17: 'WELCOME', 18: 'ROWS', 19: 'DONE', 20: 'SORRY'}
-OPERATORS = {1: '=', 2: '<>', 3: '<', 4: '<=', 5: '>', 6: '>='}
+TESTS = {1: '= ', 2: '<> ', 3: '< ', 4: '<= ', 5: '> ', 6: '>= ', 7: 'is NULL', 8: 'is not NULL'}
 WANTED = {'hello': ('HELLO',), 'turn': ('ASK', 'BYE'), 'more': ('MORE',)}
 MOVE = re.compile(r'(dial) (ok|failed)|(send) ((?:[0-9a-f]{2})+) (ok|failed)|'
                   r'(take) ([1-9][0-9]{0,4}) (end|failed|(?:[0-9a-f]{2})+)|(close)')
 TABLE = re.compile(r'CREATE TABLE ([a-z0-9_]+) \(id INTEGER PRIMARY KEY((?:, [^,]+)*)\);')
 COLUMN = re.compile(r'([a-z0-9_]+) (?:INTEGER|CHAR\(([1-9]|[1-5][0-9]|6[0-4])\))'
-                    r'(?: REFERENCES ([a-z0-9_]+)\(id\)(?= HIDDEN))?( HIDDEN)?')
-Column = collections.namedtuple('Column', 'name size child visible')
+                    r'(?: REFERENCES ([a-z0-9_]+)\(id\)(?= HIDDEN)|( NULL))?( HIDDEN)?')
+Column = collections.namedtuple('Column', 'name size child visible nullable')
 Table = collections.namedtuple('Table', 'name columns rows')
 Move = collections.namedtuple('Move', 'sender size words')
 
@@ -45,8 +45,8 @@ def read_table(line):
     found = [COLUMN.fullmatch(part) for part in table[2].split(', ')[1:]] if table else [None]
     if None in found:
         return None
-    columns = [Column(it[1], int(it[2] or 0), it[3], not it[4]) for it in found]
-    return Table(table[1], [Column('id', 0, None, False)] + columns, 0)
+    columns = [Column(it[1], int(it[2] or 0), it[3], not it[5], bool(it[4])) for it in found]
+    return Table(table[1], [Column('id', 0, None, False, False)] + columns, 0)
 
 
 def read_catalog(data):
@@ -64,10 +64,25 @@ def read_catalog(data):
     return int.from_bytes(data[8:12], 'big'), [it._replace(rows=count) for it, count in zip(tables, rows)]
 
 
+def width_of(column):
+    """How many bytes a cell of a column has, without the flag where it may be NULL."""
+    return column.size or 8
+
+
 def read_cell(file, column):
     """The value of the cell that comes next, in words."""
-    cell = file.read(column.size or 8)
-    if len(cell) != (column.size or 8):
+    flag = file.read(1) if column.nullable else b'\1'
+    if flag == b'\0' and file.read(width_of(column)) == bytes(width_of(column)):
+        return 'NULL'
+    if flag != b'\1':
+        raise ValueError
+    return read_value(file, column)
+
+
+def read_value(file, column):
+    """The value of a cell without its flag, in words."""
+    cell = file.read(width_of(column))
+    if len(cell) != width_of(column):
         raise ValueError
     if not column.size:
         return str(int.from_bytes(cell, 'big') - 2 ** 63)
@@ -75,6 +90,16 @@ def read_cell(file, column):
     if any(not 0x20 <= byte <= 0x7E for byte in text):
         raise ValueError
     return "'%s'" % text.decode('ascii').replace("'", "''")
+
+
+def read_test(file, column, code):
+    """What a code says of the values of a column, in words; the literal's cell comes next where it has one."""
+    return TESTS[code] + (read_value(file, column) if code < 7 else '')
+
+
+def group_words(group):
+    words = ' or '.join('%s %s' % (column.name, test) for column, test in group)
+    return '(%s)' % words if len(group) > 1 else words
 
 
 def row_words(row):
@@ -89,19 +114,22 @@ class Ask:
         self.table = tables[file.read(1)[0]]
         places = list(file.read(file.read(1)[0]))
         self.columns = [self.table.columns[place] for place in places]
-        self.conditions = []
+        self.groups, used, more = [], list(self.columns), False
         for _ in range(file.read(1)[0]):
-            column, operator = self.table.columns[file.read(1)[0]], OPERATORS[file.read(1)[0]]
-            self.conditions.append((column, operator, read_cell(file, column)))
-        used = self.columns + [column for column, _, _ in self.conditions]
-        is_good = places == sorted(set(places)) and all(it.visible for it in used)
-        if file.read() or not is_good or len(self.conditions) > 16:
+            column, code = self.table.columns[file.read(1)[0]], file.read(1)[0]
+            if not more:
+                self.groups.append([])
+            self.groups[-1].append((column, read_test(file, column, code % 128)))
+            used.append(column)
+            more = code >= 128
+        is_good = places == sorted(set(places)) and all(it.visible for it in used) and not more
+        if file.read() or not is_good or sum(map(len, self.groups)) > 16:
             raise ValueError
         self.rows, self.frames, self.size, self.end = [], 0, 0, 'no answer came to its end'
 
     def words(self):
         columns = ', '.join(it.name for it in self.columns)
-        where = ' and '.join('%s %s %s' % (it.name, operator, literal) for it, operator, literal in self.conditions)
+        where = ' and '.join(group_words(it) for it in self.groups)
         what = 'identifier and %s' % columns if columns else 'identifier alone'
         return 'of %s the %s, of %s' % (self.table.name, what, 'the rows where ' + where if where else 'all rows')
 
@@ -218,7 +246,7 @@ class Wire:
         if self.awaits == 'welcome':
             is_good, self.may_close = kind == 'WELCOME' and serial == 0 and 2 <= length <= 2040, True
         else:
-            width = 4 + sum(it.size or 8 for it in self.asks[-1].columns)
+            width = 4 + sum(width_of(it) + it.nullable for it in self.asks[-1].columns)
             lengths = {'ROWS': length, 'DONE': 4, 'SORRY': 1}
             is_good = serial == len(self.asks) and lengths.get(kind) == length and 0 < length <= 2040
             is_good = is_good and (kind != 'ROWS' or length % width == 0)

@@ -60,8 +60,8 @@ def tell_catalog(wire):
         return
     print('  Names, kinds and numbers of rows; generation %d.' % wire.catalog[0])
     for table in wire.catalog[1]:
-        kinds = [(it, 'CHAR(%d)' % it.size if it.size else 'INTEGER') for it in table.columns[1:]]
-        columns = ['%s %s%s' % (it.name, kind, '' if it.visible else ' (%s)' % secret(it)) for it, kind in kinds]
+        kinds = [(it, 'CHAR(%d)' % it.size if it.size else 'INTEGER', ' NULL' if it.nullable else '') for it in table.columns[1:]]
+        columns = ['%s %s%s%s' % (it.name, kind, null, '' if it.visible else ' (%s)' % secret(it)) for it, kind, null in kinds]
         line = '%s, %s: %s' % (table.name, amount(table.rows, 'row'), ', '.join(columns) or 'the identifier alone')
         print(textwrap.fill(line, 110, initial_indent='  ', subsequent_indent='    '))
 

@@ -11,8 +11,9 @@ What is read
     Fields divided by commas, semicolons, tabs or bars; UTF-8 with or without a byte order mark, UTF-16 with one, else
     Windows-1252; any line ends. The first record names the columns; where it holds values instead, columns are c1, c2 ..
 What is found
-    Kinds and widths. The column that is a table's key: `id`, or one named after the table, or the first whose values are
-    unique. Columns that refer to another table: named after it (or told by --refers), and each value is a key there.
+    Kinds and widths, and NULL for a column with empty fields. The column that is a table's key: `id`, or one named after
+    the table, or the first whose values are unique. Columns that refer to another table: named after it (or told by
+    --refers), and each value is a key there.
 What is changed, each with its count in the report
     Rows get the identifiers 1, 2, 3 ..; the old key is kept in a column of its own; references are followed. Names become
     words in lower case. Decimals become whole numbers of tenths, hundredths ..; dates become 2024-01-31, which sorts
@@ -26,7 +27,7 @@ Options
     --plain A.COLUMN        this column refers to no table           (may stand several times)
     --key A.COLUMN          this column is A's key                   (may stand several times)
     --hide A.COLUMN, --show A.COLUMN   in place of what is proposed  (may stand several times)
-    --empty NUMBER          what stands for an empty number, as -1
+    --empty NUMBER          what stands for an empty number, as -1, in place of NULL
     --dates dmy|mdy         how 03/04/2024 is meant, where the file does not tell
     --cut                   cuts texts of more than 64 bytes
     --unknown               rows that refer to nothing refer to a row that is added at the end of that table
@@ -266,9 +267,17 @@ class Column:
             self.fault([it for it, number in made.items() if number == options.empty], 'with the number that is to stand for empty ones',
                        'choose another one by --empty')
         else:
-            self.fault([it for it in self.counts if not it.strip()], 'empty, in a column of numbers', 'there is no NULL: choose what stands for them, as --empty -1')
+            self.nulls()
         if told:
             self.notes.append(told)
+
+    def nulls(self):
+        """Lets empty fields be NULL, where there are some."""
+        empty = [it for it in self.counts if not it.strip()]
+        if empty:
+            self.kind += ' NULL'
+            self.notes.append(counted(sum(self.counts[it] for it in empty), 'empty field') + ' became NULL: a query asks for them by IS NULL')
+            self.fitted.update((it, '') for it in empty)
 
     def decimals(self, filled, empties, options):
         places = max(len(re.split('[.,]', it.strip())[1]) if re.search('[.,]', it) else 0 for it in filled)
@@ -317,7 +326,7 @@ class Column:
             self.fault(long, 'longer than 64 bytes', 'say --cut to cut them, or shorten them')
         self.kind = 'CHAR(%d)' % min(MOST_CHARS, max([1, *map(len, plain.values())]))
         self.fitted = {it: text for it, text in plain.items() if len(text) <= MOST_CHARS}
-        self.fitted.update((it, '') for it in self.counts if not it.strip())
+        self.nulls()
 
 
 class Table:
@@ -607,7 +616,7 @@ def report_of(tables, faults):
         lines += ['  ' + it for it in table.notes]
         lines += ['  FAULT: ' + it for it in table.faults]
         for it in table.columns:
-            told = '  %-24s %-10s %-8s %s' % (it.name, it.kind, 'hidden' if it.hidden else 'visible', it.why)
+            told = '  %-24s %-13s %-8s %s' % (it.name, it.kind, 'hidden' if it.hidden else 'visible', it.why)
             lines.append(told + (', to %s' % it.child.name if it.child is not None else '') + ('' if it.raw.strip().lower() == it.name else " (was '%s')" % folded(it.raw)))
             lines += ['      ' + note for note in it.notes]
             lines += ["      FAULT: %s %s, as '%s': %s" % (counted(count, 'field'), what, folded(value)[:40], cure) for count, value, what, cure in it.faults]
