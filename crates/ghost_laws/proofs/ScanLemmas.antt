@@ -13,3 +13,4 @@ pub mod Cells
 pub mod HeardRows
 pub mod Hearing
 pub mod Followed
+pub mod AlongKeys

@@ -1,9 +1,10 @@
--- Which conditions and columns of a query are asked of the host, and which conditions are the key's to test.
-use Rattle.std.specs.Prelude.{ℕ, ◌&&◌, ◌||◌, Bool, false, not, nat_eq}
+-- Which tables of a query are asked for, and which conditions are the key's to test: by the indexes, or on each row.
+use Rattle.std.specs.Prelude.{ℕ, ◌&&◌, ◌||◌, Bool, false, nat_eq}
 use Rattle.std.specs.List.{list_any}
 use Rattle.ghost_model.specs.core.Schema.{Schema, is_visible}
 use Rattle.ghost_model.specs.core.Groups.{some_of}
 use Rattle.ghost_model.specs.core.Query as query
+pub use Rattle.ghost_model.specs.forms.Left.{is_tested, is_gathered, is_left, members_left, columns_left, without_left}
 
 -- whether a table is asked for: a visible column of it is selected or stands in a group
 abbrev pub is_shown_of : Schema → (table : ℕ) → query.Field → Bool
@@ -16,9 +17,3 @@ is_compared_of schema table (query.Join one other) = false
 abbrev pub is_asked : Schema → query.Query → (table : ℕ) → Bool
 is_asked schema asked table =
     list_any (is_shown_of schema table) asked.select || list_any (is_compared_of schema table) asked.conditions
-
--- whether a condition is the key's to test: a group with an identifier or a hidden column
-abbrev pub is_tested : Schema → query.Condition → Bool
-is_tested schema (query.OneOf first others) =
-    some_of (λ one. not (is_visible schema one.field.table one.field.column)) first others
-is_tested schema (query.Join one other) = false

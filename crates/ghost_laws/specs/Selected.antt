@@ -18,6 +18,7 @@ use Rattle.ghost_model.specs.core.Moves.{taken}
 use Rattle.ghost_model.specs.core.Lines.{all_done}
 use Rattle.ghost_model.specs.laws.ShortWords.{ended_of}
 use Rattle.ghost_model.specs.core.Printed.{field_text, row_line}
+use Rattle.ghost_laws.specs.Asking.{members_left}
 use Rattle.ghost_laws.specs.Scans.{led_value, row_along, answer_along, known_along, stands_along, known_row, known_answer}
 
 -- the kinds of the selected columns
@@ -58,13 +59,16 @@ RepliesAreWhole =
     → all_done catalog.schema asked (ended_of catalog (asked_of catalog.schema texts) journal (suc place)) ≡ true
     → AreWholeReplies catalog.schema asked (replies catalog (asked_of catalog.schema texts) journal (suc place))
 
--- no selected value is missing in a row that stands in the replies
+-- no selected value is missing in a row that stands in the replies, and none of a column in a group that is left
 pub record AreKnown (schema : Schema) (database : Database) (asked : Query) (given : List Reply) (top : ℕ) : Type 0 where
   pub row : (identifier : ℕ) → 1 ≤ identifier → identifier ≤ row_count database top
       → IsTrue (list_all (has_selected schema asked) (known_row schema database asked given top identifier))
   pub none_missing : (identifier : ℕ) → 1 ≤ identifier → identifier ≤ row_count database top
       → IsTrue (list_all (stands_along schema database given top identifier) asked.from)
       → IsTrue (list_all (λ one. is_some (known_along schema database given top identifier one)) asked.select)
+  pub left : (identifier : ℕ) → 1 ≤ identifier → identifier ≤ row_count database top
+      → IsTrue (list_all (stands_along schema database given top identifier) asked.from)
+      → IsTrue (list_all (λ one. is_some (known_along schema database given top identifier one.member.field)) (members_left schema asked))
   pub answer : IsTrue (list_all (has_selected schema asked) (known_answer schema database asked given top))
 
 abbrev pub KnownAnswersHaveSelected : Type 0

@@ -144,6 +144,18 @@ pub run_on : {Place : Type 0} (step : Place → Symbol → Option Place) (start 
     → run step start xs ≡ Some place → run step start (xs ++ ys) ≡ run step place ys
 run_on step start place xs ys e = run-append step start xs ys ∙ ap (option_and_then (λ next. run step next ys)) e
 
+-- places that are inside others: what leads inside leads outside too
+pub run_within : {Place Outer : Type 0} (inner : Place → Symbol → Option Place) (outer : Outer → Symbol → Option Outer) (around : Place → Outer)
+    → ((place : Place) (symbol : Symbol) (next : Place) → inner place symbol ≡ Some next → outer (around place) symbol ≡ Some (around next))
+    → (place last : Place) (xs : List Symbol) → run inner place xs ≡ Some last → run outer (around place) xs ≡ Some (around last)
+run_within inner outer around h place last [] leads = let same : place ≡ last = cc in ap (λ p. Some (around p)) same
+run_within inner outer around h place last (x ∷ xs) leads =
+    elim (inner place x) as (λ o. inner place x ≡ o → option_and_then (λ next. run inner next xs) o ≡ Some last → run outer (around place) (x ∷ xs) ≡ Some (around last)) [
+      | None ↦ (λ is leads. absurd (cc))
+      | Some next ↦ (λ is leads.
+          ap (option_and_then (λ next. run outer next xs)) (h place x next is) ∙ run_within inner outer around h next last xs leads)
+    ] refl leads
+
 -- a text of the grammar does not go on with a symbol that leads nowhere
 pub dead_after : {Tree Place : Type 0} (spelling : Tree → List Symbol) (step : Place → Symbol → Option Place) (start place : Place) (read : List Symbol) (next : Symbol)
     → ((tree : Tree) → (last : Place) × (run step start (spelling tree) ≡ Some last))

@@ -1,23 +1,19 @@
 -- The grammar of query texts by its places: a step tells what was read (`step_before`), and the places lead along the
--- spelling of each tree to its end (`leads`). And the conditions that trees mean: each is a comparison alone or a join.
+-- spelling of each tree to its end (`leads`).
 use Rattle.std.proofs.Common.{◌≡◌, ℕ, Bool, true, false, List, [], ◌∷◌, ◌++◌, map, length, slice_get, Option, Some, None, Result, Ok, Err, option_map, option_and_then, IfSome, flat_map, ◌⊎◌, inl, inr, refl, sym, ap, ap₂, subst, ◌∙◌, append_assoc, append-nil}
 use Rattle.std.proofs.lemmas.List.{map-append}
-use Rattle.std.proofs.lemmas.List.Folds.{list_all-append}
 use Rattle.std.specs.List.{list_all}
-use Rattle.ghost_model.specs.core.Schema.{Schema}
 use Rattle.ghost_model.specs.core.Query as query
-use Rattle.ghost_model.specs.core.Query.{Operator, Condition, OneOf, Join, AtLeast, AtMost, tested, compared}
-use Rattle.ghost_model.specs.refusals.Tokens.{Token, tokens, symbol_of, symbols, offset_of, Symbol, Word, Name, Digits, Quoted, Comma, Point, Star, PlusSign, MinusSign, EqualSign, UnequalSign, LessSign, AtMostSign, MoreSign, AtLeastSign, EndOfText, SelectWord, FromWord, WhereWord, AndWord, BetweenWord, IsWord, NotWord, NullWord}
+use Rattle.ghost_model.specs.core.Query.{Operator}
+use Rattle.ghost_model.specs.refusals.Tokens.{Token, tokens, symbol_of, symbols, offset_of, Symbol, Word, Name, Digits, Quoted, Open, Closing, Comma, Point, Star, PlusSign, MinusSign, EqualSign, UnequalSign, LessSign, AtMostSign, MoreSign, AtLeastSign, EndOfText, SelectWord, FromWord, WhereWord, AndWord, BetweenWord, IsWord, NotWord, NullWord, InWord, OrWord}
 use Rattle.ghost_model.specs.refusals.Grammar.{Spells, IsSyntaxFault, separated}
 use Rattle.ghost_model.specs.readings.Begun.{begun}
 use Rattle.ghost_model.specs.laws.Spelled.{is_spelled, is_name}
-use Rattle.ghost_model.specs.refusals.QueryGrammar.{ColumnText, Bare, Qualified, Sign, Positive, Negative, LiteralText, Unsigned, Signed, Written, ConditionText, Compares, TestsNull, LiesBetween, Joins, Selection, All, Columns, QueryText, spell_column, spell_sign, spell_operator, spell_literal, spell_not, spell_condition, spell_table, spell_selection, spell_where, spelling}
-use Rattle.ghost_model.specs.readings.QueryPlaces.{ColumnPart, WantsColumn, HasTablePoint, HasColumn, ConditionPart, WantsLeft, HasLeftPoint, HasLeft, HasOperator, HasSign, HasRightPoint, HasIs, WantsLow, HasLowSign, HasLow, WantsHigh, HasHighSign, HasCondition, QueryPlace, Start, HasStar, InSelect, WantsTable, HasTable, InWhere, Whole, first_item, other_items, selection_of, query_text, in_column, in_condition, before, step_in_column, step_in_condition, step_in_select, step_in_where, step, whole_text, read_from, syntax_of}
-use Rattle.ghost_model.specs.refusals.QueryMeaning.{value_of_literal, null_test, meanings, conditions_of, from_tables, resolved}
-use Rattle.ghost_model.specs.laws.QueryLaws.{IsStuck, is_lone, AcceptedQueriesAreLone}
-use Rattle.ghost_model.proofs.ChannelLemmas.Tests.{hold_both}
+use Rattle.ghost_model.specs.refusals.QueryGrammar.{ColumnText, Bare, Qualified, Sign, Positive, Negative, LiteralText, Unsigned, Signed, Written, MemberText, Compares, TestsNull, IsIn, ConditionText, Alone, AnyOf, LiesBetween, Joins, Selection, All, Columns, QueryText, spell_column, spell_sign, spell_operator, spell_literal, spell_not, spell_member, spell_condition, spell_table, spell_selection, spell_where, spelling}
+use Rattle.ghost_model.specs.readings.QueryPlaces.{ColumnPart, WantsColumn, HasTablePoint, HasColumn, MemberPart, WantsLeft, HasLeftPoint, HasLeft, HasOperator, HasSign, HasIs, HasIn, WantsListed, HasListedSign, HasListed, MemberStep, GoesOn, IsWhole, ConditionPart, InMember, InGroup, HasGrouped, HasRightPoint, WantsLow, HasLowSign, HasLow, WantsHigh, HasHighSign, HasCondition, QueryPlace, Start, HasStar, InSelect, WantsTable, HasTable, InWhere, Whole, first_item, other_items, selection_of, query_text, in_column, in_member, in_condition, before, alone, grouped, group_text, step_in_column, step_in_member, step_alone, step_in_condition, step_in_select, step_in_where, step, whole_text, read_from, syntax_of}
+use Rattle.ghost_model.specs.laws.QueryLaws.{IsStuck}
 use Rattle.ghost_model.proofs.TokenLemmas.{before_end}
-use Rattle.ghost_model.proofs.GrammarLemmas.{front, final, front_final, begun_before, more_begun, separated_made, spelled_parts, no_end_inside, spelled_front, viable_front, run, run-append, dead_after, fault_after, no_fault, one_fault}
+use Rattle.ghost_model.proofs.GrammarLemmas.{front, final, front_final, begun_before, more_begun, separated_made, spelled_both, spelled_parts, no_end_inside, spelled_front, viable_front, run, run-append, run_on, run_within, dead_after, fault_after, no_fault, one_fault}
 
 -- a step adds its symbol to what was read
 column_step : (symbol : Symbol) (part : ColumnPart)
@@ -27,27 +23,97 @@ column_step (Name name) (HasTablePoint table) = refl
 column_step Point (HasColumn (Bare name)) = refl
 column_step _ _ = tt
 
+-- where a member goes on or is whole, these symbols stand before
+in_step : MemberStep → List Symbol
+in_step (GoesOn part) = in_member part
+in_step (IsWhole member) = spell_member member
+
+member_step : (symbol : Symbol) (part : MemberPart)
+    → IfSome (step_in_member symbol part) (λ next. in_step next ≡ in_member part ++ symbol ∷ [])
+unfolding in_step
+member_step (Name name) WantsLeft = refl
+member_step (Name name) (HasLeftPoint table) = refl
+member_step Point (HasLeft (Bare name)) = refl
+member_step EqualSign (HasLeft column) = refl
+member_step UnequalSign (HasLeft column) = refl
+member_step LessSign (HasLeft column) = refl
+member_step AtMostSign (HasLeft column) = refl
+member_step MoreSign (HasLeft column) = refl
+member_step AtLeastSign (HasLeft column) = refl
+member_step (Word IsWord) (HasLeft column) = refl
+member_step (Word InWord) (HasLeft column) = refl
+member_step (Word NotWord) (HasIs column false) = sym (append_assoc (spell_column column) _ _)
+member_step (Word NullWord) (HasIs column negated) = sym (append_assoc (spell_column column) _ _)
+member_step PlusSign (HasOperator column operator) = sym (append_assoc (spell_column column) _ _)
+member_step MinusSign (HasOperator column operator) = sym (append_assoc (spell_column column) _ _)
+member_step (Digits digits) (HasOperator column operator) = sym (append_assoc (spell_column column) _ _)
+member_step (Quoted text) (HasOperator column operator) = sym (append_assoc (spell_column column) _ _)
+member_step (Digits digits) (HasSign column operator sign) = sym (append_assoc (spell_column column) _ _)
+member_step Open (HasIn column) = sym (append_assoc (spell_column column) _ _)
+member_step PlusSign (WantsListed column earlier) = sym (append_assoc (spell_column column) _ _)
+member_step MinusSign (WantsListed column earlier) = sym (append_assoc (spell_column column) _ _)
+member_step (Digits digits) (WantsListed column earlier) = sym (append_assoc (spell_column column) _ _)
+member_step (Quoted text) (WantsListed column earlier) = sym (append_assoc (spell_column column) _ _)
+member_step (Digits digits) (HasListedSign column earlier sign) = simp append_assoc
+member_step Comma (HasListed column earlier last) =
+    ap (λ rest. spell_column column ++ (Word InWord ∷ Open ∷ rest))
+    (sym (more_begun Comma spell_literal earlier last) ∙ sym (append_assoc (begun Comma spell_literal earlier) _ _))
+    ∙ sym (append_assoc (spell_column column) _ _)
+member_step Closing (HasListed column earlier last) =
+    ap (λ rest. spell_column column ++ (Word InWord ∷ Open ∷ (rest ++ Closing ∷ []))) (sym (separated_made Comma spell_literal earlier last))
+    ∙ sym (append_assoc (spell_column column) _ _)
+member_step _ _ = tt
+
+alone_made : (symbol : Symbol) (part : MemberPart) (o : Option MemberStep)
+    → IfSome o (λ next. in_step next ≡ in_member part ++ symbol ∷ [])
+    → IfSome (option_map alone o) (λ next. in_condition next ≡ in_member part ++ symbol ∷ [])
+unfolding in_step
+alone_made symbol part None adds = tt
+alone_made symbol part (Some (GoesOn next)) adds = adds
+alone_made symbol part (Some (IsWhole member)) adds = adds
+
+alone_step : (symbol : Symbol) (part : MemberPart)
+    → IfSome (step_alone symbol part) (λ next. in_condition next ≡ in_member part ++ symbol ∷ [])
+alone_step Open WantsLeft = refl
+alone_step (Word BetweenWord) (HasLeft column) = refl
+alone_step (Name name) (HasOperator column query.Equal) = sym (append_assoc (spell_column column) _ _)
+alone_step symbol part = alone_made symbol part (step_in_member symbol part) (member_step symbol part)
+
+-- in a group
+in_group : List MemberText → List Symbol → List Symbol
+in_group earlier rest = Open ∷ (begun (Word OrWord) spell_member earlier ++ rest)
+
+in_group_more : (earlier : List MemberText) (rest last : List Symbol) → in_group earlier (rest ++ last) ≡ in_group earlier rest ++ last
+unfolding in_group
+in_group_more earlier rest last = ap (λ all. Open ∷ all) (sym (append_assoc (begun (Word OrWord) spell_member earlier) rest last))
+
+group_step : (symbol : Symbol) (part : MemberPart) (earlier : List MemberText) (o : Option MemberStep)
+    → IfSome o (λ next. in_step next ≡ in_member part ++ symbol ∷ [])
+    → IfSome (option_map (grouped earlier) o) (λ next. in_condition next ≡ in_condition (InGroup earlier part) ++ symbol ∷ [])
+unfolding in_step in_group
+group_step symbol part earlier None adds = tt
+group_step symbol part earlier (Some (GoesOn next)) adds =
+    ap (in_group earlier) adds ∙ in_group_more earlier (in_member part) (symbol ∷ [])
+group_step symbol part earlier (Some (IsWhole member)) adds =
+    ap (in_group earlier) adds ∙ in_group_more earlier (in_member part) (symbol ∷ [])
+
+group_closes : (earlier : List MemberText) (last : MemberText)
+    → IfSome (group_text earlier last) (λ next. in_condition next ≡ in_condition (HasGrouped earlier last) ++ Closing ∷ [])
+group_closes [] last = tt
+group_closes (first ∷ []) last =
+    ap (λ rest. Open ∷ (rest ++ Closing ∷ [])) (sym (separated_made (Word OrWord) spell_member (first ∷ []) last))
+group_closes (first ∷ second ∷ earlier) last =
+    ap (λ rest. Open ∷ (rest ++ Closing ∷ [])) (sym (separated_made (Word OrWord) spell_member (first ∷ second ∷ earlier) last))
+
 condition_step : (symbol : Symbol) (part : ConditionPart)
     → IfSome (step_in_condition symbol part) (λ next. in_condition next ≡ in_condition part ++ symbol ∷ [])
-condition_step (Name name) WantsLeft = refl
-condition_step (Name name) (HasLeftPoint table) = refl
-condition_step Point (HasLeft (Bare name)) = refl
-condition_step EqualSign (HasLeft column) = refl
-condition_step UnequalSign (HasLeft column) = refl
-condition_step LessSign (HasLeft column) = refl
-condition_step AtMostSign (HasLeft column) = refl
-condition_step MoreSign (HasLeft column) = refl
-condition_step AtLeastSign (HasLeft column) = refl
-condition_step (Word BetweenWord) (HasLeft column) = refl
-condition_step (Word IsWord) (HasLeft column) = refl
-condition_step (Word NotWord) (HasIs column false) = sym (append_assoc (spell_column column) _ _)
-condition_step (Word NullWord) (HasIs column negated) = sym (append_assoc (spell_column column) _ _)
-condition_step PlusSign (HasOperator column operator) = sym (append_assoc (spell_column column) _ _)
-condition_step MinusSign (HasOperator column operator) = sym (append_assoc (spell_column column) _ _)
-condition_step (Digits digits) (HasOperator column operator) = sym (append_assoc (spell_column column) _ _)
-condition_step (Quoted text) (HasOperator column operator) = sym (append_assoc (spell_column column) _ _)
-condition_step (Name name) (HasOperator column query.Equal) = sym (append_assoc (spell_column column) _ _)
-condition_step (Digits digits) (HasSign column operator sign) = sym (append_assoc (spell_column column) _ _)
+condition_step symbol (InMember part) = alone_step symbol part
+condition_step symbol (InGroup earlier part) = group_step symbol part earlier (step_in_member symbol part) (member_step symbol part)
+condition_step (Word OrWord) (HasGrouped earlier member) =
+    ap (λ rest. Open ∷ rest)
+    (append-nil _ ∙ sym (more_begun (Word OrWord) spell_member earlier member)
+    ∙ sym (append_assoc (begun (Word OrWord) spell_member earlier) _ _))
+condition_step Closing (HasGrouped earlier member) = group_closes earlier member
 condition_step Point (HasCondition (Joins left (Bare table))) = sym (append_assoc (spell_column left) _ _)
 condition_step (Name name) (HasRightPoint left table) = sym (append_assoc (spell_column left) _ _)
 condition_step PlusSign (WantsLow column) = sym (append_assoc (spell_column column) _ _)
@@ -212,90 +278,190 @@ tables_run selection done x (y ∷ ys) rest =
     tables_run selection (done ++ x ∷ []) y ys rest
     ∙ ap (λ d. run step (HasTable selection d (final y ys)) rest) (append_assoc done (x ∷ []) _)
 
+-- reading inside a member, and inside a condition
+read_member : MemberStep → Symbol → Option MemberStep
+read_member (GoesOn part) symbol = step_in_member symbol part
+read_member (IsWhole member) symbol = None
+
+read_condition : ConditionPart → Symbol → Option ConditionPart
+read_condition part symbol = step_in_condition symbol part
+
+left_run : (column : ColumnText) (rest : List Symbol)
+    → run read_member (GoesOn WantsLeft) (spell_column column ++ rest) ≡ run read_member (GoesOn (HasLeft column)) rest
+unfolding read_member
+left_run (Bare name) rest = refl
+left_run (Qualified from name) rest = refl
+
+operator_run : (column : ColumnText) (operator : Operator) (rest : List Symbol)
+    → run read_member (GoesOn (HasLeft column)) (spell_operator operator ∷ rest) ≡ run read_member (GoesOn (HasOperator column operator)) rest
+unfolding read_member
+operator_run column query.Equal rest = refl
+operator_run column query.Unequal rest = refl
+operator_run column query.Less rest = refl
+operator_run column query.AtMost rest = refl
+operator_run column query.More rest = refl
+operator_run column query.AtLeast rest = refl
+
+literal_run : (column : ColumnText) (operator : Operator) (literal : LiteralText)
+    → run read_member (GoesOn (HasOperator column operator)) (spell_literal literal) ≡ Some (IsWhole (Compares column operator literal))
+unfolding read_member
+literal_run column operator (Unsigned digits) = refl
+literal_run column operator (Signed Positive digits) = refl
+literal_run column operator (Signed Negative digits) = refl
+literal_run column operator (Written text) = refl
+
+null_run : (column : ColumnText) (negated : Bool)
+    → run read_member (GoesOn (HasIs column false)) (spell_not negated ++ (Word NullWord ∷ [])) ≡ Some (IsWhole (TestsNull column negated))
+unfolding read_member
+null_run column false = refl
+null_run column true = refl
+
+listed_run : (column : ColumnText) (done : List LiteralText) (literal : LiteralText) (rest : List Symbol)
+    → run read_member (GoesOn (WantsListed column done)) (spell_literal literal ++ rest) ≡ run read_member (GoesOn (HasListed column done literal)) rest
+unfolding read_member
+listed_run column done (Unsigned digits) rest = refl
+listed_run column done (Signed Positive digits) rest = refl
+listed_run column done (Signed Negative digits) rest = refl
+listed_run column done (Written text) rest = refl
+
+list_run : (column : ColumnText) (done : List LiteralText) (x : LiteralText) (xs : List LiteralText) (rest : List Symbol)
+    → run read_member (GoesOn (HasListed column done x)) (flat_map (λ other. Comma ∷ spell_literal other) xs ++ rest)
+    ≡ run read_member (GoesOn (HasListed column (done ++ front x xs) (final x xs))) rest
+unfolding read_member
+list_run column done x [] rest = ap (λ d. run read_member (GoesOn (HasListed column d x)) rest) (sym (append-nil done))
+list_run column done x (y ∷ ys) rest =
+    ap (run read_member (GoesOn (WantsListed column (done ++ x ∷ [])))) (append_assoc (spell_literal y) _ rest)
+    ∙ listed_run column (done ++ x ∷ []) y _
+    ∙ list_run column (done ++ x ∷ []) y ys rest
+    ∙ ap (λ d. run read_member (GoesOn (HasListed column d (final y ys))) rest) (append_assoc done (x ∷ []) _)
+
+member_run : (member : MemberText) → run read_member (GoesOn WantsLeft) (spell_member member) ≡ Some (IsWhole member)
+unfolding read_member
+member_run (Compares column operator literal) =
+    left_run column _ ∙ operator_run column operator (spell_literal literal) ∙ literal_run column operator literal
+member_run (TestsNull column negated) = left_run column _ ∙ null_run column negated
+member_run (IsIn column first others) =
+    left_run column _
+    ∙ ap (run read_member (GoesOn (WantsListed column []))) (append_assoc (spell_literal first) _ (Closing ∷ []))
+    ∙ listed_run column [] first _
+    ∙ list_run column [] first others (Closing ∷ [])
+    ∙ ap₂ (λ one more. Some (IsWhole (IsIn column one more))) (first_back first others) (others_back first others)
+
+-- a member of a condition: alone, or behind the earlier ones of a group
+in_place : Option (List MemberText) → MemberStep → ConditionPart
+in_place None step = alone step
+in_place (Some earlier) step = grouped earlier step
+
+mapped_some : {X Y : Type 0} (f : X → Y) (o : Option X) (x : X) → o ≡ Some x → option_map f o ≡ Some (f x)
+mapped_some f o x is = ap (option_map f) is
+
+alone_leads : (symbol : Symbol) (part : MemberPart) (next : MemberStep)
+    → step_in_member symbol part ≡ Some next → step_alone symbol part ≡ Some (alone next)
+alone_leads Open WantsLeft next leads = absurd (cc)
+alone_leads (Word BetweenWord) (HasLeft column) next leads = absurd (cc)
+alone_leads (Name name) (HasOperator column query.Equal) next leads = absurd (cc)
+alone_leads symbol part next leads = mapped_some alone (step_in_member symbol part) next leads
+
+member_leads : (earlier : Option (List MemberText)) (place : MemberStep) (symbol : Symbol) (next : MemberStep)
+    → read_member place symbol ≡ Some next → read_condition (in_place earlier place) symbol ≡ Some (in_place earlier next)
+unfolding read_member read_condition in_place
+member_leads None (GoesOn part) symbol next leads = alone_leads symbol part next leads
+member_leads (Some earlier) (GoesOn part) symbol next leads = mapped_some (grouped earlier) (step_in_member symbol part) next leads
+member_leads earlier (IsWhole member) symbol next leads = absurd (cc)
+
+in_place_run : (earlier : Option (List MemberText)) (place last : MemberStep) (xs : List Symbol)
+    → run read_member place xs ≡ Some last → run read_condition (in_place earlier place) xs ≡ Some (in_place earlier last)
+in_place_run earlier place last xs leads = run_within read_member read_condition (in_place earlier) (member_leads earlier) place last xs leads
+
+-- the left column of a condition that begins with one
+begins_run : (column : ColumnText) (rest : List Symbol)
+    → run read_condition (InMember WantsLeft) (spell_column column ++ rest) ≡ run read_condition (InMember (HasLeft column)) rest
+unfolding in_place read_member
+begins_run column rest =
+    run_on read_condition (InMember WantsLeft) (InMember (HasLeft column)) (spell_column column) rest
+    (in_place_run None (GoesOn WantsLeft) (GoesOn (HasLeft column)) (spell_column column)
+    (ap (run read_member (GoesOn WantsLeft)) (sym (append-nil (spell_column column))) ∙ left_run column []))
+
+grouped_run : (done : List MemberText) (member : MemberText) (rest : List Symbol)
+    → run read_condition (InGroup done WantsLeft) (spell_member member ++ rest) ≡ run read_condition (HasGrouped done member) rest
+unfolding in_place
+grouped_run done member rest =
+    run_on read_condition (InGroup done WantsLeft) (HasGrouped done member) (spell_member member) rest
+    (in_place_run (Some done) (GoesOn WantsLeft) (IsWhole member) (spell_member member) (member_run member))
+
+group_run : (done : List MemberText) (x : MemberText) (xs : List MemberText) (rest : List Symbol)
+    → run read_condition (HasGrouped done x) (flat_map (λ other. Word OrWord ∷ spell_member other) xs ++ rest)
+    ≡ run read_condition (HasGrouped (done ++ front x xs) (final x xs)) rest
+unfolding read_condition
+group_run done x [] rest = ap (λ d. run read_condition (HasGrouped d x) rest) (sym (append-nil done))
+group_run done x (y ∷ ys) rest =
+    ap (run read_condition (InGroup (done ++ x ∷ []) WantsLeft)) (append_assoc (spell_member y) _ rest)
+    ∙ grouped_run (done ++ x ∷ []) y _
+    ∙ group_run (done ++ x ∷ []) y ys rest
+    ∙ ap (λ d. run read_condition (HasGrouped d (final y ys)) rest) (append_assoc done (x ∷ []) _)
+
+low_run : (column : ColumnText) (low : LiteralText) (rest : List Symbol)
+    → run read_condition (WantsLow column) (spell_literal low ++ rest) ≡ run read_condition (HasLow column low) rest
+unfolding read_condition
+low_run column (Unsigned digits) rest = refl
+low_run column (Signed Positive digits) rest = refl
+low_run column (Signed Negative digits) rest = refl
+low_run column (Written text) rest = refl
+
+high_run : (column : ColumnText) (low high : LiteralText)
+    → run read_condition (WantsHigh column low) (spell_literal high) ≡ Some (HasCondition (LiesBetween column low high))
+unfolding read_condition
+high_run column low (Unsigned digits) = refl
+high_run column low (Signed Positive digits) = refl
+high_run column low (Signed Negative digits) = refl
+high_run column low (Written text) = refl
+
+right_run : (left right : ColumnText)
+    → run read_condition (InMember (HasOperator left query.Equal)) (spell_column right) ≡ Some (HasCondition (Joins left right))
+unfolding read_condition
+right_run left (Bare name) = refl
+right_run left (Qualified from name) = refl
+
+condition_run : (condition : ConditionText)
+    → run read_condition (InMember WantsLeft) (spell_condition condition) ≡ Some (HasCondition condition)
+unfolding read_condition in_place
+condition_run (Alone member) = in_place_run None (GoesOn WantsLeft) (IsWhole member) (spell_member member) (member_run member)
+condition_run (AnyOf first second others) =
+    ap (run read_condition (InGroup [] WantsLeft)) (append_assoc (spell_member first) _ (Closing ∷ []))
+    ∙ grouped_run [] first _
+    ∙ group_run [] first (second ∷ others) (Closing ∷ [])
+    ∙ ap₂ (λ one more. Some (HasCondition (AnyOf first one more))) (first_back second others) (others_back second others)
+condition_run (LiesBetween column low high) = begins_run column _ ∙ low_run column low _ ∙ high_run column low high
+condition_run (Joins left right) = begins_run left _ ∙ right_run left right
+
 module _ (selection : Selection) (table : List ℕ) (more : List (List ℕ)) where
-  left_run : (done : List ConditionText) (column : ColumnText) (rest : List Symbol)
-      → run step (InWhere selection table more done WantsLeft) (spell_column column ++ rest)
-      ≡ run step (InWhere selection table more done (HasLeft column)) rest
-  left_run done (Bare name) rest = refl
-  left_run done (Qualified from name) rest = refl
+  where_leads : (done : List ConditionText) (symbol : Symbol) (part : ConditionPart) (next : ConditionPart)
+      → read_condition part symbol ≡ Some next → step (InWhere selection table more done part) symbol ≡ Some (InWhere selection table more done next)
+  unfolding read_condition
+  where_leads done (Word AndWord) (HasCondition condition) next leads = absurd (cc)
+  where_leads done EndOfText (HasCondition condition) next leads = absurd (cc)
+  where_leads done symbol part next leads = mapped_some (InWhere selection table more done) (step_in_condition symbol part) next leads
 
-  operator_run : (done : List ConditionText) (column : ColumnText) (operator : Operator) (rest : List Symbol)
-      → run step (InWhere selection table more done (HasLeft column)) (spell_operator operator ∷ rest)
-      ≡ run step (InWhere selection table more done (HasOperator column operator)) rest
-  operator_run done column query.Equal rest = refl
-  operator_run done column query.Unequal rest = refl
-  operator_run done column query.Less rest = refl
-  operator_run done column query.AtMost rest = refl
-  operator_run done column query.More rest = refl
-  operator_run done column query.AtLeast rest = refl
+  inside_run : (done : List ConditionText) (part last : ConditionPart) (xs : List Symbol) → run read_condition part xs ≡ Some last
+      → run step (InWhere selection table more done part) xs ≡ Some (InWhere selection table more done last)
+  inside_run done part last xs leads =
+      run_within read_condition step (InWhere selection table more done) (λ place symbol. where_leads done symbol place) part last xs leads
 
-  literal_run : (done : List ConditionText) (column : ColumnText) (operator : Operator) (literal : LiteralText) (rest : List Symbol)
-      → run step (InWhere selection table more done (HasOperator column operator)) (spell_literal literal ++ rest)
-      ≡ run step (InWhere selection table more done (HasCondition (Compares column operator literal))) rest
-  literal_run done column operator (Unsigned digits) rest = refl
-  literal_run done column operator (Signed Positive digits) rest = refl
-  literal_run done column operator (Signed Negative digits) rest = refl
-  literal_run done column operator (Written text) rest = refl
-
-  low_run : (done : List ConditionText) (column : ColumnText) (low : LiteralText) (rest : List Symbol)
-      → run step (InWhere selection table more done (WantsLow column)) (spell_literal low ++ rest)
-      ≡ run step (InWhere selection table more done (HasLow column low)) rest
-  low_run done column (Unsigned digits) rest = refl
-  low_run done column (Signed Positive digits) rest = refl
-  low_run done column (Signed Negative digits) rest = refl
-  low_run done column (Written text) rest = refl
-
-  high_run : (done : List ConditionText) (column : ColumnText) (low high : LiteralText) (rest : List Symbol)
-      → run step (InWhere selection table more done (WantsHigh column low)) (spell_literal high ++ rest)
-      ≡ run step (InWhere selection table more done (HasCondition (LiesBetween column low high))) rest
-  high_run done column low (Unsigned digits) rest = refl
-  high_run done column low (Signed Positive digits) rest = refl
-  high_run done column low (Signed Negative digits) rest = refl
-  high_run done column low (Written text) rest = refl
-
-  right_run : (done : List ConditionText) (left right : ColumnText) (rest : List Symbol)
-      → run step (InWhere selection table more done (HasOperator left query.Equal)) (spell_column right ++ rest)
-      ≡ run step (InWhere selection table more done (HasCondition (Joins left right))) rest
-  right_run done left (Bare name) rest = refl
-  right_run done left (Qualified from name) rest = refl
-
-  null_run : (done : List ConditionText) (column : ColumnText) (negated : Bool) (rest : List Symbol)
-      → run step (InWhere selection table more done (HasIs column false)) (spell_not negated ++ (Word NullWord ∷ rest))
-      ≡ run step (InWhere selection table more done (HasCondition (TestsNull column negated))) rest
-  null_run done column false rest = refl
-  null_run done column true rest = refl
-
-  condition_run : (done : List ConditionText) (condition : ConditionText) (rest : List Symbol)
-      → run step (InWhere selection table more done WantsLeft) (spell_condition condition ++ rest)
+  whole_run : (done : List ConditionText) (condition : ConditionText) (rest : List Symbol)
+      → run step (InWhere selection table more done (InMember WantsLeft)) (spell_condition condition ++ rest)
       ≡ run step (InWhere selection table more done (HasCondition condition)) rest
-  condition_run done (Compares column operator literal) rest =
-      ap (run step (InWhere selection table more done WantsLeft)) (append_assoc (spell_column column) _ rest)
-      ∙ left_run done column _
-      ∙ operator_run done column operator _
-      ∙ literal_run done column operator literal rest
-  condition_run done (TestsNull column negated) rest =
-      ap (run step (InWhere selection table more done WantsLeft)) (append_assoc (spell_column column) _ rest)
-      ∙ left_run done column _
-      ∙ ap (run step (InWhere selection table more done (HasIs column false))) (append_assoc (spell_not negated) _ rest)
-      ∙ null_run done column negated rest
-  condition_run done (LiesBetween column low high) rest =
-      ap (run step (InWhere selection table more done WantsLeft)) (append_assoc (spell_column column) _ rest)
-      ∙ left_run done column _
-      ∙ ap (run step (InWhere selection table more done (WantsLow column))) (append_assoc (spell_literal low) _ rest)
-      ∙ low_run done column low _
-      ∙ high_run done column low high rest
-  condition_run done (Joins left right) rest =
-      ap (run step (InWhere selection table more done WantsLeft)) (append_assoc (spell_column left) _ rest)
-      ∙ left_run done left _
-      ∙ right_run done left right rest
+  whole_run done condition rest =
+      run_on step (InWhere selection table more done (InMember WantsLeft)) (InWhere selection table more done (HasCondition condition))
+      (spell_condition condition) rest
+      (inside_run done (InMember WantsLeft) (HasCondition condition) (spell_condition condition) (condition_run condition))
 
   conditions_run : (done : List ConditionText) (x : ConditionText) (xs : List ConditionText)
       → run step (InWhere selection table more done (HasCondition x)) (flat_map (λ other. Word AndWord ∷ spell_condition other) xs ++ EndOfText ∷ [])
       ≡ Some (Whole (query_text selection table more (done ++ x ∷ xs)))
   conditions_run done x [] = refl
   conditions_run done x (y ∷ ys) =
-      ap (run step (InWhere selection table more (done ++ x ∷ []) WantsLeft)) (append_assoc (spell_condition y) _ (EndOfText ∷ []))
-      ∙ condition_run (done ++ x ∷ []) y _
+      ap (run step (InWhere selection table more (done ++ x ∷ []) (InMember WantsLeft))) (append_assoc (spell_condition y) _ (EndOfText ∷ []))
+      ∙ whole_run (done ++ x ∷ []) y _
       ∙ conditions_run (done ++ x ∷ []) y ys
       ∙ ap (λ all. Some (Whole (query_text selection table more all))) (append_assoc done (x ∷ []) _)
 
@@ -305,10 +471,10 @@ module _ (selection : Selection) (table : List ℕ) (more : List (List ℕ)) whe
   where_run [] =
       ap₂ (λ first others. Some (Whole (query_text selection first others []))) (first_back table more) (others_back table more)
   where_run (x ∷ xs) =
-      ap₂ (λ first others. run step (InWhere selection first others [] WantsLeft) (separated (Word AndWord) spell_condition x xs ++ EndOfText ∷ []))
+      ap₂ (λ first others. run step (InWhere selection first others [] (InMember WantsLeft)) (separated (Word AndWord) spell_condition x xs ++ EndOfText ∷ []))
       (first_back table more) (others_back table more)
-      ∙ ap (run step (InWhere selection table more [] WantsLeft)) (append_assoc (spell_condition x) _ (EndOfText ∷ []))
-      ∙ condition_run [] x _
+      ∙ ap (run step (InWhere selection table more [] (InMember WantsLeft))) (append_assoc (spell_condition x) _ (EndOfText ∷ []))
+      ∙ whole_run [] x _
       ∙ conditions_run [] x xs
 
 -- the places lead along the spelling of a tree to the end of its text
@@ -337,15 +503,37 @@ begun_tables_run selection done (x ∷ xs) rest =
     ∙ ap (λ d. run step (WantsTable selection d) rest) (append_assoc done (x ∷ []) xs)
 
 begun_conditions_run : (selection : Selection) (table : List ℕ) (more : List (List ℕ)) (done xs : List ConditionText) (rest : List Symbol)
-    → run step (InWhere selection table more done WantsLeft) (begun (Word AndWord) spell_condition xs ++ rest)
-    ≡ run step (InWhere selection table more (done ++ xs) WantsLeft) rest
+    → run step (InWhere selection table more done (InMember WantsLeft)) (begun (Word AndWord) spell_condition xs ++ rest)
+    ≡ run step (InWhere selection table more (done ++ xs) (InMember WantsLeft)) rest
 begun_conditions_run selection table more done [] rest =
-    ap (λ d. run step (InWhere selection table more d WantsLeft) rest) (sym (append-nil done))
+    ap (λ d. run step (InWhere selection table more d (InMember WantsLeft)) rest) (sym (append-nil done))
 begun_conditions_run selection table more done (x ∷ xs) rest =
-    ap (run step (InWhere selection table more done WantsLeft)) (begun_before (Word AndWord) spell_condition x xs rest)
-    ∙ condition_run selection table more done x _
+    ap (run step (InWhere selection table more done (InMember WantsLeft))) (begun_before (Word AndWord) spell_condition x xs rest)
+    ∙ whole_run selection table more done x _
     ∙ begun_conditions_run selection table more (done ++ x ∷ []) xs rest
-    ∙ ap (λ d. run step (InWhere selection table more d WantsLeft) rest) (append_assoc done (x ∷ []) xs)
+    ∙ ap (λ d. run step (InWhere selection table more d (InMember WantsLeft)) rest) (append_assoc done (x ∷ []) xs)
+
+begun_literals_run : (column : ColumnText) (done xs : List LiteralText) (rest : List Symbol)
+    → run read_member (GoesOn (WantsListed column done)) (begun Comma spell_literal xs ++ rest)
+    ≡ run read_member (GoesOn (WantsListed column (done ++ xs))) rest
+unfolding read_member
+begun_literals_run column done [] rest = ap (λ d. run read_member (GoesOn (WantsListed column d)) rest) (sym (append-nil done))
+begun_literals_run column done (x ∷ xs) rest =
+    ap (run read_member (GoesOn (WantsListed column done))) (begun_before Comma spell_literal x xs rest)
+    ∙ listed_run column done x _
+    ∙ begun_literals_run column (done ++ x ∷ []) xs rest
+    ∙ ap (λ d. run read_member (GoesOn (WantsListed column d)) rest) (append_assoc done (x ∷ []) xs)
+
+begun_members_run : (done xs : List MemberText) (rest : List Symbol)
+    → run read_condition (InGroup done WantsLeft) (begun (Word OrWord) spell_member xs ++ rest)
+    ≡ run read_condition (InGroup (done ++ xs) WantsLeft) rest
+unfolding read_condition
+begun_members_run done [] rest = ap (λ d. run read_condition (InGroup d WantsLeft) rest) (sym (append-nil done))
+begun_members_run done (x ∷ xs) rest =
+    ap (run read_condition (InGroup done WantsLeft)) (begun_before (Word OrWord) spell_member x xs rest)
+    ∙ grouped_run done x _
+    ∙ begun_members_run (done ++ x ∷ []) xs rest
+    ∙ ap (λ d. run read_condition (InGroup d WantsLeft) rest) (append_assoc done (x ∷ []) xs)
 
 column_reached : (earlier : List ColumnText) (part : ColumnPart)
     → run step (InSelect earlier WantsColumn) (in_column part) ≡ Some (InSelect earlier part)
@@ -354,62 +542,77 @@ column_reached earlier (HasTablePoint table) = refl
 column_reached earlier (HasColumn (Bare name)) = refl
 column_reached earlier (HasColumn (Qualified table name)) = refl
 
-sign_run : (selection : Selection) (table : List ℕ) (more : List (List ℕ)) (done : List ConditionText) (column : ColumnText)
-    (operator : Operator) (sign : Sign)
-    → run step (InWhere selection table more done (HasOperator column operator)) (spell_sign sign ∷ [])
-    ≡ Some (InWhere selection table more done (HasSign column operator sign))
-sign_run selection table more done column operator Positive = refl
-sign_run selection table more done column operator Negative = refl
+sign_run : (column : ColumnText) (operator : Operator) (sign : Sign)
+    → run read_member (GoesOn (HasOperator column operator)) (spell_sign sign ∷ []) ≡ Some (GoesOn (HasSign column operator sign))
+unfolding read_member
+sign_run column operator Positive = refl
+sign_run column operator Negative = refl
 
-not_run : (selection : Selection) (table : List ℕ) (more : List (List ℕ)) (done : List ConditionText) (column : ColumnText) (negated : Bool)
-    → run step (InWhere selection table more done (HasIs column false)) (spell_not negated)
-    ≡ Some (InWhere selection table more done (HasIs column negated))
-not_run selection table more done column false = refl
-not_run selection table more done column true = refl
+not_run : (column : ColumnText) (negated : Bool)
+    → run read_member (GoesOn (HasIs column false)) (spell_not negated) ≡ Some (GoesOn (HasIs column negated))
+unfolding read_member
+not_run column false = refl
+not_run column true = refl
 
-low_sign_run : (selection : Selection) (table : List ℕ) (more : List (List ℕ)) (done : List ConditionText) (column : ColumnText) (sign : Sign)
-    → run step (InWhere selection table more done (WantsLow column)) (spell_sign sign ∷ [])
-    ≡ Some (InWhere selection table more done (HasLowSign column sign))
-low_sign_run selection table more done column Positive = refl
-low_sign_run selection table more done column Negative = refl
+listed_sign_run : (column : ColumnText) (done : List LiteralText) (sign : Sign)
+    → run read_member (GoesOn (WantsListed column done)) (spell_sign sign ∷ []) ≡ Some (GoesOn (HasListedSign column done sign))
+unfolding read_member
+listed_sign_run column done Positive = refl
+listed_sign_run column done Negative = refl
 
-high_sign_run : (selection : Selection) (table : List ℕ) (more : List (List ℕ)) (done : List ConditionText) (column : ColumnText)
-    (low : LiteralText) (sign : Sign)
-    → run step (InWhere selection table more done (WantsHigh column low)) (spell_sign sign ∷ [])
-    ≡ Some (InWhere selection table more done (HasHighSign column low sign))
-high_sign_run selection table more done column low Positive = refl
-high_sign_run selection table more done column low Negative = refl
+member_reached : (part : MemberPart) → run read_member (GoesOn WantsLeft) (in_member part) ≡ Some (GoesOn part)
+unfolding read_member
+member_reached WantsLeft = refl
+member_reached (HasLeftPoint from) = refl
+member_reached (HasLeft column) =
+    ap (run read_member (GoesOn WantsLeft)) (sym (append-nil (spell_column column))) ∙ left_run column []
+member_reached (HasOperator column operator) = left_run column _ ∙ operator_run column operator []
+member_reached (HasSign column operator sign) =
+    left_run column _ ∙ operator_run column operator (spell_sign sign ∷ []) ∙ sign_run column operator sign
+member_reached (HasIs column negated) = left_run column _ ∙ not_run column negated
+member_reached (HasIn column) = left_run column _
+member_reached (WantsListed column earlier) =
+    left_run column _
+    ∙ ap (run read_member (GoesOn (WantsListed column []))) (sym (append-nil (begun Comma spell_literal earlier)))
+    ∙ begun_literals_run column [] earlier []
+member_reached (HasListedSign column earlier sign) =
+    left_run column _ ∙ begun_literals_run column [] earlier (spell_sign sign ∷ []) ∙ listed_sign_run column earlier sign
+member_reached (HasListed column earlier last) =
+    left_run column _ ∙ begun_literals_run column [] earlier (spell_literal last)
+    ∙ ap (run read_member (GoesOn (WantsListed column earlier))) (sym (append-nil (spell_literal last)))
+    ∙ listed_run column earlier last []
 
-condition_reached : (selection : Selection) (table : List ℕ) (more : List (List ℕ)) (done : List ConditionText) (part : ConditionPart)
-    → run step (InWhere selection table more done WantsLeft) (in_condition part) ≡ Some (InWhere selection table more done part)
-condition_reached selection table more done WantsLeft = refl
-condition_reached selection table more done (HasLeftPoint from) = refl
-condition_reached selection table more done (HasLeft column) =
-    ap (run step (InWhere selection table more done WantsLeft)) (sym (append-nil (spell_column column)))
-    ∙ left_run selection table more done column []
-condition_reached selection table more done (HasOperator column operator) =
-    left_run selection table more done column _ ∙ operator_run selection table more done column operator []
-condition_reached selection table more done (HasSign column operator sign) =
-    left_run selection table more done column _ ∙ operator_run selection table more done column operator (spell_sign sign ∷ [])
-    ∙ sign_run selection table more done column operator sign
-condition_reached selection table more done (HasRightPoint column from) = left_run selection table more done column _
-condition_reached selection table more done (HasIs column negated) =
-    left_run selection table more done column _ ∙ not_run selection table more done column negated
-condition_reached selection table more done (WantsLow column) = left_run selection table more done column _
-condition_reached selection table more done (HasLowSign column sign) =
-    left_run selection table more done column _ ∙ low_sign_run selection table more done column sign
-condition_reached selection table more done (HasLow column low) =
-    left_run selection table more done column _
-    ∙ ap (run step (InWhere selection table more done (WantsLow column))) (sym (append-nil (spell_literal low)))
-    ∙ low_run selection table more done column low []
-condition_reached selection table more done (WantsHigh column low) =
-    left_run selection table more done column _ ∙ low_run selection table more done column low _
-condition_reached selection table more done (HasHighSign column low sign) =
-    left_run selection table more done column _ ∙ low_run selection table more done column low _
-    ∙ high_sign_run selection table more done column low sign
-condition_reached selection table more done (HasCondition condition) =
-    ap (run step (InWhere selection table more done WantsLeft)) (sym (append-nil (spell_condition condition)))
-    ∙ condition_run selection table more done condition []
+low_sign_run : (column : ColumnText) (sign : Sign)
+    → run read_condition (WantsLow column) (spell_sign sign ∷ []) ≡ Some (HasLowSign column sign)
+unfolding read_condition
+low_sign_run column Positive = refl
+low_sign_run column Negative = refl
+
+high_sign_run : (column : ColumnText) (low : LiteralText) (sign : Sign)
+    → run read_condition (WantsHigh column low) (spell_sign sign ∷ []) ≡ Some (HasHighSign column low sign)
+unfolding read_condition
+high_sign_run column low Positive = refl
+high_sign_run column low Negative = refl
+
+condition_reached : (part : ConditionPart) → run read_condition (InMember WantsLeft) (in_condition part) ≡ Some part
+unfolding read_condition in_place
+condition_reached (InMember part) = in_place_run None (GoesOn WantsLeft) (GoesOn part) (in_member part) (member_reached part)
+condition_reached (InGroup earlier part) =
+    begun_members_run [] earlier (in_member part)
+    ∙ in_place_run (Some earlier) (GoesOn WantsLeft) (GoesOn part) (in_member part) (member_reached part)
+condition_reached (HasGrouped earlier member) =
+    begun_members_run [] earlier (spell_member member)
+    ∙ in_place_run (Some earlier) (GoesOn WantsLeft) (IsWhole member) (spell_member member) (member_run member)
+condition_reached (HasRightPoint column from) = begins_run column _
+condition_reached (WantsLow column) = begins_run column _
+condition_reached (HasLowSign column sign) = begins_run column _ ∙ low_sign_run column sign
+condition_reached (HasLow column low) =
+    begins_run column _
+    ∙ ap (run read_condition (WantsLow column)) (sym (append-nil (spell_literal low)))
+    ∙ low_run column low []
+condition_reached (WantsHigh column low) = begins_run column _ ∙ low_run column low _
+condition_reached (HasHighSign column low sign) = begins_run column _ ∙ low_run column low _ ∙ high_sign_run column low sign
+condition_reached (HasCondition condition) = condition_run condition
 
 reached : (place : QueryPlace) → run step Start (before place) ≡ Some place
 unfolding with_tables
@@ -424,10 +627,10 @@ reached (HasTable selection earlier table) = selection_run selection _ ∙ begun
 reached (InWhere selection table more earlier part) =
     selection_run selection _
     ∙ tables_run selection [] table more _
-    ∙ ap₂ (λ first others. run step (InWhere selection first others [] WantsLeft) (begun (Word AndWord) spell_condition earlier ++ in_condition part))
+    ∙ ap₂ (λ first others. run step (InWhere selection first others [] (InMember WantsLeft)) (begun (Word AndWord) spell_condition earlier ++ in_condition part))
     (first_back table more) (others_back table more)
     ∙ begun_conditions_run selection table more [] earlier (in_condition part)
-    ∙ condition_reached selection table more earlier part
+    ∙ inside_run selection table more earlier (InMember WantsLeft) part (in_condition part) (condition_reached part)
 reached (Whole tree) = leads tree
 
 -- a way to a whole text from a place, by symbols that bytes can spell
@@ -443,15 +646,83 @@ a = 97 ∷ []
 nought : List ℕ
 nought = 48 ∷ []
 
+-- inside a member: the symbols that are left, and the member that they make
+member_ending : MemberPart → List Symbol
+member_ending WantsLeft = Name a ∷ EqualSign ∷ Digits nought ∷ []
+member_ending (HasLeftPoint table) = Name a ∷ EqualSign ∷ Digits nought ∷ []
+member_ending (HasLeft column) = EqualSign ∷ Digits nought ∷ []
+member_ending (HasOperator column operator) = Digits nought ∷ []
+member_ending (HasSign column operator sign) = Digits nought ∷ []
+member_ending (HasIs column negated) = Word NullWord ∷ []
+member_ending (HasIn column) = Open ∷ Digits nought ∷ Closing ∷ []
+member_ending (WantsListed column earlier) = Digits nought ∷ Closing ∷ []
+member_ending (HasListedSign column earlier sign) = Digits nought ∷ Closing ∷ []
+member_ending (HasListed column earlier last) = Closing ∷ []
+
+member_ended : MemberPart → MemberText
+member_ended WantsLeft = Compares (Bare a) query.Equal (Unsigned nought)
+member_ended (HasLeftPoint table) = Compares (Qualified table a) query.Equal (Unsigned nought)
+member_ended (HasLeft column) = Compares column query.Equal (Unsigned nought)
+member_ended (HasOperator column operator) = Compares column operator (Unsigned nought)
+member_ended (HasSign column operator sign) = Compares column operator (Signed sign nought)
+member_ended (HasIs column negated) = TestsNull column negated
+member_ended (HasIn column) = IsIn column (Unsigned nought) []
+member_ended (WantsListed column earlier) = IsIn column (first_item earlier (Unsigned nought)) (other_items earlier (Unsigned nought))
+member_ended (HasListedSign column earlier sign) = IsIn column (first_item earlier (Signed sign nought)) (other_items earlier (Signed sign nought))
+member_ended (HasListed column earlier last) = IsIn column (first_item earlier last) (other_items earlier last)
+
+member_ending_spelled : (part : MemberPart) → list_all is_spelled (member_ending part) ≡ true
+unfolding member_ending a nought is_name
+member_ending_spelled WantsLeft = refl
+member_ending_spelled (HasLeftPoint table) = refl
+member_ending_spelled (HasLeft column) = refl
+member_ending_spelled (HasOperator column operator) = refl
+member_ending_spelled (HasSign column operator sign) = refl
+member_ending_spelled (HasIs column negated) = refl
+member_ending_spelled (HasIn column) = refl
+member_ending_spelled (WantsListed column earlier) = refl
+member_ending_spelled (HasListedSign column earlier sign) = refl
+member_ending_spelled (HasListed column earlier last) = refl
+
+member_ending_run : (part : MemberPart) → run read_member (GoesOn part) (member_ending part) ≡ Some (IsWhole (member_ended part))
+unfolding member_ending member_ended read_member
+member_ending_run WantsLeft = refl
+member_ending_run (HasLeftPoint table) = refl
+member_ending_run (HasLeft column) = refl
+member_ending_run (HasOperator column operator) = refl
+member_ending_run (HasSign column operator sign) = refl
+member_ending_run (HasIs column negated) = refl
+member_ending_run (HasIn column) = refl
+member_ending_run (WantsListed column earlier) = refl
+member_ending_run (HasListedSign column earlier sign) = refl
+member_ending_run (HasListed column earlier last) = refl
+
+-- behind a member of a group, of which there may be none before
+group_ending : List MemberText → List Symbol
+group_ending [] = Word OrWord ∷ Name a ∷ EqualSign ∷ Digits nought ∷ Closing ∷ []
+group_ending (first ∷ earlier) = Closing ∷ []
+
+group_ended : List MemberText → MemberText → ConditionText
+group_ended [] member = AnyOf member (Compares (Bare a) query.Equal (Unsigned nought)) []
+group_ended (first ∷ earlier) member = AnyOf first (first_item earlier member) (other_items earlier member)
+
+group_ending_spelled : (earlier : List MemberText) → list_all is_spelled (group_ending earlier) ≡ true
+unfolding group_ending a nought is_name
+group_ending_spelled [] = refl
+group_ending_spelled (first ∷ earlier) = refl
+
+group_ending_run : (earlier : List MemberText) (member : MemberText)
+    → run read_condition (HasGrouped earlier member) (group_ending earlier) ≡ Some (HasCondition (group_ended earlier member))
+unfolding group_ending group_ended read_condition
+group_ending_run [] member = refl
+group_ending_run (first ∷ earlier) member = refl
+
 -- inside a condition: the symbols that are left, and the condition that they make
 ending : ConditionPart → List Symbol
-ending WantsLeft = Name a ∷ EqualSign ∷ Name a ∷ []
-ending (HasLeftPoint table) = Name a ∷ EqualSign ∷ Name a ∷ []
-ending (HasLeft column) = EqualSign ∷ Name a ∷ []
-ending (HasOperator column operator) = Digits nought ∷ []
-ending (HasSign column operator sign) = Digits nought ∷ []
+ending (InMember part) = member_ending part
+ending (InGroup earlier part) = member_ending part ++ group_ending earlier
+ending (HasGrouped earlier member) = group_ending earlier
 ending (HasRightPoint left table) = Name a ∷ []
-ending (HasIs column negated) = Word NullWord ∷ []
 ending (WantsLow column) = Digits nought ∷ Word AndWord ∷ Digits nought ∷ []
 ending (HasLowSign column sign) = Digits nought ∷ Word AndWord ∷ Digits nought ∷ []
 ending (HasLow column low) = Word AndWord ∷ Digits nought ∷ []
@@ -460,13 +731,10 @@ ending (HasHighSign column low sign) = Digits nought ∷ []
 ending (HasCondition condition) = []
 
 ended : ConditionPart → ConditionText
-ended WantsLeft = Joins (Bare a) (Bare a)
-ended (HasLeftPoint table) = Joins (Qualified table a) (Bare a)
-ended (HasLeft column) = Joins column (Bare a)
-ended (HasOperator column operator) = Compares column operator (Unsigned nought)
-ended (HasSign column operator sign) = Compares column operator (Signed sign nought)
+ended (InMember part) = Alone (member_ended part)
+ended (InGroup earlier part) = group_ended earlier (member_ended part)
+ended (HasGrouped earlier member) = group_ended earlier member
 ended (HasRightPoint left table) = Joins left (Qualified table a)
-ended (HasIs column negated) = TestsNull column negated
 ended (WantsLow column) = LiesBetween column (Unsigned nought) (Unsigned nought)
 ended (HasLowSign column sign) = LiesBetween column (Signed sign nought) (Unsigned nought)
 ended (HasLow column low) = LiesBetween column low (Unsigned nought)
@@ -476,13 +744,11 @@ ended (HasCondition condition) = condition
 
 ending_spelled : (part : ConditionPart) → list_all is_spelled (ending part) ≡ true
 unfolding ending a nought is_name
-ending_spelled WantsLeft = refl
-ending_spelled (HasLeftPoint table) = refl
-ending_spelled (HasLeft column) = refl
-ending_spelled (HasOperator column operator) = refl
-ending_spelled (HasSign column operator sign) = refl
+ending_spelled (InMember part) = member_ending_spelled part
+ending_spelled (InGroup earlier part) =
+    spelled_both (member_ending part) (group_ending earlier) (member_ending_spelled part) (group_ending_spelled earlier)
+ending_spelled (HasGrouped earlier member) = group_ending_spelled earlier
 ending_spelled (HasRightPoint left table) = refl
-ending_spelled (HasIs column negated) = refl
 ending_spelled (WantsLow column) = refl
 ending_spelled (HasLowSign column sign) = refl
 ending_spelled (HasLow column low) = refl
@@ -490,23 +756,30 @@ ending_spelled (WantsHigh column low) = refl
 ending_spelled (HasHighSign column low sign) = refl
 ending_spelled (HasCondition condition) = refl
 
-ending_run : (selection : Selection) (table : List ℕ) (more : List (List ℕ)) (earlier : List ConditionText) (part : ConditionPart)
+ending_run : (part : ConditionPart) → run read_condition part (ending part) ≡ Some (HasCondition (ended part))
+unfolding ending ended in_place read_condition
+ending_run (InMember part) =
+    in_place_run None (GoesOn part) (IsWhole (member_ended part)) (member_ending part) (member_ending_run part)
+ending_run (InGroup earlier part) =
+    run_on read_condition (InGroup earlier part) (HasGrouped earlier (member_ended part)) (member_ending part) (group_ending earlier)
+    (in_place_run (Some earlier) (GoesOn part) (IsWhole (member_ended part)) (member_ending part) (member_ending_run part))
+    ∙ group_ending_run earlier (member_ended part)
+ending_run (HasGrouped earlier member) = group_ending_run earlier member
+ending_run (HasRightPoint left from) = refl
+ending_run (WantsLow column) = refl
+ending_run (HasLowSign column sign) = refl
+ending_run (HasLow column low) = refl
+ending_run (WantsHigh column low) = refl
+ending_run (HasHighSign column low sign) = refl
+ending_run (HasCondition condition) = refl
+
+text_ending_run : (selection : Selection) (table : List ℕ) (more : List (List ℕ)) (earlier : List ConditionText) (part : ConditionPart)
     → run step (InWhere selection table more earlier part) (ending part ++ EndOfText ∷ [])
     ≡ Some (Whole (query_text selection table more (earlier ++ ended part ∷ [])))
-unfolding ending ended
-ending_run selection table more earlier WantsLeft = refl
-ending_run selection table more earlier (HasLeftPoint from) = refl
-ending_run selection table more earlier (HasLeft column) = refl
-ending_run selection table more earlier (HasOperator column operator) = refl
-ending_run selection table more earlier (HasSign column operator sign) = refl
-ending_run selection table more earlier (HasRightPoint left from) = refl
-ending_run selection table more earlier (HasIs column negated) = refl
-ending_run selection table more earlier (WantsLow column) = refl
-ending_run selection table more earlier (HasLowSign column sign) = refl
-ending_run selection table more earlier (HasLow column low) = refl
-ending_run selection table more earlier (WantsHigh column low) = refl
-ending_run selection table more earlier (HasHighSign column low sign) = refl
-ending_run selection table more earlier (HasCondition condition) = refl
+text_ending_run selection table more earlier part =
+    run_on step (InWhere selection table more earlier part) (InWhere selection table more earlier (HasCondition (ended part)))
+    (ending part) (EndOfText ∷ [])
+    (inside_run selection table more earlier part (HasCondition (ended part)) (ending part) (ending_run part))
 
 completes : (place : QueryPlace) → ((tree : QueryText) → place ≡ Whole tree → ⊥) → Completes place
 unfolding a is_name
@@ -551,7 +824,7 @@ completes (InWhere selection table more earlier part) unwhole = record {
   rest = ending part;
   spelled = ending_spelled part;
   tree = query_text selection table more (earlier ++ ended part ∷ []);
-  ends = ending_run selection table more earlier part;
+  ends = text_ending_run selection table more earlier part;
 }
 completes (Whole tree) unwhole = absurd (unwhole tree refl)
 
@@ -739,33 +1012,3 @@ fault_stuck text at fault = elim (read_stop Start (tokens text) at (fault_stop t
   }
   | inr out ↦ absurd (never_runs_out text at out)
 ]
-
--- the conditions that a tree means
-lone_mapped : {X : Type 0} (f : X → Condition) (xs : List X) → ((x : X) → is_lone (f x) ≡ true) → list_all is_lone (map f xs) ≡ true
-lone_mapped f [] h = refl
-lone_mapped f (x ∷ xs) h = hold_both (is_lone (f x)) (list_all is_lone (map f xs)) (h x) (lone_mapped f xs h)
-
-lone_flat : {X : Type 0} (f : X → List Condition) (xs : List X) → ((x : X) → list_all is_lone (f x) ≡ true) → list_all is_lone (flat_map f xs) ≡ true
-lone_flat f [] h = refl
-lone_flat f (x ∷ xs) h =
-    list_all-append is_lone (f x) (flat_map f xs)
-    ∙ hold_both (list_all is_lone (f x)) (list_all is_lone (flat_map f xs)) (h x) (lone_flat f xs h)
-
-lone_conditions : (schema : Schema) (from : List ℕ) (condition : ConditionText) → list_all is_lone (conditions_of schema from condition) ≡ true
-lone_conditions schema from (Compares column operator literal) =
-    lone_mapped (λ meant. compared meant operator (value_of_literal literal)) (meanings schema from column) (λ meant. refl)
-lone_conditions schema from (TestsNull column negated) =
-    lone_mapped (λ meant. OneOf (tested meant (null_test negated)) []) (meanings schema from column) (λ meant. refl)
-lone_conditions schema from (LiesBetween column low high) =
-    lone_flat (λ meant. compared meant AtLeast (value_of_literal low) ∷ compared meant AtMost (value_of_literal high) ∷ [])
-    (meanings schema from column) (λ meant. refl)
-lone_conditions schema from (Joins left right) =
-    lone_flat (λ meant. map (Join meant) (meanings schema from right)) (meanings schema from left)
-    (λ meant. lone_mapped (Join meant) (meanings schema from right) (λ other. refl))
-
-pub tree_is_lone : (schema : Schema) (tree : QueryText) → list_all is_lone (resolved schema tree).conditions ≡ true
-tree_is_lone schema tree = lone_flat (conditions_of schema (from_tables schema tree)) tree.conditions (lone_conditions schema (from_tables schema tree))
-
-pub accepted_are_lone : AcceptedQueriesAreLone
-accepted_are_lone schema text asked means =
-    ap (λ (q : query.Query). list_all is_lone q.conditions) means.means ∙ tree_is_lone schema means.tree

@@ -1,12 +1,13 @@
 -- That each query text has one meaning or one refusal, and that the reading tells it: the first rule that the tree of
 -- the text breaks decides.
-use Rattle.std.proofs.Common.{◌≡◌, ℕ, false, List, Option, Some, None, Result, Ok, Err, ◌⊎◌, inl, inr, refl, sym, ap, subst, ◌∙◌}
+use Rattle.std.proofs.Common.{◌≡◌, ℕ, Bool, true, false, not, List, Option, Some, None, Result, Ok, Err, ◌⊎◌, inl, inr, refl, sym, ap, subst, ◌∙◌}
+use Rattle.std.specs.List.{list_all}
 use Rattle.ghost_model.specs.core.Schema.{Schema}
 use Rattle.ghost_model.specs.core.Query.{Query}
 use Rattle.ghost_model.specs.refusals.QueryGrammar.{QueryText}
 use Rattle.ghost_model.specs.readings.QueryPlaces.{syntax_of}
 use Rattle.ghost_model.specs.refusals.Rules.{first_broken, MeetsAll, BreaksFirst}
-use Rattle.ghost_model.specs.refusals.QueryMeaning.{Refusal, Syntax, Limit, UnknownTable, UnknownColumn, Ambiguous, KindMismatch, BadLiteral, NotLinked, is_over_limit, has_unknown_table, has_unknown_column, is_ambiguous, is_unlinked, rules_of_queries, resolved, Means, BreaksRule, IsRefused}
+use Rattle.ghost_model.specs.refusals.QueryMeaning.{Refusal, Syntax, Limit, UnknownTable, UnknownColumn, Ambiguous, KindMismatch, BadLiteral, NotLinked, MixedTables, is_over_limit, has_unknown_table, has_unknown_column, is_ambiguous, is_unlinked, is_of_one_table, rules_of_queries, resolved, Means, BreaksRule, IsRefused}
 use Rattle.ghost_model.specs.laws.ShortWords.{has_kind_mismatch, has_bad_literal}
 use Rattle.ghost_model.specs.readings.QueryReading.{query_unless, judged, reading}
 use Rattle.ghost_model.specs.laws.QueryLaws.{HasOneMeaning, HasOneRefusal}
@@ -22,6 +23,11 @@ pub record KeptRules (schema : Schema) (text : List ℕ) (tree : QueryText) : Ty
   pub kinds : has_kind_mismatch schema tree ≡ false
   pub literals : has_bad_literal schema tree ≡ false
   pub linked : is_unlinked schema (resolved schema tree) ≡ false
+  pub of_one_table : list_all is_of_one_table (resolved schema tree).conditions ≡ true
+
+not_false : (b : Bool) → not b ≡ false → b ≡ true
+not_false true e = refl
+not_false false e = absurd (cc)
 
 pub kept_rules : (schema : Schema) (text : List ℕ) (tree : QueryText) → MeetsAll (rules_of_queries schema text tree) → KeptRules schema text tree
 kept_rules schema text tree e =
@@ -32,7 +38,17 @@ kept_rules schema text tree e =
     let f = kept_and (has_kind_mismatch schema tree) KindMismatch _ d.1 in
     let g = kept_and (has_bad_literal schema tree) BadLiteral _ f.1 in
     let h = kept_and (is_unlinked schema (resolved schema tree)) NotLinked _ g.1 in
-    record { limits = a.0; tables = b.0; columns = c.0; one_meaning = d.0; kinds = f.0; literals = g.0; linked = h.0 }
+    let i = kept_and (not (list_all is_of_one_table (resolved schema tree).conditions)) MixedTables _ h.1 in
+    record {
+      limits = a.0;
+      tables = b.0;
+      columns = c.0;
+      one_meaning = d.0;
+      kinds = f.0;
+      literals = g.0;
+      linked = h.0;
+      of_one_table = not_false _ i.0;
+    }
 
 -- no rule is the one of the grammar
 no_syntax : (schema : Schema) (text : List ℕ) (tree : QueryText) (at : ℕ) → BreaksFirst (rules_of_queries schema text tree) (Syntax at) → ⊥
@@ -43,7 +59,8 @@ no_syntax schema text tree at =
     (other_if (is_ambiguous schema tree) Ambiguous (Syntax at) _ (λ e. absurd (cc))
     (other_if (has_kind_mismatch schema tree) KindMismatch (Syntax at) _ (λ e. absurd (cc))
     (other_if (has_bad_literal schema tree) BadLiteral (Syntax at) _ (λ e. absurd (cc))
-    (other_if (is_unlinked schema (resolved schema tree)) NotLinked (Syntax at) None (λ e. absurd (cc)) (λ e. absurd (cc))))))))
+    (other_if (is_unlinked schema (resolved schema tree)) NotLinked (Syntax at) _ (λ e. absurd (cc))
+    (other_if (not (list_all is_of_one_table (resolved schema tree).conditions)) MixedTables (Syntax at) None (λ e. absurd (cc)) (λ e. absurd (cc)))))))))
 
 module _ (schema : Schema) (text : List ℕ) where
   by_rule : (refusal : Refusal) → BreaksRule schema text refusal → IsRefused schema text refusal
@@ -96,6 +113,7 @@ module _ (schema : Schema) (text : List ℕ) where
   reading_of_refused KindMismatch b = reading_of_rule KindMismatch b
   reading_of_refused BadLiteral b = reading_of_rule BadLiteral b
   reading_of_refused NotLinked b = reading_of_rule NotLinked b
+  reading_of_refused MixedTables b = reading_of_rule MixedTables b
 
   pub one_or_other : HasOneMeaning schema text ⊎ HasOneRefusal schema text
   one_or_other = elim (reading schema text) as (λ r. reading schema text ≡ r → HasOneMeaning schema text ⊎ HasOneRefusal schema text) [

@@ -10,7 +10,7 @@ use Rattle.std.proofs.lemmas.Slice.Eq.{bytes_eq-Decides}
 use Rattle.std.specs.Option.{option_map_or}
 use Rattle.std.specs.Char.{to_ascii_lowercase}
 use Rattle.std.proofs.lemmas.Bool.Decides.{nat_tests}
-use Rattle.ghost_model.specs.refusals.Tokens.{Keyword, AndWord, BetweenWord, CharWord, CreateWord, FromWord, HiddenWord, IntegerWord, IsWord, NotWord, NullWord, PrimaryKeyWord, PrimaryWord, ReferencesWord, SelectWord, TableWord, WhereWord, Symbol, Word, Reserved, Name, Digits, Quoted, Open, Closing, Comma, Point, Semicolon, Star, PlusSign, MinusSign, EqualSign, UnequalSign, LessSign, AtMostSign, MoreSign, AtLeastSign, NoToken, EndOfText, keyword_of, other_reserved, symbol_of, symbols, tokens_from, quoted_from, token_at, word_at, digits_at, in_lower_case, symbol_of_word, is_space, is_digit, begins_name, is_name_byte, is_printable, sign_of, less_and, more_and, read, Read}
+use Rattle.ghost_model.specs.refusals.Tokens.{Keyword, AndWord, BetweenWord, CharWord, CreateWord, FromWord, HiddenWord, InWord, IntegerWord, IsWord, NotWord, NullWord, OrWord, PrimaryKeyWord, PrimaryWord, ReferencesWord, SelectWord, TableWord, WhereWord, Symbol, Word, Reserved, Name, Digits, Quoted, Open, Closing, Comma, Point, Semicolon, Star, PlusSign, MinusSign, EqualSign, UnequalSign, LessSign, AtMostSign, MoreSign, AtLeastSign, NoToken, EndOfText, keyword_of, other_reserved, symbol_of, symbols, tokens_from, quoted_from, token_at, word_at, digits_at, in_lower_case, symbol_of_word, is_space, is_digit, begins_name, is_name_byte, is_printable, sign_of, less_and, more_and, read, Read}
 use Rattle.ghost_model.specs.laws.Spelled.{is_reserved, begins_as_name, is_name, is_spelled, symbol_text, keyword_text, inside_literal, text_of, IsBeforeEnd}
 
 -- the symbols of a text whose first `left` bytes belong to a token before; the offset of the text does not matter
@@ -164,10 +164,12 @@ keyword_reads CharWord rest = token_before_space 99 (codes "har") rest (Word Cha
 keyword_reads CreateWord rest = token_before_space 99 (codes "reate") rest (Word CreateWord) refl refl
 keyword_reads FromWord rest = token_before_space 102 (codes "rom") rest (Word FromWord) refl refl
 keyword_reads HiddenWord rest = token_before_space 104 (codes "idden") rest (Word HiddenWord) refl refl
+keyword_reads InWord rest = token_before_space 105 (codes "n") rest (Word InWord) refl refl
 keyword_reads IntegerWord rest = token_before_space 105 (codes "nteger") rest (Word IntegerWord) refl refl
 keyword_reads IsWord rest = token_before_space 105 (codes "s") rest (Word IsWord) refl refl
 keyword_reads NotWord rest = token_before_space 110 (codes "ot") rest (Word NotWord) refl refl
 keyword_reads NullWord rest = token_before_space 110 (codes "ull") rest (Word NullWord) refl refl
+keyword_reads OrWord rest = token_before_space 111 (codes "r") rest (Word OrWord) refl refl
 keyword_reads PrimaryKeyWord rest = token_before_space 107 (codes "ey") rest (Word PrimaryKeyWord) refl refl
 keyword_reads PrimaryWord rest = token_before_space 112 (codes "rimary") rest (Word PrimaryWord) refl refl
 keyword_reads ReferencesWord rest = token_before_space 114 (codes "eferences") rest (Word ReferencesWord) refl refl

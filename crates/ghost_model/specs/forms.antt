@@ -7,4 +7,5 @@ pub mod Layout
 pub mod Slots
 pub mod Flash
 pub mod Work
+pub mod Left
 pub mod QueryWork

@@ -3,7 +3,7 @@
 ghost use Rattle.ghost_model.specs.laws.MeaningLaws.{RowsLeadToRows, FilesSpellADatabase, FilesKeepTheRowLimit, LongFilesAreToldFirst, SplitIsRejoined, PublicPartsGoWithCatalogs, ImagesAreAsLong, OneRowEach};
 ghost use Rattle.ghost_model.specs.laws.SplitByFlags.{PartsByFlags};
 ghost use Rattle.ghost_model.specs.examples.Databases.{ClinicIsSpelled, NullIsSpelled, IntegersOfFields, ValuesOfFields, ComparisonsWithNull, RecordsOfFiles, HeadersOfFiles, OneRuleBroken, TwoRulesBroken, PartsOfRows, NoShorterImage};
-ghost use Rattle.ghost_model.specs.examples.Meaning.{PartsOfTheClinic, AnswersOfTheClinic, RefusedTexts, LinesOfRows};
+ghost use Rattle.ghost_model.specs.examples.Meaning.{PartsOfTheClinic, AnswersOfTheClinic, AnswersOfGroups, RefusedTexts, LinesOfRows};
 
 /// The clinic's files spell its database.
 pub fn clinic_is_spelled()
@@ -83,6 +83,11 @@ pub fn parts_of_the_clinic()
 /// What texts over the clinic and over the notes print.
 pub fn answers_of_the_clinic()
     ensures { AnswersOfTheClinic }
+{}
+
+/// What texts with groups of conditions and with tests of NULL print.
+pub fn answers_of_groups()
+    ensures { AnswersOfGroups }
 {}
 
 /// What refused texts print.

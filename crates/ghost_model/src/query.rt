@@ -1,7 +1,7 @@
 //! Laws and examples of query texts.
 
-ghost use Rattle.ghost_model.specs.laws.QueryLaws.{QueryPlacesAreExact, OneReading, AcceptedQueriesAreLone};
-ghost use Rattle.ghost_model.specs.examples.Queries.{ClinicQueries, LimitsOfQueries, OneRefusalEach, QueryRulesInOrder, QuerySpellings, QuerySyntaxFaults, RelationsOfQueries, TestsOfNull};
+ghost use Rattle.ghost_model.specs.laws.QueryLaws.{QueryPlacesAreExact, OneReading};
+ghost use Rattle.ghost_model.specs.examples.Queries.{ClinicQueries, FaultsOfGroups, GroupsOfTexts, LimitsOfQueries, OneRefusalEach, QueryRulesInOrder, QuerySpellings, QuerySyntaxFaults, RelationsOfQueries, TestsOfNull};
 
 /// Following the places of the grammar tells exactly the trees of texts, and exactly their syntax faults.
 pub fn query_places_are_exact()
@@ -13,12 +13,7 @@ pub fn one_reading()
     ensures { OneReading }
 {}
 
-/// What stands for now: a group of an accepted text has one member.
-pub fn accepted_queries_are_lone()
-    ensures { AcceptedQueriesAreLone }
-{}
-
-/// A script of six texts, one refused by each of six rules.
+/// Eight texts, one refused by the grammar and one by each rule but the limits.
 pub fn one_refusal_each()
     ensures { OneRefusalEach }
 {}
@@ -41,6 +36,16 @@ pub fn query_spellings()
 /// What the tests of NULL mean, and where the words may not stand.
 pub fn tests_of_null()
     ensures { TestsOfNull }
+{}
+
+/// What IN and OR mean, and what their limits count.
+pub fn groups_of_texts()
+    ensures { GroupsOfTexts }
+{}
+
+/// Where the syntax faults of IN and OR stand.
+pub fn faults_of_groups()
+    ensures { FaultsOfGroups }
 {}
 
 /// Where the syntax faults of texts stand.

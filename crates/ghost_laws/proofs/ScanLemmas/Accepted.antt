@@ -4,8 +4,8 @@ use Rattle.std.specs.Prelude.{option_to_list}
 use Rattle.std.specs.List.{list_all, list_any}
 use Rattle.ghost_model.specs.core.Schema.{Schema, is_table}
 use Rattle.ghost_model.specs.core.Query.{Query, Field, Member, Condition, OneOf, Join, compared, AtMost, AtLeast, top_of, tested}
-use Rattle.ghost_model.specs.refusals.QueryGrammar.{ColumnText, Bare, Qualified, ConditionText, Compares, TestsNull, LiesBetween, Joins}
-use Rattle.ghost_model.specs.refusals.QueryMeaning.{field, value_of_literal, table_named, fields_named, meanings, conditions_of, resolved, is_reference_to, is_proper, lacks_join, Means, null_test}
+use Rattle.ghost_model.specs.refusals.QueryGrammar.{ColumnText, Bare, Qualified, MemberText, ConditionText, Alone, AnyOf, LiesBetween, Joins}
+use Rattle.ghost_model.specs.refusals.QueryMeaning.{field, value_of_literal, table_named, fields_named, meanings, tests_of_member, member_column, members_meant, group_of, conditions_of, resolved, is_reference_to, is_proper, lacks_join, Means}
 use Rattle.ghost_model.specs.laws.ShortWords.{column_named}
 use Rattle.ghost_model.proofs.QueryReadingLemmas.{kept_rules}
 use Rattle.ghost_model.proofs.MeaningLemmas.OneRow.{Among, from_filter, from_map, either_true, neither_true, both_true}
@@ -31,6 +31,10 @@ module _ (schema : Schema) (from : List ℕ) where
       let r = from_flat (fields_named schema name) one (filter (λ other. is_table other (table_named schema table)) from) a in
       named_from r.0 (column_named schema r.0 name) one (from_filter (λ other. is_table other (table_named schema table)) r.0 from r.1).0 r.2
 
+pub each_with : {X : Type 0} (P : X → Type 0) (xs : List X) → ((x : X) → Among x xs → P x) → Each P xs
+each_with P [] h = tt
+each_with P (x ∷ xs) h = (h x (inl refl), each_with P xs (λ y a. h y (inr a)))
+
 -- it holds of each column of a condition
 abbrev pub With : (Field → Type 0) → Condition → Type 0
 With P (OneOf first others) = Each (λ (one : Member). P one.field) (first ∷ others)
@@ -43,13 +47,24 @@ module _ (schema : Schema) (from : List ℕ) (P : Field → Type 0) (meant : (co
       let r = from_flat f c (meanings schema from column) a in
       each r.0 c (meant column r.0 r.1) r.2
 
+  group_with : (members : List Member) → ((one : Member) → Among one members → P one.field) → (c : Condition) → Among c (group_of members) → With P c
+  group_with [] h c a = absurd a
+  group_with (first ∷ others) h c (inl same) =
+      subst (With P) same (each_with (λ (one : Member). P one.field) (first ∷ others) h)
+  group_with (first ∷ others) h c (inr none) = absurd none
+
+  member_with : (text : MemberText) (one : Member) → Among one (members_meant schema from text) → P one.field
+  member_with text one a =
+      let column = member_column text in
+      let r = from_flat (λ found. map (tested found) (tests_of_member text)) one (meanings schema from column) a in
+      let q = from_map (tested r.0) one (tests_of_member text) r.2 in
+      subst (λ (it : Member). P it.field) q.2 (meant column r.0 r.1)
+
   condition_with : (text : ConditionText) (c : Condition) → Among c (conditions_of schema from text) → With P c
-  condition_with (Compares column operator literal) c a =
-      let r = from_map (λ one. compared one operator (value_of_literal literal)) c (meanings schema from column) a in
-      subst (With P) r.2 (meant column r.0 r.1, tt)
-  condition_with (TestsNull column negated) c a =
-      let r = from_map (λ one. OneOf (tested one (null_test negated)) []) c (meanings schema from column) a in
-      subst (With P) r.2 (meant column r.0 r.1, tt)
+  condition_with (Alone member) c a = group_with (members_meant schema from member) (member_with member) c a
+  condition_with (AnyOf first second others) c a =
+      group_with (flat_map (members_meant schema from) (first ∷ second ∷ others))
+      (λ one b. (let r = from_flat (members_meant schema from) one (first ∷ second ∷ others) b in member_with r.0 one r.2)) c a
   condition_with (LiesBetween column low high) c a =
       compared_with column (λ one. compared one AtLeast (value_of_literal low) ∷ compared one AtMost (value_of_literal high) ∷ [])
       (λ one d h b. (elim b [

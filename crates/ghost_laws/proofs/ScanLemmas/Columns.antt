@@ -1,13 +1,14 @@
--- The selected columns of an accepted query are columns of the schema, and at most 32.
+-- The columns that an accepted query selects and tests are columns of the schema.
 use Rattle.std.proofs.Common.{◌≡◌, ℕ, suc, ◌+◌, inl, inr, Bool, true, false, List, [], ◌∷◌, filter, sym, ◌∙◌, ap, subst, refl, arith, Option, Some, None, option_map, unwrap_or, slice_get, bytes_eq, if◌then◌else◌}
 use Rattle.std.specs.Prelude.{option_to_list}
 use Rattle.ghost_model.specs.core.Schema.{Schema, Column, columns_of, column_at, places_from, places_where, first_of, is_table}
-use Rattle.ghost_model.specs.core.Query.{Query, Field}
+use Rattle.ghost_model.specs.core.Query.{Query, Field, Condition}
 use Rattle.ghost_model.specs.refusals.QueryGrammar.{ColumnText, Bare, Qualified, Selection, All, Columns}
 use Rattle.ghost_model.specs.refusals.QueryMeaning.{field, table_named, fields_named, fields_of, meanings, selected_fields, resolved, Means}
 use Rattle.ghost_model.specs.laws.ShortWords.{column_named}
 use Rattle.ghost_model.proofs.MeaningLemmas.OneRow.{Among, from_map}
 use Rattle.ghost_laws.proofs.ScanLemmas.Choices.{from_flat}
+use Rattle.ghost_laws.proofs.ScanLemmas.Accepted.{With, conditions_with}
 
 -- a place that is told has an element
 pub place_has : {X : Type 0} (p : X → Bool) (at : ℕ) (xs : List X) (i : ℕ) → Among i (places_from p at xs)
@@ -68,3 +69,10 @@ pub select_has : (schema : Schema) (text : List ℕ) (asked : Query) → Means s
 select_has schema text asked means =
     subst (λ (q : Query). (one : Field) → Among one q.select → HasColumn schema one) (sym means.means)
     (selected_has schema (resolved schema means.tree).from means.tree.selection)
+
+pub conditions_have : (schema : Schema) (text : List ℕ) (asked : Query) → Means schema text asked → (c : Condition) → Among c asked.conditions
+    → With (HasColumn schema) c
+conditions_have schema text asked means =
+    let it : Query = resolved schema means.tree in
+    subst (λ (q : Query). (c : Condition) → Among c q.conditions → With (HasColumn schema) c) (sym means.means)
+    (conditions_with schema it.from (HasColumn schema) (meant_has schema it.from) means.tree.conditions)

@@ -1,26 +1,26 @@
 -- What a loop over the rows of the top table may rely on.
-use Rattle.std.proofs.Common.{◌≡◌, refl, sym, ap, ◌∙◌, subst, ℕ, zero, suc, ◌+◌, ◌≤◌, Bool, true, false, ◌||◌, ◌==◌, inl, inr, List, [], ◌∷◌, ◌++◌, length, map, flat_map, sum_by, ◌⊎◌, arith, append-nil, append_assoc, length-append, nat_lt, eq-eqb}
+use Rattle.std.proofs.Common.{◌≡◌, refl, sym, ap, ◌∙◌, subst, ℕ, zero, suc, ◌+◌, ◌≤◌, Bool, true, false, ◌||◌, inl, inr, List, [], ◌∷◌, ◌++◌, length, map, flat_map, sum_by, ◌⊎◌, arith, append-nil, append_assoc, length-append, nat_lt}
 use Rattle.std.specs.Prelude.{is_some}
 use Rattle.std.proofs.lemmas.Bool.{ltb-false}
 use Rattle.std.proofs.lemmas.List.Concat.{flat_map-append}
+use Rattle.std.proofs.lemmas.List.{length-map}
 use Rattle.std.proofs.lemmas.List.Sums.{sum_by-cons}
 use Rattle.std.specs.List.{list_all, list_any, range_with_len}
 use Rattle.ghost_model.specs.core.Schema.{Schema}
 use Rattle.ghost_model.specs.core.Values.{Row}
-use Rattle.ghost_model.specs.core.Query.{Query, Field, Member, GroupMember, Condition, OneOf, Join, compared, members_of, members_in, AtMost, AtLeast, tested}
-use Rattle.ghost_model.specs.refusals.QueryMeaning.{has_repeat, is_reference_to, value_of_literal, meanings, conditions_of, selection_columns, condition_columns, columns_in, literal_conditions, selected_count, resolved, Means, null_test}
-use Rattle.ghost_model.specs.refusals.QueryGrammar.{ColumnText, ConditionText, Compares, TestsNull, LiesBetween, Joins}
+use Rattle.ghost_model.specs.core.Query.{Query, Field, Member, GroupMember, Condition, OneOf, Join, compared, members_of, members_of_group, members_in, AtMost, AtLeast, tested}
+use Rattle.ghost_model.specs.refusals.QueryMeaning.{has_repeat, is_of_one_table, is_reference_to, value_of_literal, meanings, tests_of_member, member_column, members_meant, group_of, conditions_of, selection_columns, condition_columns, columns_in, literal_conditions, selected_count, resolved, Means}
+use Rattle.ghost_model.specs.refusals.QueryGrammar.{ColumnText, MemberText, ConditionText, Alone, AnyOf, LiesBetween, Joins}
 use Rattle.ghost_model.proofs.QueryReadingLemmas.{kept_rules}
 use Rattle.ghost_model.proofs.ChannelLemmas.Tests.{hold_both}
 use Rattle.ghost_model.proofs.MeaningLemmas.OneRow.{Among, among_is, is_among_to, neither_true, query_is_linked}
-use Rattle.ghost_model.proofs.QueryLemmas.{accepted_are_lone}
-use Rattle.ghost_model.proofs.SessionLemmas.Accepted.{each_is, query_is_sound, ComparesFrom}
+use Rattle.ghost_model.proofs.SessionLemmas.Accepted.{each_is, query_is_sound}
 use Rattle.ghost_model.proofs.SessionLemmas.Members.{true_of_each}
-use Rattle.ghost_laws.specs.Followed.{is_column_from, is_condition_from, is_of_one_table, AcceptedQueriesAreFollowed, RowsComeOneByOne}
+use Rattle.ghost_laws.specs.Followed.{is_column_from, is_condition_from, AcceptedQueriesAreFollowed, RowsComeOneByOne}
 use Rattle.ghost_laws.proofs.ScanLemmas.Keys.{below_top}
-use Rattle.ghost_laws.proofs.ScanLemmas.Accepted.{With, conditions_with, has_conditions, IsJoinOrTest}
+use Rattle.ghost_laws.proofs.ScanLemmas.Accepted.{With, has_conditions, IsJoinOrTest}
 use Rattle.ghost_laws.proofs.ScanLemmas.KnownRows.{top_is_from}
-use Rattle.ghost_laws.proofs.ScanLemmas.Columns.{HasColumn, meant_has, select_has}
+use Rattle.ghost_laws.proofs.ScanLemmas.Columns.{HasColumn, conditions_have, select_has}
 use Rattle.ghost_laws.proofs.ScanLemmas.Lines.{select_few}
 
 all_pass : {X : Type 0} (p : X → Bool) (xs : List X) → ((x : X) → Among x xs → p x ≡ true) → list_all p xs ≡ true
@@ -47,40 +47,28 @@ module _ (schema : Schema) (from : List ℕ) where
       hold_both _ _ (hold_both _ _ (column_from one a.0 has.0) (column_from other a.1 has.1))
       (either_way (is_reference_to schema one other) (is_reference_to schema other one) join)
 
-conditions_have : (schema : Schema) (text : List ℕ) (asked : Query) → Means schema text asked → (c : Condition) → Among c asked.conditions
-    → With (HasColumn schema) c
-conditions_have schema text asked means =
-    let it : Query = resolved schema means.tree in
-    subst (λ (q : Query). (c : Condition) → Among c q.conditions → With (HasColumn schema) c) (sym means.means)
-    (conditions_with schema it.from (HasColumn schema) (meant_has schema it.from) means.tree.conditions)
-
--- the columns of a group are of one table
-group_of_one : (schema : Schema) (from : List ℕ) (c : Condition) → ComparesFrom schema from c → is_of_one_table c ≡ true
-group_of_one schema from (OneOf first others) e =
-    all_pass (λ (one : Member). one.field.table == first.field.table) others
-    (λ one a.
-    eq-eqb one.field.table first.field.table (each_is (λ (it : Member). it.field.table ≡ first.field.table) one others e.1 a))
-group_of_one schema from (Join one other) e = refl
-
 -- the members that a text's conditions are are no more than it writes
 none_of_joins : (one : Field) (others : List Field) → length (members_in (map (Join one) others)) ≤ 0
 none_of_joins one [] = omega arith
 none_of_joins one (other ∷ others) = none_of_joins one others
 
-one_mapped : (f : Field → Condition) (most : ℕ) → ((one : Field) → length (members_in (f one ∷ [])) ≤ most)
-    → (meant : List Field) → nat_lt 1 (length meant) ≡ false → length (members_in (map f meant)) ≤ most
-one_mapped f most short [] few = omega arith
-one_mapped f most short (one ∷ []) few = short one
-one_mapped f most short (one ∷ other ∷ meant) few =
+few_of_meanings : {X : Type 0} (size : List X → ℕ) (f : Field → List X) (most : ℕ) → size [] ≤ most → ((one : Field) → size (f one) ≤ most)
+    → (meant : List Field) → nat_lt 1 (length meant) ≡ false → size (flat_map f meant) ≤ most
+few_of_meanings size f most none short [] few = none
+few_of_meanings {X = X} size f most none short (one ∷ []) few =
+    subst (λ (xs : List X). size xs ≤ most) (sym (append-nil (f one))) (short one)
+few_of_meanings size f most none short (one ∷ other ∷ meant) few =
     let many = ltb-false 1 (length (one ∷ other ∷ meant)) few in absurd (omega arith)
 
-one_flat : (f : Field → List Condition) (most : ℕ) → ((one : Field) → length (members_in (f one)) ≤ most)
-    → (meant : List Field) → nat_lt 1 (length meant) ≡ false → length (members_in (flat_map f meant)) ≤ most
-one_flat f most short [] few = omega arith
-one_flat f most short (one ∷ []) few =
-    subst (λ (cs : List Condition). length (members_in cs) ≤ most) (sym (append-nil (f one))) (short one)
-one_flat f most short (one ∷ other ∷ meant) few =
-    let many = ltb-false 1 (length (one ∷ other ∷ meant)) few in absurd (omega arith)
+group_length : (first : Member) (others : List Member) → length (members_of_group first others) ≡ length (first ∷ others)
+group_length first [] = refl
+group_length first (next ∷ others) = ap suc (group_length next others)
+
+few_of_group : (members : List Member) (most : ℕ) → length members ≤ most → length (members_in (group_of members)) ≤ most
+few_of_group [] most few = few
+few_of_group (first ∷ others) most few =
+    let size = ap (λ (xs : List GroupMember). length xs) (append-nil (members_of_group first others)) ∙ group_length first others in
+    omega (arith, size, few)
 
 none_of_both : {X : Type 0} (p : X → Bool) (xs ys : List X) → list_any p (xs ++ ys) ≡ false
     → (list_any p xs ≡ false) × (list_any p ys ≡ false)
@@ -94,19 +82,36 @@ module _ (schema : Schema) (from : List ℕ) where
   abbrev has_many : ColumnText → Bool
   has_many column = nat_lt 1 (length (meanings schema from column))
 
+  few_of_member : (member : MemberText) → has_many (member_column member) ≡ false
+      → length (members_meant schema from member) ≤ length (tests_of_member member)
+  few_of_member member e =
+      few_of_meanings (λ (xs : List Member). length xs) (λ meant. map (tested meant) (tests_of_member member)) (length (tests_of_member member)) (omega arith)
+      (λ one. let size = length-map (tests_of_member member) (tested one) in omega (arith, size)) (meanings schema from (member_column member)) e
+
+  few_of_members : (texts : List MemberText) → list_any has_many (map member_column texts) ≡ false
+      → length (flat_map (members_meant schema from) texts) ≤ sum_by (λ member. length (tests_of_member member)) texts
+  few_of_members [] e = omega arith
+  few_of_members (member ∷ texts) e =
+      let both = neither_true (has_many (member_column member)) (list_any has_many (map member_column texts)) e in
+      let one = few_of_member member both.0 in
+      let later = few_of_members texts both.1 in
+      let whole = sum_by-cons (λ (it : MemberText). length (tests_of_member it)) member texts in
+      let size = length-append (members_meant schema from member) (flat_map (members_meant schema from) texts) in
+      omega (arith, one, later, whole, size)
+
   few_of_condition : (c : ConditionText) → list_any has_many (condition_columns c) ≡ false
       → length (members_in (conditions_of schema from c)) ≤ literal_conditions c
-  few_of_condition (Compares column operator literal) e =
-      one_mapped (λ meant. compared meant operator (value_of_literal literal)) 1 (λ one. omega arith) (meanings schema from column)
-      (neither_true (has_many column) false e).0
-  few_of_condition (TestsNull column negated) e =
-      one_mapped (λ meant. OneOf (tested meant (null_test negated)) []) 1 (λ one. omega arith) (meanings schema from column)
-      (neither_true (has_many column) false e).0
+  few_of_condition (Alone member) e =
+      few_of_group (members_meant schema from member) (length (tests_of_member member))
+      (few_of_member member (neither_true (has_many (member_column member)) false e).0)
+  few_of_condition (AnyOf first second others) e =
+      few_of_group (flat_map (members_meant schema from) (first ∷ second ∷ others)) (literal_conditions (AnyOf first second others))
+      (few_of_members (first ∷ second ∷ others) e)
   few_of_condition (LiesBetween column low high) e =
-      one_flat (λ meant. compared meant AtLeast (value_of_literal low) ∷ compared meant AtMost (value_of_literal high) ∷ []) 2
-      (λ one. omega arith) (meanings schema from column) (neither_true (has_many column) false e).0
+      few_of_meanings (λ (cs : List Condition). length (members_in cs)) (λ meant. compared meant AtLeast (value_of_literal low) ∷ compared meant AtMost (value_of_literal high) ∷ []) 2
+      (omega arith) (λ one. omega arith) (meanings schema from column) (neither_true (has_many column) false e).0
   few_of_condition (Joins left right) e =
-      one_flat (λ meant. map (Join meant) (meanings schema from right)) 0 (λ one. none_of_joins one (meanings schema from right))
+      few_of_meanings (λ (cs : List Condition). length (members_in cs)) (λ meant. map (Join meant) (meanings schema from right)) 0 (omega arith) (λ one. none_of_joins one (meanings schema from right))
       (meanings schema from left) (neither_true (has_many left) (list_any has_many (right ∷ [])) e).0
 
   few_of_conditions : (texts : List ConditionText) → list_any has_many (flat_map condition_columns texts) ≡ false
@@ -155,15 +160,14 @@ accepted_queries_are_followed schema tree text asked means top at_top =
       parents = λ table a differ.
           let up = linked.upward table (is_among_to table asked.from a) differ in
           record { above = up.above; is_parent = up.is_parent; stands = among_is up.above asked.from up.stands };
+      joined = λ table a differ. (linked.upward table (is_among_to table asked.from a) differ).joined;
       selected = all_pass (is_column_from schema asked.from) asked.select
           (λ one a. column_from schema asked.from one (each_is (λ (f : Field). Among f.table asked.from) one asked.select sound.chosen a) (select_has schema text asked means one a));
       conditions = all_pass (is_condition_from schema asked.from) asked.conditions
           (λ c a. condition_from schema asked.from c (conditions.from c a) (conditions_have schema text asked means c a) (conditions.joins c a));
-      groups = all_pass is_of_one_table asked.conditions
-          (λ c a. group_of_one schema asked.from c (each_is (ComparesFrom schema asked.from) c asked.conditions sound.compared a));
+      groups = subst (λ (q : Query). list_all is_of_one_table q.conditions ≡ true) (sym means.means) (kept_rules schema text means.tree means.keeps).of_one_table;
       few_selected = select_few schema text asked means;
       few_members = few_members_from schema text asked means;
-      lone = accepted_are_lone schema text asked means;
     }
 
 one_more : (rows : ℕ → List Row) (from count : ℕ)

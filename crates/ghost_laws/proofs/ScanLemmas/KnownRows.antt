@@ -18,15 +18,14 @@ use Rattle.ghost_model.specs.laws.SplitByFlags.{hidden_flags, hidden_values}
 use Rattle.ghost_model.proofs.MeaningLemmas.PartsByFlags.{hidden_rows_at}
 use Rattle.ghost_model.specs.core.Replies as replies
 use Rattle.ghost_model.specs.core.Replies.{Reply, reply_about, hidden_places, hidden_value, known_value, stands_in, answer_from}
-use Rattle.ghost_model.proofs.MeaningLemmas.OneRow.{Among, from_filter, IsLinked, query_is_linked, both_true, in_table}
+use Rattle.ghost_model.proofs.MeaningLemmas.OneRow.{Among, from_filter, IsLinked, both_true, in_table}
 use Rattle.ghost_model.proofs.MeaningLemmas.Leading.{get_within, place_within, to_itself_within}
 use Rattle.ghost_model.proofs.SessionLemmas.Values.{hidden_of_row}
-use Rattle.ghost_model.proofs.SessionLemmas.Accepted.{each_is, query_is_sound, IsSound}
 use Rattle.ghost_model.proofs.SessionLemmas.Members.{some_agree}
-use Rattle.ghost_laws.specs.Scans.{known_along, is_kept_row, stands_along, holds_or_asked_along, known_row, KnownAnswersFollowKeys}
+use Rattle.ghost_laws.specs.Scans.{known_along, is_kept_row, stands_along, holds_or_asked_along, known_row, known_answer}
 use Rattle.ghost_laws.proofs.ScanLemmas.Keys.{IsValues, seen, join_holds}
 use Rattle.ghost_laws.proofs.ScanLemmas.Choices.{chosen_in, picked}
-use Rattle.ghost_laws.proofs.ScanLemmas.Accepted.{pass_each, HasConditions, member_from, has_conditions}
+use Rattle.ghost_laws.proofs.ScanLemmas.Accepted.{pass_each, HasConditions, member_from}
 use Rattle.ghost_laws.proofs.ScanLemmas.OneChoice.{all_same, values_same, mapped_if, many, reach, reached, combined, combined_has, join_met, one_or_none}
 use Rattle.ghost_laws.proofs.ScanLemmas.Rows.{all_more, same_for_identifiers}
 use Rattle.ghost_model.proofs.MeaningLemmas.Picks.{known_in, is_true_or_asked, stands_in_reply, is_kept, answer_of_pick}
@@ -119,7 +118,7 @@ module _ (schema : Schema) (database : Database) (tree : IsTree schema) (is : Is
   join_seen x (OneOf first others) h = refl
   join_seen x (Join one other) h = rw (sym (known_seen x one), sym (known_seen x other)) h
 
-  module _ (asked : Query) (top : ℕ) (linked : IsLinked schema asked top) (conditions : HasConditions schema asked) (sound : IsSound schema asked) (from : Among top asked.from) (identifier : ℕ) (row : Row) (there : row_of database top identifier ≡ Some row) where
+  module _ (asked : Query) (top : ℕ) (linked : IsLinked schema asked top) (conditions : HasConditions schema asked) (from_select : (f : Field) → Among f asked.select → Among f.table asked.from) (from : Among top asked.from) (identifier : ℕ) (row : Row) (there : row_of database top identifier ≡ Some row) where
     abbrev one : List Pick
     one = combined schema database tree is asked top linked identifier row there
 
@@ -176,17 +175,17 @@ module _ (schema : Schema) (database : Database) (tree : IsTree schema) (is : Is
         (all_same (is_true_or_asked schema kept given one) (holds_or_asked_along schema along) asked.conditions condition_along)
         ∙ ap (λ (values : Row). if list_all (stands_along schema database given top identifier) asked.from && list_all (holds_or_asked_along schema along) asked.conditions then values ∷ [] else [])
         (values_same (λ f. unwrap_or (known_in schema kept given one f) no_value) (λ f. unwrap_or (along f) no_value) asked.select
-        (λ f a. ap (λ (o : Option Value). unwrap_or o no_value) (seen_along f (each_is (λ (g : Field). Among g.table asked.from) f asked.select sound.chosen a))))
+        (λ f a. ap (λ (o : Option Value). unwrap_or o no_value) (seen_along f (from_select f a))))
 
-pub known_answers_follow_keys : KnownAnswersFollowKeys
-known_answers_follow_keys schema tree database is text asked means given top at_top =
-    let linked = query_is_linked schema text asked top means at_top in
-    let conditions = has_conditions schema text asked means in
-    let sound = query_is_sound schema text asked tree means in
+pub known_answers_follow : (schema : Schema) → IsTree schema → (database : Database) → IsDatabase schema database → (given : List Reply)
+    → (asked : Query) (top : ℕ) → top_of schema asked ≡ Some top → IsLinked schema asked top → HasConditions schema asked
+    → ((f : Field) → Among f asked.select → Among f.table asked.from)
+    → answer_from schema (hidden_of schema database) asked given ≡ known_answer schema database asked given top
+known_answers_follow schema tree database is given asked top at_top linked conditions from_select =
     ap (λ o. answer_by_top (replies.known schema (hidden_of schema database) given) asked o) at_top
     ∙ ap (λ n. flat_map (answer_of_pick schema (hidden_of schema database) asked given top) (range_with_len 1 n)) (many schema database tree is asked top linked top)
     ∙ same_for_identifiers (answer_of_pick schema (hidden_of schema database) asked given top) (known_row schema database asked given top) 1 (row_count database top)
     (λ place h.
     let row = get_within (rows_of database top) place h in
     let e : 1 + place ≡ suc place = omega arith in
-    row_is schema database tree is given asked top linked conditions sound (top_is_from schema asked top at_top) (1 + place) row.0 (ap (row_of database top) e ∙ row.1))
+    row_is schema database tree is given asked top linked conditions from_select (top_is_from schema asked top at_top) (1 + place) row.0 (ap (row_of database top) e ∙ row.1))

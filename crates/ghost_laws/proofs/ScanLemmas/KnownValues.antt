@@ -1,17 +1,19 @@
--- Each selected value is known where the rows stand in the replies to all asks: an asked one is of its column's kind, since
--- the reply has one value for each asked column, of its kind.
+-- Each selected value, and each of a column in a group that is left, is known where the rows stand in the replies to all asks: an
+-- asked one is of its column's kind, since the reply has one value for each asked column, of its kind.
 use Rattle.std.proofs.Common.{◌≡◌, ℕ, zero, suc, ◌+◌, ◌<◌, ◌≤◌, inl, inr, pos, Bool, true, false, not, ◌&&◌, ◌||◌, ◌==◌, nat_eq, nat_lt, List, [], ◌∷◌, length, map, filter, sym, ◌∙◌, ap, subst, refl, arith, eqb-true, eq-eqb, Some, slice_get, option_and_then, if◌then◌else◌}
 use Rattle.std.specs.Prelude.{is_some, unwrap_or}
 use Rattle.std.specs.List.{list_all, list_any}
 use Rattle.std.proofs.lemmas.Bool.{lt-ltb}
+use Rattle.std.proofs.lemmas.List.Folds.{list_all-append}
 use Rattle.ghost_model.specs.core.Schema.{Schema, Column, Kind, columns_of, column_at, places_from, is_empty, is_shown, is_visible, places_of}
 use Rattle.ghost_model.specs.laws.SchemaTrees.{IsTree}
 use Rattle.ghost_model.specs.core.Values.{Number, Row, Database}
-use Rattle.ghost_model.specs.core.Query.{Query, Field}
+use Rattle.ghost_model.specs.core.Query.{Query, Field, Member, GroupMember, members_of_group, members_in, Condition, OneOf, Join}
+use Rattle.ghost_model.specs.core.Groups.{each_of, some_of}
 use Rattle.ghost_model.specs.refusals.QueryMeaning as meaning
-use Rattle.ghost_model.specs.refusals.QueryMeaning.{Means}
 use Rattle.ghost_model.specs.core.Channel.{Ask}
-use Rattle.ghost_model.specs.core.Asks.{kind_at, kinds_of, is_wanted, ask_for, is_needed, asks_of}
+use Rattle.ghost_model.specs.core.Asks.{kind_at, kinds_of, is_wanted, is_mixed, is_column, names_column, ask_for, is_needed, asks_of}
+use Rattle.ghost_model.specs.core.Asks.{is_shown as is_shown_of}
 use Rattle.ghost_model.specs.laws.ShortWords.{is_field, is_from}
 use Rattle.ghost_model.specs.core.Database.{IsDatabase, row_of, row_count, is_of_kind}
 use Rattle.ghost_model.specs.core.Split.{RowValues, hidden_of, value_at, are_of_kinds}
@@ -20,14 +22,16 @@ use Rattle.ghost_model.proofs.ChannelLemmas.Tests.{hold_both}
 use Rattle.ghost_model.proofs.MeaningLemmas.OneRow.{Among, among-filter, from_filter, from_map, IsLinked, query_is_linked, both_true, in_table, among_is}
 use Rattle.ghost_model.proofs.MeaningLemmas.Leading.{landing, place_within}
 use Rattle.ghost_model.proofs.SessionLemmas.Accepted.{each_is, query_is_sound}
-use Rattle.ghost_model.proofs.SessionLemmas.Members.{left_true}
+use Rattle.ghost_model.proofs.SessionLemmas.Members.{left_true, right_true, any_true, some_true, each_true, true_of_each}
+use Rattle.ghost_laws.specs.Asking.{is_left}
 use Rattle.ghost_laws.specs.Scans.{is_kept_row, stands_along, holds_or_asked_along, known_along, known_row}
 use Rattle.ghost_laws.specs.Selected.{has_selected, is_of_kinds, AreWholeReplies, KnownAnswersHaveSelected}
+use Rattle.ghost_laws.proofs.AskingLemmas.{visible_is_neither}
 use Rattle.ghost_laws.proofs.ScanLemmas.Keys.{below_top}
 use Rattle.ghost_laws.proofs.ScanLemmas.Choices.{to_map}
-use Rattle.ghost_laws.proofs.ScanLemmas.Accepted.{pass_each}
+use Rattle.ghost_laws.proofs.ScanLemmas.Accepted.{pass_each, has_conditions, member_from}
 use Rattle.ghost_laws.proofs.ScanLemmas.KnownRows.{hidden_is}
-use Rattle.ghost_laws.proofs.ScanLemmas.Columns.{HasColumn, select_has}
+use Rattle.ghost_laws.proofs.ScanLemmas.Columns.{HasColumn, select_has, conditions_have}
 use Rattle.ghost_laws.proofs.ScanLemmas.Values.{Stands, all_told, none_missing, alone_or_none, all_by_number, field_stands, row_numbered}
 use Rattle.ghost_model.specs.core.Meaning.{no_value}
 
@@ -76,13 +80,57 @@ needed column [] b h = absurd h
 needed column (x ∷ xs) b h = refl
 
 module _ (schema : Schema) (asked : Query) where
-  -- a selected visible column is asked for
-  column_asked : (f : Field) (declared : Column) → column_at schema f.table f.column ≡ Some declared → is_visible schema f.table f.column ≡ true
-      → Among f asked.select → Among f.column (ask_for schema asked f.table).columns
-  column_asked f declared h visible a =
+  -- a visible column is wanted where it is selected, and where it stands in a group that is left
+  IsWantedIfVisible : Field → Type 0
+  IsWantedIfVisible f = is_visible schema f.table f.column ≡ true → is_wanted schema asked f.table f.column ≡ true
+
+  selected_wanted : (f : Field) → Among f asked.select → IsWantedIfVisible f
+  unfolding IsWantedIfVisible
+  selected_wanted f a visible = hold_both _ _ visible (left_true _ _ (field_is f asked.select a))
+
+  abbrev is_judged : Member → Bool
+  is_judged one = is_visible schema one.field.table one.field.column
+
+  left_unjudged : (first : Member) (others : List Member) → is_left schema (OneOf first others) ≡ true → each_of is_judged first others ≡ false
+  left_unjudged first others left =
+      (elim (each_of is_judged first others) as (λ v. each_of is_judged first others ≡ v → v ≡ false) [
+        | true ↦ λ e. (let none = (visible_is_neither schema first others e).1 in let bad : true ≡ false = sym left ∙ none in absurd (cc))
+        | false ↦ λ e. refl
+      ]) refl
+
+  left_wanted : (first : Member) (others : List Member) (one : Member) → Among (OneOf first others) asked.conditions → Among one (first ∷ others)
+      → is_left schema (OneOf first others) ≡ true → IsWantedIfVisible one.field
+  unfolding IsWantedIfVisible
+  left_wanted first others one among within left visible =
+      let table : ℕ = one.field.table in
+      let column : ℕ = one.field.column in
+      let same : table == table ≡ true = eq-eqb table table refl in
+      let some_shown : some_of (is_shown_of schema table) first others ≡ true =
+      some_true (is_shown_of schema table) one first others within (hold_both _ _ same visible) in
+      let judged_if : each_of (is_shown_of schema table) first others ≡ true → each_of is_judged first others ≡ true = λ shown.
+      true_of_each is_judged first others
+      (λ other a.
+      let both = both_true (other.field.table == table) (is_visible schema table other.field.column) (each_true (is_shown_of schema table) other first others shown a) in
+      subst (λ (n : ℕ). is_visible schema n other.field.column ≡ true) (sym (eqb-true other.field.table table both.0)) both.1) in
+      let not_each : each_of (is_shown_of schema table) first others ≡ false =
+      (elim (each_of (is_shown_of schema table) first others) as (λ v. each_of (is_shown_of schema table) first others ≡ v → v ≡ false) [
+        | true ↦ λ e. (let bad : true ≡ false = sym (judged_if e) ∙ left_unjudged first others left in absurd (cc))
+        | false ↦ λ e. refl
+      ]) refl in
+      let mixed : is_mixed schema table (OneOf first others) ≡ true = hold_both _ _ some_shown (ap not not_each) in
+      let named : names_column table column (OneOf first others) ≡ true =
+      some_true (λ (it : Member). is_column table column it.field) one first others within (hold_both _ _ same (eq-eqb column column refl)) in
+      hold_both (is_visible schema table column) _ visible
+      (right_true (list_any (is_column table column) asked.select) _
+      (any_true (λ c. is_mixed schema table c && names_column table column c) (OneOf first others) asked.conditions among (hold_both _ _ mixed named)))
+
+  -- such a column is asked for
+  column_asked : (f : Field) (declared : Column) → column_at schema f.table f.column ≡ Some declared → is_wanted schema asked f.table f.column ≡ true
+      → Among f.column (ask_for schema asked f.table).columns
+  column_asked f declared h wanted =
       among-filter (is_wanted schema asked f.table) f.column (places_of (columns_of schema f.table))
       (stands_first f.column (columns_of schema f.table) (place_within (columns_of schema f.table) f.column declared h))
-      (hold_both _ _ visible (left_true _ _ (field_is f asked.select a)))
+      wanted
 
   ask_stands : (f : Field) (declared : Column) → column_at schema f.table f.column ≡ Some declared → Among f.table asked.from
       → Among f.column (ask_for schema asked f.table).columns → Among (ask_for schema asked f.table) (asks_of schema asked)
@@ -146,12 +194,12 @@ module _ (schema : Schema) (database : Database) (tree : IsTree schema) (is : Is
       (value.0, known ∙ (ap (λ (ask : Ask). value_at ask.columns row.0.values f.column) same ∙ value.1), value.2)
 
   -- a replied value
-  replied_stands : (f : Field) (declared : Column) (identifier : ℕ) → column_at schema f.table f.column ≡ Some declared → Among f.table asked.from → Among f asked.select
-      → is_visible schema f.table f.column ≡ true → is_kept_row (Some identifier) (reply_about f.table given) ≡ true
+  replied_stands : (f : Field) (declared : Column) (identifier : ℕ) → column_at schema f.table f.column ≡ Some declared → Among f.table asked.from
+      → is_wanted schema asked f.table f.column ≡ true → is_kept_row (Some identifier) (reply_about f.table given) ≡ true
       → Stands (kind_at schema f.table f.column) (replied_value given f.table identifier f.column)
-  replied_stands f declared identifier h from select visible kept =
+  replied_stands f declared identifier h from wanted kept =
       let target = ask_for schema asked f.table in
-      let column = column_asked schema asked f declared h visible select in
+      let column = column_asked schema asked f declared h wanted in
       let there = ask_stands schema asked f declared h from column in
       let found =
       reply_found target given (subst (λ asks. Among target asks) (sym are.asks) there)
@@ -159,37 +207,56 @@ module _ (schema : Schema) (database : Database) (tree : IsTree schema) (is : Is
       stands_in_reply f identifier found.0 found.1 found.2 found.3 column (sym (ap (is_kept_row (Some identifier)) found.1) ∙ kept)
 
   known_stands : (table column : ℕ) (declared : Column) (identifier : ℕ) (row : Row) → row_of database table identifier ≡ Some row
-      → column_at schema table column ≡ Some declared → Among table asked.from → Among (meaning.field table column) asked.select
+      → column_at schema table column ≡ Some declared → Among table asked.from → IsWantedIfVisible schema asked (meaning.field table column)
       → is_kept_row (Some identifier) (reply_about table given) ≡ true
       → Stands (kind_at schema table column) (known_value schema (hidden_of schema database) given table identifier column)
-  known_stands table zero declared identifier row there h from select kept =
+  unfolding IsWantedIfVisible
+  known_stands table zero declared identifier row there h from wanted kept =
       let v = field_stands schema database tree is table identifier row there 0 declared h in
       let number : Some v.0 ≡ Some (Number (pos identifier)) =
       sym v.1 ∙ ap (option_and_then (λ (r : Row). slice_get r 0)) there ∙ is.identifiers table identifier row there in
       (v.0, sym number, v.2)
-  known_stands table (suc before) declared identifier row there h from select kept =
+  known_stands table (suc before) declared identifier row there h from wanted kept =
       let v = field_stands schema database tree is table identifier row there (suc before) declared h in
       (elim (is_visible schema table (suc before)) as (λ seen. is_visible schema table (suc before) ≡ seen → Stands (kind_at schema table (suc before)) (if seen then replied_value given table identifier (suc before) else hidden_value schema (hidden_of schema database) table identifier (suc before))) [
-        | true ↦ λ e. replied_stands (meaning.field table (suc before)) declared identifier h from select e kept
+        | true ↦ λ e. replied_stands (meaning.field table (suc before)) declared identifier h from (wanted e) kept
         | false ↦ λ e. (v.0, hidden_is schema database tree is given table identifier before (not_shown before (is_shown (column_at schema table (suc before))) e) ∙ v.1, v.2)
       ]) refl
 
   module _ (top : ℕ) (linked : IsLinked schema asked top) (identifier : ℕ) (row : Row) (there : row_of database top identifier ≡ Some row) where
     along_stands : list_all (stands_along schema database given top identifier) asked.from ≡ true
-        → (f : Field) → Among f.table asked.from → Among f asked.select → HasColumn schema f
+        → (f : Field) → Among f.table asked.from → IsWantedIfVisible schema asked f → HasColumn schema f
         → Stands (kind_at schema f.table f.column) (known_along schema database given top identifier f)
-    along_stands kept f from select has =
+    along_stands kept f from wanted has =
         let below = below_top schema tree asked top linked f.table from in
         let l = landing schema database tree is below.0 top f.table identifier row below.1 there in
         let stands : is_kept_row (Some l.reached) (reply_about f.table given) ≡ true =
         sym (ap (λ o. is_kept_row o (reply_about f.table given)) l.led) ∙ pass_each (stands_along schema database given top identifier) asked.from kept f.table from in
-        let value = known_stands f.table f.column has.0 l.reached l.row l.stands has.1 from select stands in
+        let value = known_stands f.table f.column has.0 l.reached l.row l.stands has.1 from wanted stands in
         (value.0, ap (option_and_then (λ reached. known_value schema (hidden_of schema database) given f.table reached f.column)) l.led ∙ value.1, value.2)
+
+-- what holds of each member of some groups
+grouped_all : (p : Member → Bool) (first : Member) (others : List Member) → ((one : Member) → Among one (first ∷ others) → p one ≡ true)
+    → list_all (λ (one : GroupMember). p one.member) (members_of_group first others) ≡ true
+grouped_all p first [] h = hold_both (p first) true (h first (inl refl)) refl
+grouped_all p first (next ∷ others) h =
+    hold_both (p first) _ (h first (inl refl)) (grouped_all p next others (λ one a. h one (inr a)))
+
+all_members : (p : Member → Bool) (conditions : List Condition)
+    → ((first : Member) (others : List Member) (one : Member) → Among (OneOf first others) conditions → Among one (first ∷ others) → p one ≡ true)
+    → list_all (λ (one : GroupMember). p one.member) (members_in conditions) ≡ true
+all_members p [] h = refl
+all_members p (Join left right ∷ conditions) h = all_members p conditions (λ first others one a within. h first others one (inr a) within)
+all_members p (OneOf first others ∷ conditions) h =
+    list_all-append (λ (one : GroupMember). p one.member) (members_of_group first others) (members_in conditions)
+    ∙ hold_both _ _ (grouped_all p first others (λ one within. h first others one (inl refl) within))
+    (all_members p conditions (λ other later one a within. h other later one (inr a) within))
 
 pub known_answers_have_selected : KnownAnswersHaveSelected
 known_answers_have_selected schema tree database is text asked means given are top at_top =
     let linked = query_is_linked schema text asked top means at_top in
     let sound = query_is_sound schema text asked tree means in
+    let conditions = has_conditions schema text asked means in
     let kind : Field → Kind = λ f. kind_at schema f.table f.column in
     let stand : (identifier : ℕ) → 1 ≤ identifier → identifier ≤ row_count database top
     → list_all (stands_along schema database given top identifier) asked.from ≡ true
@@ -197,7 +264,7 @@ known_answers_have_selected schema tree database is text asked means given are t
     λ identifier low high stands f a.
     let row = row_numbered schema database tree is top identifier low high in
     along_stands schema database tree is asked given are top linked identifier row.0 row.1 stands f
-    (each_is (λ (g : Field). Among g.table asked.from) f asked.select sound.chosen a) a (select_has schema text asked means f a) in
+    (each_is (λ (g : Field). Among g.table asked.from) f asked.select sound.chosen a) (selected_wanted schema asked f a) (select_has schema text asked means f a) in
     let each : (identifier : ℕ) → 1 ≤ identifier → identifier ≤ row_count database top
     → list_all (has_selected schema asked) (known_row schema database asked given top identifier) ≡ true =
     λ identifier low high.
@@ -209,6 +276,15 @@ known_answers_have_selected schema tree database is text asked means given are t
     record {
       row = each;
       none_missing = λ identifier low high stands. none_missing kind (known_along schema database given top identifier) asked.select (stand identifier low high stands);
+      left = λ identifier low high stands.
+          let row = row_numbered schema database tree is top identifier low high in
+          all_members (λ one. is_some (known_along schema database given top identifier one.field)) (filter (is_left schema) asked.conditions)
+          (λ first others one a within.
+          let among = from_filter (is_left schema) (OneOf first others) asked.conditions a in
+          let from = member_from asked.from first others one (conditions.from (OneOf first others) among.0) within in
+          let has = each_is (λ (it : Member). HasColumn schema it.field) one (first ∷ others) (conditions_have schema text asked means (OneOf first others) among.0) within in
+          ap is_some (along_stands schema database tree is asked given are top linked identifier row.0 row.1 stands one.field from
+          (left_wanted schema asked first others one among.0 within among.1) has).1);
       answer = all_by_number (has_selected schema asked) (known_row schema database asked given top) 1 (row_count database top)
           (λ identifier low high. each identifier low (omega (arith, high)));
     }

@@ -1,30 +1,29 @@
--- The answer of an accepted query is found along the foreign keys: for each row of the top table, the combinations that
+-- The answer of a query is found along the foreign keys: for each row of the top table, the combinations that
 -- pass are the one that the row leads to, or none.
 use Rattle.std.proofs.Common.{◌≡◌, refl, sym, ap, ◌∙◌, ℕ, suc, zero, ◌+◌, ◌<◌, Bool, true, false, nat_eq, List, [], ◌∷◌, ◌++◌, map, filter, flat_map, Option, Some, slice_get, unwrap_or, option_and_then, arith, eqb-true, if◌then◌else◌}
 use Rattle.std.specs.List.{list_all, range_with_len}
 use Rattle.ghost_model.specs.core.Schema.{Schema}
 use Rattle.ghost_model.specs.laws.SchemaTrees.{IsTree}
 use Rattle.ghost_model.specs.core.Values.{Value, Row, Database}
-use Rattle.ghost_model.specs.core.Query.{Query, Field, Member, Condition, OneOf, Join}
+use Rattle.ghost_model.specs.core.Query.{Query, Field, Member, Condition, OneOf, Join, top_of}
 use Rattle.ghost_model.specs.core.Database.{IsDatabase, rows_of, row_of, row_count, value_at_row}
 use Rattle.ghost_model.specs.core.Split.{Hidden, hidden_of}
 use Rattle.ghost_model.specs.core.Meaning as meaning
-use Rattle.ghost_model.specs.core.Meaning.{Pick, pick, meets_test, no_value, all_of, answer_by_top}
+use Rattle.ghost_model.specs.core.Meaning.{Pick, pick, meets_test, no_value, all_of, answer, answer_by_top}
 use Rattle.ghost_model.specs.laws.ShortWords.{others_of}
 use Rattle.ghost_model.proofs.MeaningLemmas.ByRows as by_row
 use Rattle.ghost_model.proofs.MeaningLemmas.ByRows.{Chosen, choice, Combination, row_combinations, row_in, value_in, is_met_in, is_true_in, passes, projection, answer_of_row, mapped_twice, row_field, by_rows}
-use Rattle.ghost_model.proofs.MeaningLemmas.OneRow.{Among, IsLinked, query_is_linked, both_true}
-use Rattle.ghost_model.proofs.SessionLemmas.Accepted.{each_is, query_is_sound, IsSound}
+use Rattle.ghost_model.proofs.MeaningLemmas.OneRow.{Among, IsLinked, both_true}
 use Rattle.ghost_model.proofs.SessionLemmas.Members.{some_agree}
-use Rattle.ghost_laws.specs.Scans.{led_value, holds_along, row_along, AnswersFollowKeys}
+use Rattle.ghost_laws.specs.Scans.{led_value, holds_along, row_along, answer_along}
 use Rattle.ghost_laws.proofs.ScanLemmas.Keys.{IsValues, seen, join_holds}
 use Rattle.ghost_laws.proofs.ScanLemmas.Choices.{chosen_in}
-use Rattle.ghost_laws.proofs.ScanLemmas.Accepted.{HasConditions, member_from, has_conditions}
+use Rattle.ghost_laws.proofs.ScanLemmas.Accepted.{HasConditions, member_from}
 use Rattle.ghost_laws.proofs.ScanLemmas.OneChoice.{all_same, values_same, mapped_if, many, combined, combined_has, join_met, one_or_none}
 use Rattle.ghost_model.proofs.MeaningLemmas.Picks.{picks}
 use Rattle.ghost_model.specs.core.Asks.{kind_at}
 use Rattle.ghost_model.proofs.MeaningLemmas.Leading.{get_within}
-use Rattle.ghost_laws.proofs.ScanLemmas.Columns.{HasColumn, select_has}
+use Rattle.ghost_laws.proofs.ScanLemmas.Columns.{HasColumn}
 use Rattle.ghost_laws.proofs.ScanLemmas.Values.{all_found, led_stands}
 
 -- what holds wherever another test does
@@ -85,7 +84,7 @@ module _ (schema : Schema) (database : Database) (tree : IsTree schema) (is : Is
       by_row.combinations_are database tables
       ∙ ap (λ (count : ℕ → ℕ). map (map chosen) (meaning.combinations count tables)) (λ i table. sym (many schema database tree is asked top linked table) i)
 
-  module _ (asked : Query) (top : ℕ) (linked : IsLinked schema asked top) (conditions : HasConditions schema asked) (sound : IsSound schema asked) (has : (f : Field) → Among f asked.select → HasColumn schema f) (identifier : ℕ) (row : Row) (there : row_of database top identifier ≡ Some row) where
+  module _ (asked : Query) (top : ℕ) (linked : IsLinked schema asked top) (conditions : HasConditions schema asked) (from_select : (f : Field) → Among f asked.select → Among f.table asked.from) (has : (f : Field) → Among f asked.select → HasColumn schema f) (identifier : ℕ) (row : Row) (there : row_of database top identifier ≡ Some row) where
     abbrev one : List Pick
     one = combined schema database tree is asked top linked identifier row there
 
@@ -128,15 +127,12 @@ module _ (schema : Schema) (database : Database) (tree : IsTree schema) (is : Is
         (λ f a. ap (λ (o : Option Value). unwrap_or o no_value) (seen_along f (from_select f a)))
         ∙ all_found (λ f. kind_at schema f.table f.column) (led_value schema database top identifier) asked.select
         (λ f a. led_stands schema database tree is asked top linked identifier row there f (from_select f a) (has f a)))
-      where
-        from_select : (f : Field) → Among f asked.select → Among f.table asked.from
-        from_select f a = each_is (λ (g : Field). Among g.table asked.from) f asked.select sound.chosen a
 
-pub answers_follow_keys : AnswersFollowKeys
-answers_follow_keys schema tree database is text asked means top at_top =
-    let linked = query_is_linked schema text asked top means at_top in
-    let conditions = has_conditions schema text asked means in
-    let sound = query_is_sound schema text asked tree means in
+pub answers_follow : (schema : Schema) → IsTree schema → (database : Database) → IsDatabase schema database → (asked : Query) (top : ℕ)
+    → top_of schema asked ≡ Some top → IsLinked schema asked top → HasConditions schema asked
+    → ((f : Field) → Among f asked.select → Among f.table asked.from) → ((f : Field) → Among f asked.select → HasColumn schema f)
+    → answer schema database asked ≡ answer_along schema database asked top
+answers_follow schema tree database is asked top at_top linked conditions from_select has =
     ap (λ o. answer_by_top (all_of database) asked o) at_top
     ∙ same_for_identifiers (meaning.answer_of_row (all_of database) asked top) (λ identifier. row_along (led_value schema database top identifier) asked) 1 (row_count database top)
     (λ place h.
@@ -144,4 +140,4 @@ answers_follow_keys schema tree database is text asked means top at_top =
     let e : 1 + place ≡ suc place = omega arith in
     let there : row_of database top (1 + place) ≡ Some row.0 = ap (row_of database top) e ∙ row.1 in
     by_rows database asked top (1 + place) row.0 there
-    ∙ row_is schema database tree is asked top linked conditions sound (select_has schema text asked means) (1 + place) row.0 there)
+    ∙ row_is schema database tree is asked top linked conditions from_select has (1 + place) row.0 there)

@@ -1,7 +1,8 @@
 -- That the asks of queries are such as a key may send.
-use Rattle.std.proofs.Common.{◌≡◌, ℕ, ◌+◌, ◌-◌, ◌<◌, ◌≤◌, Bool, true, false, ◌&&◌, List, [], ◌∷◌, ◌++◌, length, map, sym, ◌∙◌, ap, subst, refl, arith, length-append, lit<, Option, Some, None, Ok}
+use Rattle.std.proofs.Common.{◌≡◌, ℕ, ◌+◌, ◌<◌, ◌≤◌, Bool, true, false, ◌&&◌, List, [], ◌∷◌, ◌++◌, length, map, sym, ◌∙◌, ap, subst, refl, arith, length-append, lit<, Option, Some, None, Ok}
 use Rattle.std.specs.Prelude.{◌==◌, ◌||◌, nat_lt, not, if◌then◌else◌, filter, flat_map}
 use Rattle.std.specs.List.{sum_by}
+use Rattle.std.proofs.lemmas.List.{length-map}
 use Rattle.std.specs.Option.{option_map}
 use Rattle.std.proofs.lemmas.Bool.{eqb-true}
 use Rattle.std.specs.List.{list_all, list_any}
@@ -11,13 +12,13 @@ use Rattle.std.proofs.lemmas.List.Sums.{sum_by-cons}
 use Rattle.std.proofs.lemmas.Bool.{ltb-false, lt-ltb, le-leb}
 use Rattle.ghost_model.specs.core.Schema.{Schema, Column, Kind, Integer, Chars, IntegerOrNull, CharsOrNull, plain_of, columns_of, column_at, is_visible, is_shown, places_from}
 use Rattle.ghost_model.specs.core.Values.{Value, Null, Number, Text}
-use Rattle.ghost_model.specs.core.Query.{Query, Field, Test, Compared, IsNull, IsNotNull, Member, GroupMember, members_of_group, Condition, OneOf, Join, tested, compared, Operator, AtLeast, AtMost}
+use Rattle.ghost_model.specs.core.Query.{Query, Field, Test, Compared, IsNull, IsNotNull, Member, GroupMember, members_of_group, Condition, OneOf, Join, tested, compared, Equal, AtLeast, AtMost}
 use Rattle.ghost_model.specs.core.Groups.{each_of, some_of, ends}
 use Rattle.ghost_model.specs.core.Channel.{ColumnTest}
-use Rattle.ghost_model.specs.refusals.Tokens.{Symbol, Quoted, EndOfText, Word, AndWord, Comma, is_printable, symbols}
+use Rattle.ghost_model.specs.refusals.Tokens.{Symbol, Quoted, Open, Closing, EndOfText, Word, AndWord, InWord, OrWord, Comma, is_printable, symbols}
 use Rattle.ghost_model.specs.laws.Spelled.{is_spelled, IsBeforeEnd}
 use Rattle.ghost_model.specs.core.Database.{is_of_kind, fits_integer}
-use Rattle.ghost_model.specs.refusals.QueryGrammar.{ConditionText, Compares, TestsNull, LiesBetween, Joins, ColumnText, LiteralText, Unsigned, Signed, Written, QueryText, spelling, spell_condition, spell_literal, spell_where, spell_column, spell_table, spell_selection}
+use Rattle.ghost_model.specs.refusals.QueryGrammar.{MemberText, Compares, TestsNull, IsIn, ConditionText, Alone, AnyOf, LiesBetween, Joins, ColumnText, LiteralText, Unsigned, Signed, Written, QueryText, spelling, spell_member, spell_condition, spell_literal, spell_where, spell_column, spell_table, spell_selection}
 use Rattle.ghost_model.specs.refusals.Grammar.{separated}
 use Rattle.ghost_model.specs.laws.ShortWords as short
 use Rattle.ghost_model.specs.core.Schema as schemas
@@ -27,7 +28,7 @@ use Rattle.ghost_model.specs.laws.ChannelLaws as laws
 use Rattle.ghost_model.specs.readings.QueryReading.{reading}
 use Rattle.ghost_model.proofs.TokenLemmas.{before_end}
 use Rattle.ghost_model.proofs.QueryReadingLemmas.{means_of, KeptRules, kept_rules}
-use Rattle.ghost_model.proofs.GroupLemmas.{ends_flat}
+use Rattle.ghost_model.proofs.GroupLemmas.{ends_flat, each_is_all}
 use Rattle.ghost_model.proofs.ChannelLemmas.Tests.{false_is_not, both_hold, hold_both, BothHold}
 
 -- tests of lists
@@ -293,15 +294,47 @@ plain_null : (negated : Bool) → is_plain_test (meaning.null_test negated) ≡ 
 plain_null false = refl
 plain_null true = refl
 
+-- what is said of items with a symbol between them is said of each
+loose_separated : {X : Type 0} (by : Symbol) (spell : X → List Symbol) (x : X) (xs : List X) → list_all is_loose (separated by spell x xs) ≡ true
+    → list_all (λ item. list_all is_loose (spell item)) (x ∷ xs) ≡ true
+loose_separated by spell x xs e =
+    hold_both _ _ (loose_left (spell x) _ e)
+    (all_weaker (λ item. list_all is_loose (by ∷ spell item)) (λ item. list_all is_loose (spell item)) xs (λ item h. loose_right (by ∷ []) (spell item) h)
+    (all_inside is_loose (λ item. by ∷ spell item) xs (loose_right (spell x) _ e)))
+
+plain_tests : (member : MemberText) → list_all is_loose (spell_member member) ≡ true → list_all is_plain_test (meaning.tests_of_member member) ≡ true
+plain_tests (Compares column operator literal) e =
+    let right : BothHold _ (list_all is_loose (spell_literal literal)) = both_hold _ _ (loose_right (spell_column column) _ e) in
+    hold_both _ _ (plain_literal literal right.other) refl
+plain_tests (TestsNull column negated) e = hold_both _ _ (plain_null negated) refl
+plain_tests (IsIn column first others) e =
+    let listed : list_all is_loose (separated Comma spell_literal first others ++ (Closing ∷ [])) ≡ true =
+    loose_right (Word InWord ∷ Open ∷ []) (separated Comma spell_literal first others ++ (Closing ∷ [])) (loose_right (spell_column column) _ e) in
+    list_all-map is_plain_test (λ literal. Compared Equal (meaning.value_of_literal literal)) (first ∷ others)
+    ∙ all_weaker (λ literal. list_all is_loose (spell_literal literal)) (λ literal. is_plain (meaning.value_of_literal literal)) (first ∷ others)
+    plain_literal (loose_separated Comma spell_literal first others (loose_left (separated Comma spell_literal first others) (Closing ∷ []) listed))
+
+plain_group : (members : List Member) → list_all (λ one. is_plain_test one.test) members ≡ true → list_all is_plain_condition (meaning.group_of members) ≡ true
+plain_group [] e = refl
+plain_group (first ∷ others) e = hold_both _ _ (each_is_all (λ one. is_plain_test one.test) first others ∙ e) refl
+
 module _ (schema : Schema) (from : List ℕ) where
+  plain_members : (member : MemberText) → list_all is_loose (spell_member member) ≡ true
+      → list_all (λ one. is_plain_test one.test) (meaning.members_meant schema from member) ≡ true
+  plain_members member e =
+      all_flat (λ one. is_plain_test one.test) (λ meant. map (tested meant) (meaning.tests_of_member member)) (meaning.meanings schema from (meaning.member_column member))
+      (all_each (λ meant. list_all (λ one. is_plain_test one.test) (map (tested meant) (meaning.tests_of_member member))) (meaning.meanings schema from (meaning.member_column member))
+      (λ meant. list_all-map (λ one. is_plain_test one.test) (tested meant) (meaning.tests_of_member member) ∙ plain_tests member e))
+
   plain_conditions : (condition : ConditionText) → list_all is_loose (spell_condition condition) ≡ true → list_all is_plain_condition (meaning.conditions_of schema from condition) ≡ true
-  plain_conditions (Compares column operator literal) e =
-      let right : BothHold _ (list_all is_loose (spell_literal literal)) = both_hold _ _ (loose_right (spell_column column) _ e) in
-      list_all-map is_plain_condition (λ meant. compared meant operator (meaning.value_of_literal literal)) (meaning.meanings schema from column)
-      ∙ all_each (λ meant. is_plain (meaning.value_of_literal literal)) (meaning.meanings schema from column) (λ _. plain_literal literal right.other)
-  plain_conditions (TestsNull column negated) e =
-      list_all-map is_plain_condition (λ meant. OneOf (tested meant (meaning.null_test negated)) []) (meaning.meanings schema from column)
-      ∙ all_each (λ meant. is_plain_test (meaning.null_test negated)) (meaning.meanings schema from column) (λ _. plain_null negated)
+  plain_conditions (Alone member) e = plain_group (meaning.members_meant schema from member) (plain_members member e)
+  plain_conditions (AnyOf first second others) e =
+      let inside : list_all is_loose (separated (Word OrWord) spell_member first (second ∷ others)) ≡ true =
+      loose_left (separated (Word OrWord) spell_member first (second ∷ others)) (Closing ∷ []) (loose_right (Open ∷ []) (separated (Word OrWord) spell_member first (second ∷ others) ++ (Closing ∷ [])) e) in
+      plain_group (flat_map (meaning.members_meant schema from) (first ∷ second ∷ others))
+      (all_flat (λ one. is_plain_test one.test) (meaning.members_meant schema from) (first ∷ second ∷ others)
+      (all_weaker (λ member. list_all is_loose (spell_member member)) (λ member. list_all (λ one. is_plain_test one.test) (meaning.members_meant schema from member))
+      (first ∷ second ∷ others) plain_members (loose_separated (Word OrWord) spell_member first (second ∷ others) inside)))
   plain_conditions (LiesBetween column low high) e =
       let both : list_all is_loose (spell_literal low ++ (Word AndWord ∷ spell_literal high)) ≡ true = loose_right (spell_column column) _ e in
       let first : is_plain (meaning.value_of_literal low) ≡ true = plain_literal low (loose_left (spell_literal low) _ both) in
@@ -332,15 +365,32 @@ one_at_most : (b : Bool) (test : ColumnTest) (rest : List ColumnTest) → length
 one_at_most true test rest = omega arith
 one_at_most false test rest = omega arith
 
+all_at_most : (b : Bool) (tests : List ColumnTest) (most : ℕ) → length tests ≤ most → length ((if b then tests else []) ++ []) ≤ most
+all_at_most true tests most h = let same : length (tests ++ []) ≡ length tests = length-append tests [] ∙ omega arith in omega (arith, h, same)
+all_at_most false tests most h = omega arith
+
+as_many : (first : Member) (others : List Member) → length (map asks.column_test (members_of_group first others)) ≡ length (first ∷ others)
+as_many first [] = refl
+as_many first (next ∷ others) = let rest = as_many next others in omega (arith, rest)
+
 module _ (schema : Schema) (from : List ℕ) (table : ℕ) where
   few : (test : Test) (field : Field) (rest : List ColumnTest) → length (asks.test_of schema table (OneOf (tested field test) []) ++ rest) ≤ 1 + length rest
   few test field rest =
       one_at_most (field.table == table && is_visible schema table field.column) (record { column = field.column; test = test; more = false }) rest
 
-  few_of_one : (test : Test) (fields : List Field) → length fields ≤ 1 → length (flat_map (asks.test_of schema table) (map (λ meant. OneOf (tested meant test) []) fields)) ≤ 1
-  few_of_one test [] h = omega arith
-  few_of_one test (field ∷ []) h = few test field []
-  few_of_one test (field ∷ other ∷ rest) h = absurd (omega (arith, h))
+  few_of_group : (members : List Member) (most : ℕ) → length members ≤ most → length (flat_map (asks.test_of schema table) (meaning.group_of members)) ≤ most
+  few_of_group [] most h = omega arith
+  few_of_group (first ∷ others) most h =
+      let many : length (map asks.column_test (members_of_group first others)) ≡ length (first ∷ others) = as_many first others in
+      all_at_most (each_of (asks.is_shown schema table) first others) (map asks.column_test (members_of_group first others)) most (omega (arith, h, many))
+
+  few_of_meant : (tests : List Test) (fields : List Field) → length fields ≤ 1 → length (flat_map (λ meant. map (tested meant) tests) fields) ≤ length tests
+  few_of_meant tests [] h = omega arith
+  few_of_meant tests (field ∷ []) h =
+      let one : length (map (tested field) tests ++ []) ≡ length (map (tested field) tests) + 0 = length-append (map (tested field) tests) [] in
+      let same : length (map (tested field) tests) ≡ length tests = length-map tests (tested field) in
+      omega (arith, one, same)
+  few_of_meant tests (field ∷ other ∷ rest) h = absurd (omega (arith, h))
 
   few_of_two : (low high : Value) (fields : List Field) → length fields ≤ 1 → length (flat_map (asks.test_of schema table) (flat_map (λ meant. compared meant AtLeast low ∷ compared meant AtMost high ∷ []) fields)) ≤ 2
   few_of_two low high [] h = omega arith
@@ -367,11 +417,29 @@ module _ (schema : Schema) (from : List ℕ) (table : ℕ) where
   at_most_one : (column : ColumnText) → has_one column ≡ true → length (meaning.meanings schema from column) ≤ 1
   at_most_one column e = ltb-false 1 (length (meaning.meanings schema from column)) (not_false _ e)
 
+  few_members : (member : MemberText) → has_one (meaning.member_column member) ≡ true → length (meaning.members_meant schema from member) ≤ length (meaning.tests_of_member member)
+  few_members member e =
+      few_of_meant (meaning.tests_of_member member) (meaning.meanings schema from (meaning.member_column member)) (at_most_one (meaning.member_column member) e)
+
+  few_of_members : (members : List MemberText) → list_all (λ member. has_one (meaning.member_column member)) members ≡ true
+      → length (flat_map (meaning.members_meant schema from) members) ≤ sum_by (λ member. length (meaning.tests_of_member member)) members
+  few_of_members [] e = omega arith
+  few_of_members (member ∷ more) e =
+      let both : BothHold (has_one (meaning.member_column member)) (list_all (λ other. has_one (meaning.member_column other)) more) = both_hold _ _ e in
+      let here : List Member = meaning.members_meant schema from member in
+      let rest : List Member = flat_map (meaning.members_meant schema from) more in
+      let split : length (here ++ rest) ≡ length here + length rest = length-append here rest in
+      let total : sum_by (λ member. length (meaning.tests_of_member member)) (member ∷ more) ≡ length (meaning.tests_of_member member) + sum_by (λ member. length (meaning.tests_of_member member)) more =
+      sum_by-cons (λ member. length (meaning.tests_of_member member)) member more in
+      omega (arith, split, total, few_members member both.one, few_of_members more both.other)
+
   few_tests : (condition : ConditionText) → list_all has_one (meaning.condition_columns condition) ≡ true → length (flat_map (asks.test_of schema table) (meaning.conditions_of schema from condition)) ≤ meaning.literal_conditions condition
-  few_tests (Compares column operator literal) e =
-      few_of_one (Compared operator (meaning.value_of_literal literal)) (meaning.meanings schema from column) (at_most_one column (both_hold (has_one column) true e).one)
-  few_tests (TestsNull column negated) e =
-      few_of_one (meaning.null_test negated) (meaning.meanings schema from column) (at_most_one column (both_hold (has_one column) true e).one)
+  few_tests (Alone member) e =
+      few_of_group (meaning.members_meant schema from member) (length (meaning.tests_of_member member))
+      (few_members member (both_hold (has_one (meaning.member_column member)) true e).one)
+  few_tests (AnyOf first second others) e =
+      few_of_group (flat_map (meaning.members_meant schema from) (first ∷ second ∷ others)) (meaning.literal_conditions (AnyOf first second others))
+      (few_of_members (first ∷ second ∷ others) (sym (list_all-map has_one meaning.member_column (first ∷ second ∷ others)) ∙ e))
   few_tests (LiesBetween column low high) e =
       few_of_two (meaning.value_of_literal low) (meaning.value_of_literal high) (meaning.meanings schema from column) (at_most_one column (both_hold (has_one column) true e).one)
   few_tests (Joins left right) e =

@@ -19,11 +19,11 @@ use Rattle.std.proofs.lemmas.List.Sums.{sum_by-cons, sum_by-append}
 use Rattle.ghost_model.specs.core.Channel.{Catalog}
 use Rattle.ghost_model.specs.core.Split.{Hidden}
 use Rattle.ghost_model.specs.forms.Runs.{pages_of}
-use Rattle.ghost_model.specs.forms.Layout.{below, is_hidden, hidden_columns, width_at, count_of, levels_of, above_of, descendants_of, Structure, ColumnFile, SubtreeTable, ClimbingIndex, IdIndex, structures, files_pages, tables_of}
+use Rattle.ghost_model.specs.forms.Layout.{below, is_hidden, hidden_columns, width_at, count_of, levels_of, above_of, descendants_of, Structure, ColumnFile, SubtreeTable, ClimbingIndex, IdIndex, files_pages, tables_of}
 use Rattle.ghost_model.specs.laws.ShortWords.{structures_of, column_count}
 use Rattle.ghost_model.specs.laws.LayoutSums.{column_pages, columns_pages, directory_width, subtree_width}
 use Rattle.ghost_model.specs.forms.Flash.{hidden_cells, value_lists, id_lists, AreValues}
-use Rattle.ghost_model.specs.forms.Work.{value_count, with_value, values_among, values_at, levels_written, written_of, file_pages}
+use Rattle.ghost_model.specs.forms.Work.{value_count, with_value, values_among, values_at, levels_written, written_of}
 use Rattle.ghost_model.specs.laws.WorkLaws.{index_written, indexes_written, table_written, PagesAddUp, ValuesAreCounted}
 use Rattle.ghost_model.proofs.LayoutLemmas.Following as follow
 use Rattle.ghost_model.proofs.LayoutLemmas.Following.{one_file, some_width}

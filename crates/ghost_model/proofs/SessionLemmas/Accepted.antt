@@ -6,9 +6,9 @@ use Rattle.std.specs.List.{list_all, list_any}
 use Rattle.std.proofs.lemmas.Bool.{eqb-true, eq-eqb}
 use Rattle.ghost_model.specs.core.Schema.{Schema, Column, columns_of, column_at, places_where, is_table, is_shown, is_visible}
 use Rattle.ghost_model.specs.laws.SchemaTrees.{IsTree}
-use Rattle.ghost_model.specs.core.Query.{Query, Field, Member, Condition, OneOf, Join, tested, compared, AtMost, AtLeast, is_among, top_of}
-use Rattle.ghost_model.specs.refusals.QueryGrammar.{ColumnText, Bare, Qualified, ConditionText, Compares, TestsNull, LiesBetween, Joins, Selection, All, Columns, QueryText}
-use Rattle.ghost_model.specs.refusals.QueryMeaning.{field, value_of_literal, null_test, table_named, fields_named, fields_of, meanings, conditions_of, selected_fields, resolved, has_repeat, is_reference_to, is_proper, lacks_join, columns_in, Means}
+use Rattle.ghost_model.specs.core.Query.{Query, Field, Test, Member, Condition, OneOf, Join, tested, compared, AtMost, AtLeast, is_among, top_of}
+use Rattle.ghost_model.specs.refusals.QueryGrammar.{ColumnText, Bare, Qualified, MemberText, ConditionText, Alone, AnyOf, LiesBetween, Joins, Selection, All, Columns, QueryText}
+use Rattle.ghost_model.specs.refusals.QueryMeaning.{field, value_of_literal, table_named, fields_named, fields_of, meanings, tests_of_member, member_column, members_meant, group_of, conditions_of, is_of_one_table, selected_fields, resolved, has_repeat, is_reference_to, is_proper, lacks_join, columns_in, Means}
 use Rattle.ghost_model.specs.laws.ShortWords.{column_named}
 use Rattle.ghost_model.proofs.QueryReadingLemmas.{kept_rules}
 use Rattle.ghost_model.proofs.ChannelLemmas.Tests.{false_is_not, BothHold, both_hold}
@@ -59,26 +59,67 @@ module _ (schema : Schema) (from : List ℕ) where
       each_flat IsFrom (fields_named schema name) (filter (λ other. is_table other (table_named schema table)) from)
       (λ other h. named_from other (column_named schema other name) (from_filter (λ one. is_table one (table_named schema table)) other from h).0)
 
-  two_from : (fields : List Field) (f : Field → List Condition) → ((one : Field) → IsFrom one → Each ComparesFrom (f one)) → Each IsFrom fields → Each ComparesFrom (flat_map f fields)
-  two_from fields f h e = each_flat ComparesFrom f fields (λ one a. h one (each_is IsFrom one fields e a))
+  -- the first column of a group
+  BeginsFrom : Condition → Type 0
+  BeginsFrom (OneOf first others) = IsFrom first.field
+  BeginsFrom (Join one other) = Unit {0}
 
-  joins_from : (one : Field) (others : List Field) → Each ComparesFrom (map (Join one) others)
+  two_from : (fields : List Field) (f : Field → List Condition) → ((one : Field) → IsFrom one → Each BeginsFrom (f one)) → Each IsFrom fields → Each BeginsFrom (flat_map f fields)
+  two_from fields f h e = each_flat BeginsFrom f fields (λ one a. h one (each_is IsFrom one fields e a))
+
+  joins_from : (one : Field) (others : List Field) → Each BeginsFrom (map (Join one) others)
+  unfolding BeginsFrom
   joins_from one [] = tt
   joins_from one (other ∷ others) = (tt, joins_from one others)
 
-  conditions_from : (condition : ConditionText) → Each ComparesFrom (conditions_of schema from condition)
-  conditions_from (Compares column operator literal) =
-      each_mapped ComparesFrom IsFrom (λ meant. compared meant operator (value_of_literal literal)) (meanings schema from column) (λ one h. (h, tt)) (meanings_from column)
-  conditions_from (TestsNull column negated) =
-      each_mapped ComparesFrom IsFrom (λ meant. OneOf (tested meant (null_test negated)) []) (meanings schema from column) (λ one h. (h, tt)) (meanings_from column)
+  tests_from : (one : Field) → IsFrom one → (tests : List Test) → Each (λ (member : Member). IsFrom member.field) (map (tested one) tests)
+  tests_from one h [] = tt
+  tests_from one h (test ∷ tests) = (h, tests_from one h tests)
+
+  members_from : (member : MemberText) → Each (λ (one : Member). IsFrom one.field) (members_meant schema from member)
+  members_from member =
+      each_flat (λ (one : Member). IsFrom one.field) (λ meant. map (tested meant) (tests_of_member member)) (meanings schema from (member_column member))
+      (λ meant a. tests_from meant (each_is IsFrom meant (meanings schema from (member_column member)) (meanings_from (member_column member)) a) (tests_of_member member))
+
+  group_from : (members : List Member) → Each (λ (one : Member). IsFrom one.field) members → Each BeginsFrom (group_of members)
+  unfolding BeginsFrom
+  group_from [] e = tt
+  group_from (first ∷ others) e = (e.0, tt)
+
+  conditions_from : (condition : ConditionText) → Each BeginsFrom (conditions_of schema from condition)
+  unfolding BeginsFrom
+  conditions_from (Alone member) = group_from (members_meant schema from member) (members_from member)
+  conditions_from (AnyOf first second others) =
+      group_from (flat_map (members_meant schema from) (first ∷ second ∷ others))
+      (each_flat (λ (one : Member). IsFrom one.field) (members_meant schema from) (first ∷ second ∷ others) (λ member a. members_from member))
   conditions_from (LiesBetween column low high) =
-      two_from (meanings schema from column) (λ meant. compared meant AtLeast (value_of_literal low) ∷ compared meant AtMost (value_of_literal high) ∷ []) (λ one h. ((h, tt), ((h, tt), tt))) (meanings_from column)
+      two_from (meanings schema from column) (λ meant. compared meant AtLeast (value_of_literal low) ∷ compared meant AtMost (value_of_literal high) ∷ []) (λ one h. (h, (h, tt))) (meanings_from column)
   conditions_from (Joins left right) =
-      each_flat ComparesFrom (λ meant. map (Join meant) (meanings schema from right)) (meanings schema from left)
+      each_flat BeginsFrom (λ meant. map (Join meant) (meanings schema from right)) (meanings schema from left)
       (λ one a. joins_from one (meanings schema from right))
 
-  all_conditions_from : (conditions : List ConditionText) → Each ComparesFrom (flat_map (conditions_of schema from) conditions)
-  all_conditions_from conditions = each_flat ComparesFrom (conditions_of schema from) conditions (λ condition a. conditions_from condition)
+  same_tables : (table : ℕ) (others : List Member) → list_all (λ one. one.field.table == table) others ≡ true → Each (λ (one : Member). one.field.table ≡ table) others
+  same_tables table [] h = tt
+  same_tables table (one ∷ others) h =
+      let both : BothHold (one.field.table == table) (list_all (λ other. other.field.table == table) others) = both_hold _ _ h in
+      (eqb-true one.field.table table both.one, same_tables table others both.other)
+
+  compares_from : (condition : Condition) → BeginsFrom condition → is_of_one_table condition ≡ true → ComparesFrom condition
+  unfolding BeginsFrom
+  compares_from (OneOf first others) e h = (e, same_tables first.field.table others h)
+  compares_from (Join one other) e h = tt
+
+  each_compares : (conditions : List Condition) → Each BeginsFrom conditions → list_all is_of_one_table conditions ≡ true → Each ComparesFrom conditions
+  each_compares [] e h = tt
+  each_compares (condition ∷ conditions) e h =
+      let both : BothHold (is_of_one_table condition) (list_all is_of_one_table conditions) = both_hold _ _ h in
+      (compares_from condition e.0 both.one, each_compares conditions e.1 both.other)
+
+  all_conditions_from : (conditions : List ConditionText) → list_all is_of_one_table (flat_map (conditions_of schema from) conditions) ≡ true
+      → Each ComparesFrom (flat_map (conditions_of schema from) conditions)
+  all_conditions_from conditions h =
+      each_compares (flat_map (conditions_of schema from) conditions)
+      (each_flat BeginsFrom (conditions_of schema from) conditions (λ condition a. conditions_from condition)) h
 
   fields_from : (table : ℕ) (columns : List ℕ) → Among table from → Each IsFrom (map (field table) columns)
   fields_from table [] h = tt
@@ -154,10 +195,11 @@ pub record IsSound (schema : Schema) (asked : Query) : Type 0 where
   pub chosen : Each (IsFrom schema asked.from) asked.select
 
 sound_tree : (schema : Schema) (tree : IsTree schema) (text : QueryText)
-    → has_repeat (resolved schema text).from ≡ false → list_all (is_proper schema) (resolved schema text).conditions ≡ true → IsSound schema (resolved schema text)
-sound_tree schema tree text once proper = record {
+    → has_repeat (resolved schema text).from ≡ false → list_all (is_proper schema) (resolved schema text).conditions ≡ true
+    → list_all is_of_one_table (resolved schema text).conditions ≡ true → IsSound schema (resolved schema text)
+sound_tree schema tree text once proper one_table = record {
   distinct = no_repeat (resolved schema text).from once;
-  compared = all_conditions_from schema (resolved schema text).from text.conditions;
+  compared = all_conditions_from schema (resolved schema text).from text.conditions one_table;
   joined = joins_unseen schema tree (resolved schema text).conditions proper;
   chosen = selected_from schema (resolved schema text).from text.selection;
 }
@@ -169,4 +211,4 @@ query_is_sound schema text asked tree means =
     let once = neither_true (has_repeat it.from) (list_any (λ column. nat_lt 1 (length (meanings schema it.from column))) (columns_in means.tree)) kept.one_meaning in
     let joined = neither_true (not (list_all (is_proper schema) it.conditions) || is_none (top_of schema it)) (list_any (lacks_join schema it) it.from) kept.linked in
     let proper = neither_true (not (list_all (is_proper schema) it.conditions)) (is_none (top_of schema it)) joined.0 in
-    subst (λ (q : Query). IsSound schema q) (sym means.means) (sound_tree schema tree means.tree once.0 (not_false _ proper.0))
+    subst (λ (q : Query). IsSound schema q) (sym means.means) (sound_tree schema tree means.tree once.0 (not_false _ proper.0) kept.of_one_table)

@@ -11,7 +11,6 @@ use Rattle.ghost_model.specs.forms.Catalog.{catalog_bytes}
 use Rattle.ghost_model.specs.core.Database.{rows_of, row_counts, IsDatabase}
 use Rattle.ghost_model.specs.forms.Frames.{AreBytes, frame_bytes}
 use Rattle.ghost_model.specs.core.Asks.{NumberedAsk, RowCells, is_proper_ask, kinds_of}
-use Rattle.ghost_model.specs.core.NextMove as next
 use Rattle.ghost_model.specs.core.NextMove.{Heard, EndedAsk, ask_next, heard, hear_all, at_first, rows_fit}
 use Rattle.ghost_model.specs.core.Split.{Public, public_of, reply_rows, visible_rows}
 use Rattle.ghost_model.specs.core.Host.{welcomes_of, rows_frame}

@@ -1,10 +1,8 @@
 -- That the rows that meet an ask may be sent in any packing, and are read back.
-use Rattle.std.proofs.Common.{◌≡◌, ℕ, zero, suc, ◌+◌, ◌*◌, ◌<◌, ◌≤◌, ◌^◌, true, false, ◌&&◌, List, [], ◌∷◌, ◌++◌, length, map, drop, sym, ◌∙◌, ap, subst, refl, arith, lit<, length-append, Option, Some, None, slice_get, unwrap_or}
+use Rattle.std.proofs.Common.{◌≡◌, ℕ, zero, suc, ◌+◌, ◌*◌, ◌<◌, ◌≤◌, ◌^◌, true, false, ◌&&◌, List, [], ◌∷◌, ◌++◌, length, map, drop, sym, ◌∙◌, ap, subst, refl, arith, lit<, length-append, Option, Some, slice_get, unwrap_or}
 use Rattle.std.specs.Prelude.{nat_lt, nat_le, flat_map, if◌then◌else◌, sum, slice_index, All, option_to_list, option_and_then, is_some}
 use Rattle.std.specs.List.{list_all}
 use Rattle.std.specs.Int.{to_be_bytes, w32}
-use Rattle.std.proofs.lemmas.Option.{slice_get-map}
-use Rattle.std.specs.Option.{option_map}
 use Rattle.std.proofs.lemmas.List.Sums.{sum_by-cons}
 use Rattle.std.proofs.lemmas.List.{length-map}
 use Rattle.std.proofs.lemmas.Bool.{lt-ltb, le-leb, ltb-true, leb-true}
@@ -14,7 +12,7 @@ use Rattle.ghost_model.specs.core.Values.{Value, Text, Row, Rows, Database}
 use Rattle.ghost_model.specs.core.Query.{Query}
 use Rattle.ghost_model.specs.core.Channel.{Catalog, count_of, Ask}
 use Rattle.ghost_model.specs.core.Database.{is_of_kind, rows_of, row_counts, IsDatabase}
-use Rattle.ghost_model.specs.laws.ShortWords.{rows_or_none, reply_row}
+use Rattle.ghost_model.specs.laws.ShortWords.{reply_row}
 use Rattle.ghost_model.specs.forms.Cells.{cell_width, encode_cell}
 use Rattle.ghost_model.specs.readings.CellReading.{decode_cell}
 use Rattle.ghost_model.specs.forms.Frames.{AreBytes, most_payload}
@@ -25,7 +23,6 @@ use Rattle.ghost_model.specs.core.Split.{cells, are_of_kinds, value_at, asked_va
 use Rattle.ghost_model.proofs.MeaningLemmas.PartsByFlags.{visible_rows_at}
 use Rattle.ghost_model.specs.core.Honest.{fits_frame}
 use Rattle.ghost_model.specs.laws.HostLaws.{AreGroups}
-use Rattle.ghost_model.specs.core.NextMove as next
 use Rattle.ghost_model.specs.core.Replies.{values_in}
 use Rattle.ghost_model.proofs.ChannelLemmas.Tests.{false_is_not, BothHold, both_hold, hold_both, take_front, drop_front}
 use Rattle.ghost_model.proofs.ChannelLemmas.Asks.{cell_is_read, cell_length}

@@ -1,18 +1,18 @@
 -- What follows of a catalog that both sides may share: the asks of 64 texts have serials of four bytes, and the tables of its
 -- database have numbers of rows of four bytes.
-use Rattle.std.proofs.Common.{◌≡◌, ℕ, zero, suc, ◌+◌, ◌*◌, ◌<◌, ◌≤◌, ◌^◌, true, List, [], ◌∷◌, ◌++◌, length, map, filter, Result, Ok, Err, slice_get, sym, ◌∙◌, ap, subst, refl, arith, length-append}
+use Rattle.std.proofs.Common.{◌≡◌, ℕ, zero, suc, ◌+◌, ◌*◌, ◌<◌, ◌≤◌, ◌^◌, true, List, [], ◌∷◌, length, map, filter, Result, Ok, Err, sym, ap, subst, refl, arith, length-append}
 use Rattle.std.specs.Prelude.{nat_le}
 use Rattle.std.specs.List.{list_all}
 use Rattle.std.proofs.lemmas.Bool.{and_parts, leb-true}
 use Rattle.std.proofs.lemmas.List.{length-map}
 use Rattle.ghost_model.specs.core.Schema.{Schema, places_from, places_of}
-use Rattle.ghost_model.specs.core.Values.{Rows, Database}
+use Rattle.ghost_model.specs.core.Values.{Database}
 use Rattle.ghost_model.specs.core.Database.{row_count, row_counts}
-use Rattle.ghost_model.specs.laws.ShortWords.{rows_or_none, is_from}
+use Rattle.ghost_model.specs.laws.ShortWords.{is_from}
 use Rattle.ghost_model.specs.refusals.LoadFaults.{most_rows}
 use Rattle.ghost_model.specs.core.Query.{Query}
 use Rattle.ghost_model.specs.readings.QueryReading.{reading}
-use Rattle.ghost_model.specs.core.Channel.{Catalog, Ask}
+use Rattle.ghost_model.specs.core.Channel.{Catalog}
 use Rattle.ghost_model.specs.forms.Catalog.{IsCatalog, canonical_text, catalog_bytes}
 use Rattle.ghost_model.specs.forms.Frames.{AreBytes}
 use Rattle.ghost_model.specs.core.Asks.{asked, asked_from, asked_of, ask_for, asks_of, asks_of_reading, is_needed}

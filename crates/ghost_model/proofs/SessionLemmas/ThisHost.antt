@@ -1,7 +1,7 @@
 -- That what this host sends is what an honest host sends.
 use Rattle.std.proofs.Common.{◌≡◌, ℕ, zero, suc, ◌+◌, ◌*◌, ◌/◌, ◌<◌, ◌≤◌, nat_lt, nat_le, ◌&&◌, true, false, List, [], ◌∷◌, ◌++◌, length, map, sym, ◌∙◌, ap, subst, refl, arith, append-nil, append_assoc, Option, Some, None}
-use Rattle.std.specs.Prelude.{flat_map, filter_map, option_to_list, All}
-use Rattle.std.specs.List.{list_any, list_all, concat, cons_option}
+use Rattle.std.specs.Prelude.{flat_map, option_to_list, All}
+use Rattle.std.specs.List.{list_any, list_all, concat}
 use Rattle.std.proofs.lemmas.Bool.{lt-ltb, le-leb}
 use Rattle.std.proofs.lemmas.Grind.{flat_map-append}
 use Rattle.std.proofs.lemmas.Nat.{le-div}

@@ -7,7 +7,7 @@ use Rattle.std.specs.Fmt.{signed_decimal}
 use Rattle.ghost_model.specs.core.Schema.{Schema}
 use Rattle.ghost_model.specs.core.Values.{Value, Null, Number, Text, Row, Database}
 use Rattle.ghost_model.specs.core.Query.{Query}
-use Rattle.ghost_model.specs.refusals.QueryMeaning.{Refusal, Syntax, Limit, UnknownTable, UnknownColumn, Ambiguous, KindMismatch, BadLiteral, NotLinked}
+use Rattle.ghost_model.specs.refusals.QueryMeaning.{Refusal, Syntax, Limit, UnknownTable, UnknownColumn, Ambiguous, KindMismatch, BadLiteral, NotLinked, MixedTables}
 use Rattle.ghost_model.specs.readings.QueryReading.{reading}
 use Rattle.ghost_model.specs.core.Meaning.{answer}
 
@@ -36,6 +36,7 @@ refusal_word Ambiguous = codes "ambiguous"
 refusal_word KindMismatch = codes "kind"
 refusal_word BadLiteral = codes "literal"
 refusal_word NotLinked = codes "unlinked"
+refusal_word MixedTables = codes "mixed"
 
 abbrev pub refusal_line : (number : ℕ) → Refusal → List ℕ
 refusal_line number refusal = word_line number (refusal_word refusal)

@@ -1,17 +1,17 @@
 -- Groups of lists, and queries whose conditions are groups: over the clinic, and over notes whose columns may be NULL.
-use Rattle.std.specs.Prelude.{◌≡◌, ℕ, Bool, true, false, nat_le, nat_lt, List, [], ◌∷◌, codes, map, None}
+use Rattle.std.specs.Prelude.{◌≡◌, ℕ, Bool, true, false, nat_le, nat_lt, List, [], ◌∷◌, ◌++◌, codes, map, None}
 use Rattle.hex.specs.Hex.{encode_lower}
 use Rattle.ghost_model.specs.core.Schema.{Schema, CharsOrNull}
 use Rattle.ghost_model.specs.core.Values.{Null, Text, Row, Database}
 use Rattle.ghost_model.specs.core.Groups.{groups_of, each_group, ends}
 use Rattle.ghost_model.specs.core.Query.{Query, Field, Test, Compared, IsNull, IsNotNull, Condition, OneOf, Join, tested, compared, Equal, Unequal, More, AtLeast}
-use Rattle.ghost_model.specs.core.Channel.{Ask}
-use Rattle.ghost_model.specs.core.Asks.{asks_of, ask_payload}
+use Rattle.ghost_model.specs.core.Channel.{Ask, AskFrame}
+use Rattle.ghost_model.specs.core.Asks.{asked_of, asks_of, ask_payload}
 use Rattle.ghost_model.specs.core.Meaning.{answer}
 use Rattle.ghost_model.specs.core.Split.{public_of, hidden_of, visible_rows}
 use Rattle.ghost_model.specs.core.Replies.{Reply, answer_from}
 use Rattle.ghost_model.specs.forms.QueryWork.{condition_work}
-use Rattle.ghost_model.specs.examples.Channel.{field, payloads}
+use Rattle.ghost_model.specs.examples.Channel.{field, payloads, spelled}
 use Rattle.ghost_model.specs.examples.Clinic.{number, id_column, clinic_schema, clinic}
 
 -- a number from 10 on says that the next one is of its group
@@ -157,3 +157,30 @@ pub record TruthOfGroups : Type 0 where
   pub work_of_unequal : work_of_body (Compared Unequal (Text (codes "x"))) ≡ 168
   pub work_of_null : work_of_body IsNull ≡ 104
   pub work_of_all_but_null : work_of_body IsNotNull ≡ 216
+
+-- the frames that are sent for a text over a schema, the first of a script
+abbrev pub frames_asked : Schema → (text : List ℕ) → List (List ℕ)
+frames_asked schema text = map (λ one. spelled (AskFrame 1 (ask_payload schema one.ask))) (asked_of schema (text ∷ []))
+
+abbrev pub visits_asked : (conditions : List ℕ) → List (List ℕ)
+visits_asked conditions = frames_asked clinic_schema (codes "SELECT visit.id FROM visit WHERE " ++ conditions)
+
+abbrev pub notes_asked : (conditions : List ℕ) → List (List ℕ)
+notes_asked conditions = frames_asked nullable_notes_schema (codes "SELECT id FROM note WHERE " ++ conditions)
+
+-- what is asked for texts with groups: a group of visible columns alone is sent, of a mixed one the visible columns are asked
+pub record AsksOfGroups : Type 0 where
+  pub a_mixed_group : visits_asked (codes "(day = 9 OR purpose = 'check')") ≡ codes "020200040000000102010100" ∷ []
+  pub a_visible_list : visits_asked (codes "day IN (2, 9)")
+      ≡ codes "02020017000000010200020181800000000000000201018000000000000009" ∷ []
+  pub a_hidden_list : frames_asked clinic_schema (codes "SELECT visit.id FROM visit, doctor WHERE doc = doctor.id AND country IN ('FR', 'DE')") ≡ []
+  pub keys_and_identifiers : frames_asked clinic_schema (codes "SELECT visit.id FROM visit, doctor WHERE doc = doctor.id AND (doc = 1 OR pat = 2)") ≡ []
+  pub a_refused_group : frames_asked clinic_schema (codes "SELECT visit.id FROM visit, doctor WHERE doc = doctor.id AND (day = 9 OR country = 'FR')") ≡ []
+  pub an_identifier_and_a_visible_column : notes_asked (codes "(id = 1 OR topic = 'a')") ≡ codes "020200040000000100010100" ∷ []
+  pub a_value_or_null : notes_asked (codes "(topic = 'a' OR body IS NULL)") ≡ codes "020200040000000100010100" ∷ []
+  pub a_comparison : frames_asked nullable_notes_schema (codes "SELECT id, body FROM note WHERE topic = 'a'") ≡ codes "0202000900000001000001010161000000" ∷ []
+  pub null : frames_asked nullable_notes_schema (codes "SELECT id, topic FROM note WHERE body IS NOT NULL AND topic IS NULL")
+      ≡ codes "0202000600000001000101010107" ∷ []
+  pub unequal : notes_asked (codes "topic <> 'a'") ≡ codes "0202000900000001000001010261000000" ∷ []
+  pub a_list_in_a_group : notes_asked (codes "(topic IS NULL OR topic IN ('a','b') OR topic IS NOT NULL)")
+      ≡ codes "020200130000000100000401870181610000000181620000000108" ∷ []

@@ -8,6 +8,7 @@ use Rattle.ghost_model.specs.core.Split.{RowValues, public_of, hidden_of, rejoin
 use Rattle.ghost_model.specs.core.Printed.{printed, row_line}
 use Rattle.ghost_model.specs.examples.Clinic.{number, clinic_schema, clinic, clinic_catalog, note_schema, notes}
 use Rattle.ghost_model.specs.examples.Databases.{lines}
+use Rattle.ghost_model.specs.examples.Groups.{nullable_notes_schema, nullable_notes}
 
 abbrev pub one : Value → Row
 one value = value ∷ []
@@ -122,6 +123,44 @@ pub record AnswersOfTheClinic : Type 0 where
       printed note_schema (codes "SELECT body FROM note WHERE topic = 'a'" ∷ codes "SELECT id FROM note" ∷ []) notes
       ≡ lines (codes "> x" ∷ codes "> z" ∷ codes "= 1 2" ∷ codes "> 1" ∷ codes "> 2" ∷ codes "> 3" ∷ codes "= 2 3" ∷ [])
 
+-- the visits under what stands behind WHERE, alone and with their doctors
+abbrev pub visits_where : (conditions : List ℕ) → List ℕ
+visits_where conditions = codes "SELECT visit.id FROM visit WHERE " ++ conditions
+
+abbrev pub doctors_where : (conditions : List ℕ) → List ℕ
+doctors_where conditions = codes "SELECT visit.id FROM visit, doctor WHERE doc = doctor.id AND " ++ conditions
+
+-- what a text over notes that may have NULL prints
+abbrev pub on_notes : (text : List ℕ) → List ℕ
+on_notes text = printed nullable_notes_schema (text ∷ []) nullable_notes
+
+-- what texts with groups of conditions and with tests of NULL print
+pub record AnswersOfGroups : Type 0 where
+  pub a_mixed_group : on_clinic (visits_where (codes "(day = 9 OR purpose = 'check')") ∷ [])
+      ≡ lines (codes "> 2" ∷ codes "> 3" ∷ codes "= 1 2" ∷ [])
+  pub a_visible_list : on_clinic (visits_where (codes "day IN (2, 9)") ∷ [])
+      ≡ lines (codes "> 3" ∷ codes "> 4" ∷ codes "= 1 2" ∷ [])
+  pub a_hidden_list : on_clinic (doctors_where (codes "country IN ('FR', 'DE')") ∷ [])
+      ≡ lines (codes "> 1" ∷ codes "= 1 1" ∷ [])
+  pub a_group_below : on_clinic (doctors_where (codes "(doctor.id = 1 OR country = 'ES')") ∷ [])
+      ≡ lines (codes "> 1" ∷ codes "> 2" ∷ codes "> 3" ∷ codes "> 4" ∷ codes "= 1 4" ∷ [])
+  pub a_group_of_two_keys : on_clinic (doctors_where (codes "(doc = 1 OR pat = 2)") ∷ [])
+      ≡ lines (codes "> 1" ∷ codes "> 2" ∷ codes "> 4" ∷ codes "= 1 3" ∷ [])
+  pub two_groups : on_clinic (visits_where (codes "(day = 9 OR purpose = 'check') AND id IN (1, 3)") ∷ [])
+      ≡ lines (codes "> 3" ∷ codes "= 1 1" ∷ [])
+  pub null_is_an_empty_field : on_notes (codes "SELECT id, body FROM note WHERE topic = 'a'")
+      ≡ lines (tabbed (codes "1") (codes "x") ∷ tabbed (codes "3") [] ∷ codes "= 1 2" ∷ [])
+  pub tests_of_null : on_notes (codes "SELECT id, topic FROM note WHERE body IS NOT NULL AND topic IS NULL")
+      ≡ lines (tabbed (codes "2") [] ∷ codes "= 1 1" ∷ [])
+  pub null_is_not_unequal : on_notes (codes "SELECT id FROM note WHERE body <> 'x'")
+      ≡ lines (codes "> 2" ∷ codes "> 4" ∷ codes "= 1 2" ∷ [])
+  pub a_value_or_null : on_notes (codes "SELECT id FROM note WHERE (topic = 'a' OR body IS NULL)")
+      ≡ lines (codes "> 1" ∷ codes "> 3" ∷ codes "= 1 2" ∷ [])
+  pub unequal_or_null : on_notes (codes "SELECT id FROM note WHERE (body <> 'x' OR body IS NULL)")
+      ≡ lines (codes "> 2" ∷ codes "> 3" ∷ codes "> 4" ∷ codes "= 1 3" ∷ [])
+  pub each_note : on_notes (codes "SELECT id FROM note WHERE (topic IS NULL OR topic IN ('a','b') OR topic IS NOT NULL)")
+      ≡ lines (codes "> 1" ∷ codes "> 2" ∷ codes "> 3" ∷ codes "> 4" ∷ codes "= 1 4" ∷ [])
+
 -- one text for each refusal
 abbrev pub refused : List (List ℕ)
 refused =
@@ -132,12 +171,14 @@ refused =
     ∷ codes "SELECT age FROM patient WHERE age = 'x'"
     ∷ codes "SELECT age FROM patient WHERE age = 9223372036854775808"
     ∷ codes "SELECT id FROM a, a, a, a, a, a, a, a, a, a, a, a, a"
+    ∷ codes "SELECT visit.id FROM visit, doctor"
+    ∷ doctors_where (codes "(day = 9 OR country = 'FR')")
     ∷ []
 
 pub record RefusedTexts : Type 0 where
   pub each : on_clinic refused
       ≡ lines (codes "! 1 syntax 11" ∷ codes "! 2 table" ∷ codes "! 3 column" ∷ codes "! 4 ambiguous" ∷ codes "! 5 kind"
-      ∷ codes "! 6 literal" ∷ codes "! 7 limit" ∷ [])
+      ∷ codes "! 6 literal" ∷ codes "! 7 limit" ∷ codes "! 8 unlinked" ∷ codes "! 9 mixed" ∷ [])
 
 -- lines of single rows
 pub record LinesOfRows : Type 0 where

@@ -1,13 +1,14 @@
 -- What telling query texts mean over the clinic's schema and over notes, and why others are refused.
-use Rattle.std.specs.Prelude.{◌≡◌, ℕ, negsuc, List, [], ◌∷◌, ◌++◌, replicate, codes, Some, None, Result, Ok, Err}
+use Rattle.std.specs.Prelude.{◌≡◌, ℕ, negsuc, List, [], ◌∷◌, ◌++◌, map, replicate, codes, Some, None, Result, Ok, Err}
+use Rattle.std.specs.List.{range_with_len}
 use Rattle.ghost_model.specs.core.Values.{Number, Text}
-use Rattle.ghost_model.specs.core.Query.{Field, IsNull, IsNotNull, Condition, Query, Equal, Unequal, Less, AtMost, More, AtLeast, compared, Join, top_of}
+use Rattle.ghost_model.specs.core.Query.{Field, Compared, IsNull, IsNotNull, Member, Condition, OneOf, Query, Equal, Unequal, Less, AtMost, More, AtLeast, tested, compared, Join, top_of}
 use Rattle.ghost_model.specs.refusals.Grammar.{IsSyntaxFault}
 use Rattle.ghost_model.specs.refusals.QueryGrammar.{spelling}
-use Rattle.ghost_model.specs.refusals.QueryMeaning.{Refusal, Syntax, Limit, UnknownTable, UnknownColumn, Ambiguous, KindMismatch, BadLiteral, NotLinked, field, Means, IsRefused}
+use Rattle.ghost_model.specs.refusals.QueryMeaning.{Refusal, Syntax, Limit, UnknownTable, UnknownColumn, Ambiguous, KindMismatch, BadLiteral, NotLinked, MixedTables, field, Means, IsRefused}
 use Rattle.ghost_model.specs.readings.QueryReading.{reading}
 use Rattle.ghost_model.specs.examples.Clinic.{clinic_schema, note_schema, number}
-use Rattle.ghost_model.specs.examples.Groups.{alone, nullable_notes_schema}
+use Rattle.ghost_model.specs.examples.Groups.{alone, either, is_number, nullable_notes_schema, notes_where, topic_or_body, any_topic, mixed_query, days_query, two_groups_query, doctors_query, two_countries, number_or_country}
 
 abbrev pub reads : List ℕ → Result Query Refusal
 reads text = reading clinic_schema text
@@ -15,7 +16,7 @@ reads text = reading clinic_schema text
 abbrev pub query : List ℕ → List Field → List Condition → Query
 query from select conditions = record { from = from; select = select; conditions = conditions }
 
--- one refused text for each rule of the names and the literals
+-- one refused text for the grammar and for each rule but the limits
 pub record OneRefusalEach : Type 0 where
   pub syntax : reads (codes "SELECT age patient") ≡ Err (Syntax 11)
   pub table : reads (codes "SELECT x FROM nowhere") ≡ Err UnknownTable
@@ -23,6 +24,8 @@ pub record OneRefusalEach : Type 0 where
   pub ambiguous : reads (codes "SELECT id FROM visit, doctor") ≡ Err Ambiguous
   pub kind : reads (codes "SELECT age FROM patient WHERE age = 'x'") ≡ Err KindMismatch
   pub literal : reads (codes "SELECT age FROM patient WHERE age = 9223372036854775808") ≡ Err BadLiteral
+  pub unlinked : reads (codes "SELECT age FROM patient, doctor") ≡ Err NotLinked
+  pub mixed : reads (codes "SELECT visit.id FROM visit, doctor WHERE doc = doctor.id AND (day = 9 OR country = 'FR')") ≡ Err MixedTables
 
 -- what the texts mean that the clinic is asked most
 pub record ClinicQueries : Type 0 where
@@ -56,10 +59,13 @@ pub record RelationsOfQueries : Type 0 where
   pub not_refused : IsRefused clinic_schema (codes "SELECT age FROM patient") Limit → ⊥
   pub refused_by_the_first_rule : IsRefused clinic_schema (codes "SELECT x, nowhere.id FROM visit") UnknownTable
   pub not_by_a_later_rule : IsRefused clinic_schema (codes "SELECT x, nowhere.id FROM visit") UnknownColumn → ⊥
+  pub refused_by_the_last_rule : IsRefused clinic_schema (codes "SELECT visit.id FROM visit, doctor WHERE doc = doctor.id AND (day = 9 OR specialty = 'x')") MixedTables
+  pub not_by_the_last_rule : IsRefused clinic_schema (codes "SELECT visit.id FROM visit, doctor WHERE (day = 9 OR specialty = 'x')") MixedTables → ⊥
   pub a_syntax_fault : IsSyntaxFault spelling (codes "SELECT age patient") 11
   pub at_no_other_token : IsSyntaxFault spelling (codes "SELECT age patient") 7 → ⊥
   pub at_no_other_byte : IsSyntaxFault spelling (codes "SELECT age patient") 12 → ⊥
   pub at_the_end : IsSyntaxFault spelling (codes "SELECT age FROM  ") 17
+  pub inside_a_group : IsSyntaxFault spelling (codes "SELECT age FROM patient WHERE (age = 1 AND id = 2)") 39
   pub no_syntax_fault : IsSyntaxFault spelling (codes "SELECT age FROM patient") 23 → ⊥
 
 -- one meaning may be spelled in several ways
@@ -127,6 +133,76 @@ pub record TestsOfNull : Type 0 where
       ≡ Err Limit
   pub sixteen : reads_notes (codes "SELECT id FROM note WHERE id IS NULL AND id IS NULL AND id IS NULL AND id IS NULL AND id IS NULL AND id IS NULL AND id IS NULL AND id IS NULL AND id IS NULL AND id IS NULL AND id IS NULL AND id IS NULL AND id IS NULL AND id IS NULL AND id IS NULL AND id IS NULL")
       ≡ Ok (notes_under (replicate 16 (alone (field 0 0) IsNull)))
+
+-- a text over the notes that selects the identifiers under what stands behind WHERE
+abbrev pub reads_notes_where : List ℕ → Result Query Refusal
+reads_notes_where conditions = reads_notes (codes "SELECT id FROM note WHERE " ++ conditions)
+
+abbrev pub number_is : (column wanted : ℕ) → Member
+number_is column wanted = tested (field 0 column) (Compared Equal (number wanted))
+
+-- what IN and OR mean, and what their limits count
+pub record GroupsOfTexts : Type 0 where
+  pub a_value_or_null : reads_notes_where (codes "(topic = 'a' OR body IS NULL)") ≡ Ok (notes_where topic_or_body)
+  pub a_list_of_one : reads_notes_where (codes "topic IN ('a')") ≡ Ok (notes_under (compared (field 0 1) Equal (Text (codes "a")) ∷ []))
+  pub a_list : reads_notes_where (codes "id IN (7, -8, +7)")
+      ≡ Ok (notes_under (OneOf (number_is 0 7) (tested (field 0 0) (Compared Equal (Number (negsuc 7))) ∷ number_is 0 7 ∷ []) ∷ []))
+  pub a_list_in_a_group : reads_notes_where (codes "(topic IS NULL OR topic IN ('a','b') OR topic IS NOT NULL)") ≡ Ok (notes_where any_topic)
+  pub lists_alone_in_a_group : reads_notes_where (codes "(id IN (1, 2) OR note.id IN (3))")
+      ≡ Ok (notes_under (OneOf (number_is 0 1) (number_is 0 2 ∷ number_is 0 3 ∷ []) ∷ []))
+  pub words_without_case : reads_notes_where (codes "(Id iN (1) oR ID Is nOt Null)")
+      ≡ Ok (notes_under (OneOf (number_is 0 1) (tested (field 0 0) IsNotNull ∷ []) ∷ []))
+  pub no_space_where_none_is_needed : reads_notes_where (codes "id IN(1)AND(id>2OR id<1)AND id=4")
+      ≡ Ok (notes_under
+      (compared (field 0 0) Equal (number 1) ∷ either (field 0 0) (Compared More (number 2)) (field 0 0) (Compared Less (number 1))
+      ∷ compared (field 0 0) Equal (number 4) ∷ []))
+  pub a_mixed_group : reads (codes "SELECT visit.id FROM visit WHERE (day = 9 OR purpose = 'check')") ≡ Ok mixed_query
+  pub days : reads (codes "SELECT visit.id FROM visit WHERE day IN (2, 9)") ≡ Ok days_query
+  pub two_groups : reads (codes "SELECT visit.id FROM visit WHERE day IN (9, 2) AND day >= 2") ≡ Ok two_groups_query
+  pub countries : reads (codes "SELECT visit.id FROM visit, doctor WHERE doc = doctor.id AND country IN ('FR', 'DE')")
+      ≡ Ok (doctors_query two_countries)
+  pub below_the_top_table : reads (codes "SELECT visit.id FROM visit, doctor WHERE doc = doctor.id AND (doctor.id = 1 OR country = 'ES')")
+      ≡ Ok (doctors_query number_or_country)
+  pub two_keys : reads (codes "SELECT visit.id FROM visit, doctor WHERE doc = doctor.id AND (doc = 1 OR pat = 2)")
+      ≡ Ok (doctors_query (either (field 2 3) (is_number 1) (field 2 4) (is_number 2)))
+  pub each_literal_has_its_kind : reads_notes_where (codes "topic IN ('abcde', 1)") ≡ Err KindMismatch
+  pub each_literal_is_short : reads_notes_where (codes "topic IN ('a', 'abcde')") ≡ Err BadLiteral
+  pub each_member_has_its_column : reads_notes_where (codes "(id = 1 OR x IN (1))") ≡ Err UnknownColumn
+  pub sixteen_in_a_list : reads_notes_where (codes "id IN (1, 2, 3, 4, 5, 6, 7, 8, 9, 10, 11, 12, 13, 14, 15, 16)")
+      ≡ Ok (notes_under (OneOf (number_is 0 1) (map (number_is 0) (range_with_len 2 15)) ∷ []))
+  pub seventeen_in_a_list : reads_notes_where (codes "id IN (1, 2, 3, 4, 5, 6, 7, 8, 9, 10, 11, 12, 13, 14, 15, 16, 17)") ≡ Err Limit
+  pub fourteen_beside_between : reads_notes_where (codes "id IN (1, 2, 3, 4, 5, 6, 7, 8, 9, 10, 11, 12, 13, 14) AND id BETWEEN 1 AND 2")
+      ≡ Ok (notes_under (OneOf (number_is 0 1) (map (number_is 0) (range_with_len 2 13)) ∷ compared (field 0 0) AtLeast (number 1) ∷ compared (field 0 0) AtMost (number 2) ∷ []))
+  pub fifteen_beside_between : reads_notes_where (codes "id IN (1, 2, 3, 4, 5, 6, 7, 8, 9, 10, 11, 12, 13, 14, 15) AND id BETWEEN 1 AND 2") ≡ Err Limit
+  pub seventeen_in_a_group : reads_notes_where (codes "(id IN (1, 2, 3, 4, 5, 6, 7, 8, 9, 10, 11, 12, 13, 14, 15) OR topic = 'a' OR body IS NULL)") ≡ Err Limit
+  pub syntax_before_limit : reads_notes_where (codes "id IN (1, 2, 3, 4, 5, 6, 7, 8, 9, 10, 11, 12, 13, 14, 15, 16, 17") ≡ Err (Syntax 90)
+
+-- where the faults of IN and OR stand
+pub record FaultsOfGroups : Type 0 where
+  pub one_member_in_parentheses : reads_notes_where (codes "(topic = 'a')") ≡ Err (Syntax 38)
+  pub one_list_in_parentheses : reads_notes_where (codes "(id IN (1, 2))") ≡ Err (Syntax 39)
+  pub an_empty_list : reads_notes_where (codes "topic IN ()") ≡ Err (Syntax 36)
+  pub no_list : reads_notes_where (codes "topic IN 'a'") ≡ Err (Syntax 35)
+  pub not_in : reads_notes_where (codes "topic NOT IN ('a')") ≡ Err (Syntax 32)
+  pub or_without_parentheses : reads_notes_where (codes "topic = 'a' OR topic = 'b'") ≡ Err (Syntax 38)
+  pub null_in_a_list : reads_notes_where (codes "topic IN (NULL)") ≡ Err (Syntax 36)
+  pub nothing_after_a_comma : reads_notes_where (codes "topic IN ('a',)") ≡ Err (Syntax 40)
+  pub no_comma_in_a_list : reads_notes_where (codes "id IN (1 2)") ≡ Err (Syntax 35)
+  pub a_column_in_a_list : reads_notes_where (codes "id IN (topic)") ≡ Err (Syntax 33)
+  pub a_sign_before_a_text : reads_notes_where (codes "id IN (1, -'x')") ≡ Err (Syntax 37)
+  pub a_list_without_end : reads_notes_where (codes "id IN (1, 2") ≡ Err (Syntax 37)
+  pub between_in_a_group : reads_notes_where (codes "(id BETWEEN 1 AND 2 OR id = 3)") ≡ Err (Syntax 30)
+  pub a_join_in_a_group : reads_notes_where (codes "(id = 1 OR id = topic)") ≡ Err (Syntax 42)
+  pub a_group_in_a_group : reads_notes_where (codes "(id = 1 OR (id = 2 OR id = 3))") ≡ Err (Syntax 37)
+  pub parentheses_twice : reads_notes_where (codes "((id = 1 OR id = 2))") ≡ Err (Syntax 27)
+  pub and_in_a_group : reads_notes_where (codes "(id = 1 AND id = 2)") ≡ Err (Syntax 34)
+  pub an_empty_group : reads_notes_where (codes "()") ≡ Err (Syntax 27)
+  pub nothing_after_or : reads_notes_where (codes "(id = 1 OR )") ≡ Err (Syntax 37)
+  pub a_group_without_end : reads_notes_where (codes "(id = 1 OR id = 2") ≡ Err (Syntax 43)
+  pub or_after_a_group : reads_notes_where (codes "(id = 1 OR id = 2) OR id = 3") ≡ Err (Syntax 45)
+  pub a_group_compared : reads_notes_where (codes "(id = 1 OR id = 2) = 1") ≡ Err (Syntax 45)
+  pub in_is_no_name : reads_notes (codes "SELECT in FROM note") ≡ Err (Syntax 7)
+  pub or_is_no_name : reads_notes (codes "SELECT id FROM or") ≡ Err (Syntax 15)
 
 -- the first token that no text has
 pub record QuerySyntaxFaults : Type 0 where
@@ -228,3 +304,17 @@ pub record QueryRulesInOrder : Type 0 where
   pub a_column_with_itself : reads (codes "SELECT age FROM patient WHERE id = id") ≡ Err NotLinked
   pub plain_columns : reads (codes "SELECT age FROM patient WHERE age = id") ≡ Err NotLinked
   pub keys_of_one_table : reads (codes "SELECT day FROM visit WHERE doc = pat") ≡ Err NotLinked
+  pub unlinked_before_two_tables_in_a_group : reads (codes "SELECT visit.id FROM visit, doctor WHERE (specialty = 'x' OR day = 1)")
+      ≡ Err NotLinked
+  pub column_before_two_tables_in_a_group : reads (codes "SELECT visit.id FROM visit, doctor WHERE doc = doctor.id AND (day = 1 OR nowhere = 1 OR country = 'FR')")
+      ≡ Err UnknownColumn
+  pub ambiguous_before_two_tables_in_a_group : reads (codes "SELECT visit.id FROM visit, doctor WHERE doc = doctor.id AND (day = 1 OR id = 1 OR country = 'FR')")
+      ≡ Err Ambiguous
+  pub kind_before_two_tables_in_a_group : reads (codes "SELECT visit.id FROM visit, doctor WHERE doc = doctor.id AND (day = 'x' OR country = 'FR')")
+      ≡ Err KindMismatch
+  pub literal_before_two_tables_in_a_group : reads (codes "SELECT visit.id FROM visit, doctor WHERE doc = doctor.id AND (day = 1 OR country = 'FRA')")
+      ≡ Err BadLiteral
+  pub two_tables_in_the_last_member : reads (codes "SELECT visit.id FROM visit, doctor WHERE doc = doctor.id AND (doctor.id = 1 OR country = 'ES' OR doc = 1)")
+      ≡ Err MixedTables
+  pub two_tables_in_the_second_group : reads (codes "SELECT visit.id FROM visit, doctor WHERE doc = doctor.id AND (doc = 1 OR pat = 2) AND (day IN (1, 2) OR doctor.id = 1)")
+      ≡ Err MixedTables

@@ -47,6 +47,9 @@ pub record WorkOnTheClinic : Type 0 where
   pub no_condition : work_on_clinic (codes "SELECT id FROM visit") ≡ 72
   pub no_value : work_on_clinic (codes "SELECT id FROM visit WHERE purpose = 'none'") ≡ 116
   pub another_value : work_on_clinic (codes "SELECT age FROM patient WHERE name <> 'Ann'") ≡ 171
+  -- a hidden column of a group that is left is read once, whether or not it is selected
+  pub a_mixed_group : work_on_clinic (codes "SELECT visit.id FROM visit WHERE (day = 9 OR purpose = 'check')") ≡ 100
+  pub a_column_of_it : work_on_clinic (codes "SELECT visit.id, purpose FROM visit WHERE (day = 9 OR purpose = 'check' OR purpose = 'flu')") ≡ 100
 
 -- so many notes of one body, from an identifier on
 abbrev pub notes_alike : (first count : ℕ) → (body : List ℕ) → Rows

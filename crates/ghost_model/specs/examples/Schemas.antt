@@ -77,6 +77,8 @@ pub record SyntaxFaultsOfSchemas : Type 0 where
   pub the_end : schema_reading (codes "CREATE TABLE t (id INTEGER) ") ≡ Err (BadSyntax 28)
   pub white_space_before : schema_reading (codes " \n TABLE t") ≡ Err (BadSyntax 3)
   pub a_reserved_word : schema_reading (codes "CREATE TABLE group (id INTEGER);") ≡ Err (BadSyntax 13)
+  pub a_word_of_queries : schema_reading (codes "CREATE TABLE in (id INTEGER);") ≡ Err (BadSyntax 13)
+  pub a_column_of_such_a_word : schema_reading (codes "CREATE TABLE t (id INTEGER, Or INTEGER);") ≡ Err (BadSyntax 28)
   pub digits_before_a_name : schema_reading (codes "CREATE TABLE 1st (id INTEGER);") ≡ Err (BadSyntax 13)
   pub a_sign : schema_reading (codes "CREATE TABLE t (c CHAR(-1));") ≡ Err (BadSyntax 23)
   pub half_a_key : schema_reading (codes "CREATE TABLE t (id INT PRIMARY, x INT);") ≡ Err (BadSyntax 30)

@@ -1,6 +1,6 @@
 -- Telling texts and their tokens, and telling scripts and their texts.
 use Rattle.std.specs.Prelude.{◌≡◌, ℕ, true, false, List, [], ◌∷◌, ◌++◌, codes, Some, None, length, nat_le, replicate, flat_map}
-use Rattle.ghost_model.specs.refusals.Tokens.{Word, Reserved, Name, Digits, Quoted, Open, Closing, Comma, Point, Semicolon, Star, PlusSign, MinusSign, EqualSign, UnequalSign, LessSign, AtMostSign, MoreSign, AtLeastSign, NoToken, EndOfText, SelectWord, AndWord, IntegerWord, NullWord, TableWord, symbols, offset_of}
+use Rattle.ghost_model.specs.refusals.Tokens.{Word, Reserved, Name, Digits, Quoted, Open, Closing, Comma, Point, Semicolon, Star, PlusSign, MinusSign, EqualSign, UnequalSign, LessSign, AtMostSign, MoreSign, AtLeastSign, NoToken, EndOfText, SelectWord, AndWord, InWord, IntegerWord, NullWord, OrWord, TableWord, symbols, offset_of}
 use Rattle.ghost_model.specs.laws.Spelled.{text_of}
 use Rattle.ghost_model.specs.core.Texts.{texts_of, most_script_bytes, most_texts}
 
@@ -8,7 +8,8 @@ pub record TokensOfTexts : Type 0 where
   pub no_bytes : symbols [] ≡ EndOfText ∷ []
   pub words_without_case : symbols (codes "Select aGe NULL") ≡ Word SelectWord ∷ Name (codes "age") ∷ Word NullWord ∷ EndOfText ∷ []
   pub int_is_integer : symbols (codes "INT integer") ≡ Word IntegerWord ∷ Word IntegerWord ∷ EndOfText ∷ []
-  pub words_of_later_grammars_are_no_names : symbols (codes "count by OR max") ≡ Reserved ∷ Reserved ∷ Reserved ∷ Reserved ∷ EndOfText ∷ []
+  pub words_of_later_grammars_are_no_names : symbols (codes "count by GROUP max") ≡ Reserved ∷ Reserved ∷ Reserved ∷ Reserved ∷ EndOfText ∷ []
+  pub in_and_or : symbols (codes "IN or In") ≡ Word InWord ∷ Word OrWord ∷ Word InWord ∷ EndOfText ∷ []
   pub other_words_are_names : symbols (codes "distinct ORDER as id") ≡ Name (codes "distinct") ∷ Name (codes "order") ∷ Name (codes "as") ∷ Name (codes "id") ∷ EndOfText ∷ []
   pub a_name_runs_as_far_as_its_bytes : symbols (codes "_a1B_2 table2 table") ≡ Name (codes "_a1b_2") ∷ Name (codes "table2") ∷ Word TableWord ∷ EndOfText ∷ []
   pub a_number_ends_at_a_letter : symbols (codes "12abc 1AND") ≡ Digits (codes "12") ∷ Name (codes "abc") ∷ Digits (codes "1") ∷ Word AndWord ∷ EndOfText ∷ []

@@ -14,7 +14,7 @@ use Rattle.ghost_model.specs.core.Database.{is_row_among}
 use Rattle.ghost_model.specs.readings.CellReading.{decode_cell}
 use Rattle.ghost_model.specs.core.Asks.{kind_at}
 use Rattle.ghost_model.specs.forms.Runs.{page_bytes, pages_of, page_of, slot_of, record_at, number_in, found_in}
-use Rattle.ghost_model.specs.forms.Gaps.{Reading, code_in, code_at, reading_at, rest_at}
+use Rattle.ghost_model.specs.forms.Gaps.{code_in, code_at, reading_at, rest_at}
 use Rattle.ghost_model.specs.forms.Layout.{is_hidden, width_at, count_of, levels_of, above_of, descendants_of, File, Cells, Subtrees, IndexHeader, IndexDirectory, IndexLevel, IdDirectory, IdLevel, run_of_file}
 
 abbrev pub has_file : Schema → File → Bool

@@ -3,7 +3,7 @@
 use Rattle.std.specs.Prelude.{ℕ, ◌+◌, ◌*◌, List, length, take, sum_by, slice_index, if◌then◌else◌}
 use Rattle.ghost_model.specs.core.Schema.{Schema, is_empty}
 use Rattle.ghost_model.specs.core.Channel.{Catalog}
-use Rattle.ghost_model.specs.forms.Runs.{Run, page_bytes, pages_of}
+use Rattle.ghost_model.specs.forms.Runs.{Run, pages_of}
 use Rattle.ghost_model.specs.forms.Gaps.{room_of}
 use Rattle.ghost_model.specs.forms.Layout.{below, is_hidden, width_at, levels_of, above_of, descendants_of, count_of, public_pages, spool_pages}
 use Rattle.ghost_model.specs.laws.ShortWords.{column_count}

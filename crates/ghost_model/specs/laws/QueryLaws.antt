@@ -1,8 +1,7 @@
 -- Laws of query texts: the functions that read a text say what the relations say of it.
-use Rattle.std.specs.Prelude.{◌≡◌, ◌⊎◌, ◌↔◌, ℕ, Bool, true, false, List, [], ◌∷◌, ◌++◌, map, None, Ok, Err}
-use Rattle.std.specs.List.{list_all}
+use Rattle.std.specs.Prelude.{◌≡◌, ◌⊎◌, ◌↔◌, ℕ, List, ◌∷◌, ◌++◌, map, None, Ok, Err}
 use Rattle.ghost_model.specs.core.Schema.{Schema}
-use Rattle.ghost_model.specs.core.Query.{Query, Condition, OneOf, Join}
+use Rattle.ghost_model.specs.core.Query.{Query}
 use Rattle.ghost_model.specs.refusals.Tokens.{Token, tokens, symbol_of}
 use Rattle.ghost_model.specs.refusals.Grammar.{Spells, IsSyntaxFault}
 use Rattle.ghost_model.specs.refusals.QueryGrammar.{QueryText, spelling}
@@ -47,13 +46,3 @@ pub record OneReading : Type 0 where
   pub one : (schema : Schema) (text : List ℕ) → HasOneMeaning schema text ⊎ HasOneRefusal schema text
   pub meaning : (schema : Schema) (text : List ℕ) (query : Query) → reading schema text ≡ Ok query ↔ Means schema text query
   pub refusal : (schema : Schema) (text : List ℕ) (refusal : Refusal) → reading schema text ≡ Err refusal ↔ IsRefused schema text refusal
-
--- What stands for now: a group has one member. Who needs it names it.
-abbrev pub is_lone : Condition → Bool
-is_lone (OneOf first []) = true
-is_lone (OneOf first (next ∷ others)) = false
-is_lone (Join one other) = true
-
-abbrev pub AcceptedQueriesAreLone : Type 0
-AcceptedQueriesAreLone =
-    (schema : Schema) (text : List ℕ) (query : Query) → Means schema text query → list_all is_lone query.conditions ≡ true

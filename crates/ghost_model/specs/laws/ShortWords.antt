@@ -1,9 +1,8 @@
 -- Short names for what words of the rooms say together. Contracts and proofs of single crates use them; nothing here need be
 -- believed: each is written out where a promise stands on it.
-use Rattle.std.specs.Prelude.{ℕ, false, ◌+◌, ◌*◌, ◌==◌, ◌&&◌, not, nat_lt, Bool, List, [], length, map, filter, flat_map, take, Option, Some, bytes_eq, slice_get, unwrap_or, if◌then◌else◌, ◌∷◌, ◌++◌}
+use Rattle.std.specs.Prelude.{ℕ, ◌+◌, ◌*◌, ◌==◌, ◌&&◌, not, nat_lt, Bool, List, [], length, map, filter, flat_map, take, Option, Some, bytes_eq, slice_get, unwrap_or, if◌then◌else◌, ◌∷◌, ◌++◌}
 use Rattle.std.specs.Int.{from_be_bytes, w32}
 use Rattle.std.specs.List.{list_any, zip, enumerate_from}
-use Rattle.std.specs.Option.{option_map_or}
 use Rattle.ghost_model.specs.refusals.QueryMeaning.{literal_fails, is_other_kind, is_too_large, resolved, table_names, column_name, columns_in}
 use Rattle.ghost_model.specs.refusals.QueryGrammar.{QueryText}
 use Rattle.ghost_model.specs.core.Schema.{Schema, Column, columns_of, places_where, first_of, is_empty}

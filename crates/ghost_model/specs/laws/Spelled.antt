@@ -4,7 +4,7 @@
 -- the tokens of every text are such symbols and then its end.
 use Rattle.std.specs.Prelude.{◌≡◌, ℕ, Bool, true, false, not, ◌&&◌, ◌||◌, ◌==◌, List, [], ◌∷◌, ◌++◌, flat_map, if◌then◌else◌, codes, bytes_eq, is_none}
 use Rattle.std.specs.List.{list_any, list_all}
-use Rattle.ghost_model.specs.refusals.Tokens.{Symbol, Word, Reserved, Name, Digits, Quoted, Open, Closing, Comma, Point, Semicolon, Star, PlusSign, MinusSign, EqualSign, UnequalSign, LessSign, AtMostSign, MoreSign, AtLeastSign, NoToken, EndOfText, begins_name, is_name_byte, is_numeral, is_printable, in_lower_case, Keyword, AndWord, BetweenWord, CharWord, CreateWord, FromWord, HiddenWord, IntegerWord, IsWord, NotWord, NullWord, PrimaryKeyWord, PrimaryWord, ReferencesWord, SelectWord, TableWord, WhereWord, keyword_of, other_reserved, symbols}
+use Rattle.ghost_model.specs.refusals.Tokens.{Symbol, Word, Reserved, Name, Digits, Quoted, Open, Closing, Comma, Point, Semicolon, Star, PlusSign, MinusSign, EqualSign, UnequalSign, LessSign, AtMostSign, MoreSign, AtLeastSign, NoToken, EndOfText, begins_name, is_name_byte, is_numeral, is_printable, in_lower_case, Keyword, AndWord, BetweenWord, CharWord, CreateWord, FromWord, HiddenWord, InWord, IntegerWord, IsWord, NotWord, NullWord, OrWord, PrimaryKeyWord, PrimaryWord, ReferencesWord, SelectWord, TableWord, WhereWord, keyword_of, other_reserved, symbols}
 
 abbrev pub begins_as_name : List ℕ → Bool
 begins_as_name [] = false
@@ -38,10 +38,12 @@ keyword_text CharWord = codes "char"
 keyword_text CreateWord = codes "create"
 keyword_text FromWord = codes "from"
 keyword_text HiddenWord = codes "hidden"
+keyword_text InWord = codes "in"
 keyword_text IntegerWord = codes "integer"
 keyword_text IsWord = codes "is"
 keyword_text NotWord = codes "not"
 keyword_text NullWord = codes "null"
+keyword_text OrWord = codes "or"
 keyword_text PrimaryKeyWord = codes "key"
 keyword_text PrimaryWord = codes "primary"
 keyword_text ReferencesWord = codes "references"

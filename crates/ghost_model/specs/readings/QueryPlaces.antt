@@ -6,10 +6,10 @@
 use Rattle.std.specs.Prelude.{ℕ, Bool, true, false, List, [], ◌∷◌, ◌++◌, Option, Some, None, option_map, Result, Ok, Err}
 use Rattle.ghost_model.specs.core.Query as query
 use Rattle.ghost_model.specs.core.Query.{Operator}
-use Rattle.ghost_model.specs.refusals.Tokens.{Symbol, Token, tokens, Word, Name, Digits, Quoted, Comma, Point, Star, PlusSign, MinusSign, EqualSign, UnequalSign, LessSign, AtMostSign, MoreSign, AtLeastSign, EndOfText, SelectWord, FromWord, WhereWord, AndWord, BetweenWord, IsWord, NotWord, NullWord}
+use Rattle.ghost_model.specs.refusals.Tokens.{Symbol, Token, tokens, Word, Name, Digits, Quoted, Open, Closing, Comma, Point, Star, PlusSign, MinusSign, EqualSign, UnequalSign, LessSign, AtMostSign, MoreSign, AtLeastSign, EndOfText, SelectWord, FromWord, WhereWord, AndWord, BetweenWord, IsWord, NotWord, NullWord, InWord, OrWord}
 use Rattle.ghost_model.specs.refusals.Grammar.{separated}
 use Rattle.ghost_model.specs.readings.Begun.{begun}
-use Rattle.ghost_model.specs.refusals.QueryGrammar.{ColumnText, Bare, Qualified, Sign, Positive, Negative, LiteralText, Unsigned, Signed, Written, ConditionText, Compares, TestsNull, LiesBetween, Joins, Selection, All, Columns, QueryText, spell_column, spell_sign, spell_operator, spell_literal, spell_not, spell_condition, spell_table, spell_selection, spelling}
+use Rattle.ghost_model.specs.refusals.QueryGrammar.{ColumnText, Bare, Qualified, Sign, Positive, Negative, LiteralText, Unsigned, Signed, Written, MemberText, Compares, TestsNull, IsIn, ConditionText, Alone, AnyOf, LiesBetween, Joins, Selection, All, Columns, QueryText, spell_column, spell_sign, spell_operator, spell_literal, spell_not, spell_member, spell_condition, spell_table, spell_selection, spelling}
 
 -- in a selected column: before it, after its table and the point, and after it
 pub data ColumnPart : Type 0 where
@@ -17,15 +17,31 @@ pub data ColumnPart : Type 0 where
   HasTablePoint : List ℕ → ColumnPart
   HasColumn : ColumnText → ColumnPart
 
--- in a condition
+-- in a member of a condition that is not whole yet. Of an IN it holds the literals that have a comma after them
+pub data MemberPart : Type 0 where
+  WantsLeft : MemberPart
+  HasLeftPoint : List ℕ → MemberPart
+  HasLeft : ColumnText → MemberPart
+  HasOperator : ColumnText → Operator → MemberPart
+  HasSign : ColumnText → Operator → Sign → MemberPart
+  HasIs : ColumnText → (negated : Bool) → MemberPart
+  HasIn : ColumnText → MemberPart
+  WantsListed : ColumnText → List LiteralText → MemberPart
+  HasListedSign : ColumnText → List LiteralText → Sign → MemberPart
+  HasListed : ColumnText → List LiteralText → LiteralText → MemberPart
+
+-- where a symbol leads in a member: it goes on, or it is whole
+pub data MemberStep : Type 0 where
+  GoesOn : MemberPart → MemberStep
+  IsWhole : MemberText → MemberStep
+
+-- in a condition: in a member that stands alone, in a member of a group or after one (a list holds the members that have an OR
+-- after them), in a join, between two literals, or after what may stand as it is
 pub data ConditionPart : Type 0 where
-  WantsLeft : ConditionPart
-  HasLeftPoint : List ℕ → ConditionPart
-  HasLeft : ColumnText → ConditionPart
-  HasOperator : ColumnText → Operator → ConditionPart
-  HasSign : ColumnText → Operator → Sign → ConditionPart
+  InMember : MemberPart → ConditionPart
+  InGroup : List MemberText → MemberPart → ConditionPart
+  HasGrouped : List MemberText → MemberText → ConditionPart
   HasRightPoint : ColumnText → List ℕ → ConditionPart
-  HasIs : ColumnText → (negated : Bool) → ConditionPart
   WantsLow : ColumnText → ConditionPart
   HasLowSign : ColumnText → Sign → ConditionPart
   HasLow : ColumnText → LiteralText → ConditionPart
@@ -64,14 +80,25 @@ in_column WantsColumn = []
 in_column (HasTablePoint table) = Name table ∷ Point ∷ []
 in_column (HasColumn column) = spell_column column
 
+abbrev pub in_member : MemberPart → List Symbol
+in_member WantsLeft = []
+in_member (HasLeftPoint table) = Name table ∷ Point ∷ []
+in_member (HasLeft column) = spell_column column
+in_member (HasOperator column operator) = spell_column column ++ (spell_operator operator ∷ [])
+in_member (HasSign column operator sign) = spell_column column ++ (spell_operator operator ∷ spell_sign sign ∷ [])
+in_member (HasIs column negated) = spell_column column ++ (Word IsWord ∷ spell_not negated)
+in_member (HasIn column) = spell_column column ++ (Word InWord ∷ [])
+in_member (WantsListed column earlier) = spell_column column ++ (Word InWord ∷ Open ∷ begun Comma spell_literal earlier)
+in_member (HasListedSign column earlier sign) =
+    spell_column column ++ (Word InWord ∷ Open ∷ (begun Comma spell_literal earlier ++ (spell_sign sign ∷ [])))
+in_member (HasListed column earlier last) =
+    spell_column column ++ (Word InWord ∷ Open ∷ (begun Comma spell_literal earlier ++ spell_literal last))
+
 abbrev pub in_condition : ConditionPart → List Symbol
-in_condition WantsLeft = []
-in_condition (HasLeftPoint table) = Name table ∷ Point ∷ []
-in_condition (HasLeft column) = spell_column column
-in_condition (HasOperator column operator) = spell_column column ++ (spell_operator operator ∷ [])
-in_condition (HasSign column operator sign) = spell_column column ++ (spell_operator operator ∷ spell_sign sign ∷ [])
+in_condition (InMember part) = in_member part
+in_condition (InGroup earlier part) = Open ∷ (begun (Word OrWord) spell_member earlier ++ in_member part)
+in_condition (HasGrouped earlier member) = Open ∷ (begun (Word OrWord) spell_member earlier ++ spell_member member)
 in_condition (HasRightPoint column table) = spell_column column ++ (EqualSign ∷ Name table ∷ Point ∷ [])
-in_condition (HasIs column negated) = spell_column column ++ (Word IsWord ∷ spell_not negated)
 in_condition (WantsLow column) = spell_column column ++ (Word BetweenWord ∷ [])
 in_condition (HasLowSign column sign) = spell_column column ++ (Word BetweenWord ∷ spell_sign sign ∷ [])
 in_condition (HasLow column low) = spell_column column ++ (Word BetweenWord ∷ spell_literal low)
@@ -96,36 +123,70 @@ before (InWhere selection table more earlier part) =
     ++ (Word WhereWord ∷ (begun (Word AndWord) spell_condition earlier ++ in_condition part)))))
 before (Whole tree) = spelling tree
 
--- where a symbol leads inside a selected column, and inside a condition
+-- where a symbol leads inside a selected column, inside a member and inside a condition
 abbrev pub step_in_column : Symbol → ColumnPart → Option ColumnPart
 step_in_column (Name name) WantsColumn = Some (HasColumn (Bare name))
 step_in_column (Name name) (HasTablePoint table) = Some (HasColumn (Qualified table name))
 step_in_column Point (HasColumn (Bare name)) = Some (HasTablePoint name)
 step_in_column _ _ = None
 
+abbrev pub step_in_member : Symbol → MemberPart → Option MemberStep
+step_in_member (Name name) WantsLeft = Some (GoesOn (HasLeft (Bare name)))
+step_in_member (Name name) (HasLeftPoint table) = Some (GoesOn (HasLeft (Qualified table name)))
+step_in_member Point (HasLeft (Bare name)) = Some (GoesOn (HasLeftPoint name))
+step_in_member EqualSign (HasLeft column) = Some (GoesOn (HasOperator column query.Equal))
+step_in_member UnequalSign (HasLeft column) = Some (GoesOn (HasOperator column query.Unequal))
+step_in_member LessSign (HasLeft column) = Some (GoesOn (HasOperator column query.Less))
+step_in_member AtMostSign (HasLeft column) = Some (GoesOn (HasOperator column query.AtMost))
+step_in_member MoreSign (HasLeft column) = Some (GoesOn (HasOperator column query.More))
+step_in_member AtLeastSign (HasLeft column) = Some (GoesOn (HasOperator column query.AtLeast))
+step_in_member (Word IsWord) (HasLeft column) = Some (GoesOn (HasIs column false))
+step_in_member (Word InWord) (HasLeft column) = Some (GoesOn (HasIn column))
+step_in_member (Word NotWord) (HasIs column false) = Some (GoesOn (HasIs column true))
+step_in_member (Word NullWord) (HasIs column negated) = Some (IsWhole (TestsNull column negated))
+step_in_member PlusSign (HasOperator column operator) = Some (GoesOn (HasSign column operator Positive))
+step_in_member MinusSign (HasOperator column operator) = Some (GoesOn (HasSign column operator Negative))
+step_in_member (Digits digits) (HasOperator column operator) = Some (IsWhole (Compares column operator (Unsigned digits)))
+step_in_member (Quoted text) (HasOperator column operator) = Some (IsWhole (Compares column operator (Written text)))
+step_in_member (Digits digits) (HasSign column operator sign) = Some (IsWhole (Compares column operator (Signed sign digits)))
+step_in_member Open (HasIn column) = Some (GoesOn (WantsListed column []))
+step_in_member PlusSign (WantsListed column earlier) = Some (GoesOn (HasListedSign column earlier Positive))
+step_in_member MinusSign (WantsListed column earlier) = Some (GoesOn (HasListedSign column earlier Negative))
+step_in_member (Digits digits) (WantsListed column earlier) = Some (GoesOn (HasListed column earlier (Unsigned digits)))
+step_in_member (Quoted text) (WantsListed column earlier) = Some (GoesOn (HasListed column earlier (Written text)))
+step_in_member (Digits digits) (HasListedSign column earlier sign) = Some (GoesOn (HasListed column earlier (Signed sign digits)))
+step_in_member Comma (HasListed column earlier last) = Some (GoesOn (WantsListed column (earlier ++ last ∷ [])))
+step_in_member Closing (HasListed column earlier last) =
+    Some (IsWhole (IsIn column (first_item earlier last) (other_items earlier last)))
+step_in_member _ _ = None
+
+-- a member that stands alone is a condition where it is whole
+abbrev pub alone : MemberStep → ConditionPart
+alone (GoesOn part) = InMember part
+alone (IsWhole member) = HasCondition (Alone member)
+
+-- a member of a group, behind the earlier ones
+abbrev pub grouped : List MemberText → MemberStep → ConditionPart
+grouped earlier (GoesOn part) = InGroup earlier part
+grouped earlier (IsWhole member) = HasGrouped earlier member
+
+-- the group of the members before the last one, which are some, and this one
+abbrev pub group_text : List MemberText → MemberText → Option ConditionPart
+group_text [] last = None
+group_text (first ∷ earlier) last = Some (HasCondition (AnyOf first (first_item earlier last) (other_items earlier last)))
+
+-- in a condition that begins with a column
+abbrev pub step_alone : Symbol → MemberPart → Option ConditionPart
+step_alone Open WantsLeft = Some (InGroup [] WantsLeft)
+step_alone (Word BetweenWord) (HasLeft column) = Some (WantsLow column)
+step_alone (Name name) (HasOperator column query.Equal) = Some (HasCondition (Joins column (Bare name)))
+step_alone symbol part = option_map alone (step_in_member symbol part)
+
 abbrev pub step_in_condition : Symbol → ConditionPart → Option ConditionPart
-step_in_condition (Name name) WantsLeft = Some (HasLeft (Bare name))
-step_in_condition (Name name) (HasLeftPoint table) = Some (HasLeft (Qualified table name))
-step_in_condition Point (HasLeft (Bare name)) = Some (HasLeftPoint name)
-step_in_condition EqualSign (HasLeft column) = Some (HasOperator column query.Equal)
-step_in_condition UnequalSign (HasLeft column) = Some (HasOperator column query.Unequal)
-step_in_condition LessSign (HasLeft column) = Some (HasOperator column query.Less)
-step_in_condition AtMostSign (HasLeft column) = Some (HasOperator column query.AtMost)
-step_in_condition MoreSign (HasLeft column) = Some (HasOperator column query.More)
-step_in_condition AtLeastSign (HasLeft column) = Some (HasOperator column query.AtLeast)
-step_in_condition (Word BetweenWord) (HasLeft column) = Some (WantsLow column)
-step_in_condition (Word IsWord) (HasLeft column) = Some (HasIs column false)
-step_in_condition (Word NotWord) (HasIs column false) = Some (HasIs column true)
-step_in_condition (Word NullWord) (HasIs column negated) = Some (HasCondition (TestsNull column negated))
-step_in_condition PlusSign (HasOperator column operator) = Some (HasSign column operator Positive)
-step_in_condition MinusSign (HasOperator column operator) = Some (HasSign column operator Negative)
-step_in_condition (Digits digits) (HasOperator column operator) =
-    Some (HasCondition (Compares column operator (Unsigned digits)))
-step_in_condition (Quoted text) (HasOperator column operator) =
-    Some (HasCondition (Compares column operator (Written text)))
-step_in_condition (Name name) (HasOperator column query.Equal) = Some (HasCondition (Joins column (Bare name)))
-step_in_condition (Digits digits) (HasSign column operator sign) =
-    Some (HasCondition (Compares column operator (Signed sign digits)))
+step_in_condition symbol (InMember part) = step_alone symbol part
+step_in_condition symbol (InGroup earlier part) = option_map (grouped earlier) (step_in_member symbol part)
+step_in_condition (Word OrWord) (HasGrouped earlier member) = Some (InGroup (earlier ++ member ∷ []) WantsLeft)
+step_in_condition Closing (HasGrouped earlier member) = group_text earlier member
 step_in_condition Point (HasCondition (Joins left (Bare table))) = Some (HasRightPoint left table)
 step_in_condition (Name name) (HasRightPoint left table) = Some (HasCondition (Joins left (Qualified table name)))
 step_in_condition PlusSign (WantsLow column) = Some (HasLowSign column Positive)
@@ -152,7 +213,7 @@ step_in_select symbol part earlier = option_map (InSelect earlier) (step_in_colu
 
 abbrev pub step_in_where : Symbol → ConditionPart → Selection → List ℕ → List (List ℕ) → List ConditionText → Option QueryPlace
 step_in_where (Word AndWord) (HasCondition condition) selection table more earlier =
-    Some (InWhere selection table more (earlier ++ condition ∷ []) WantsLeft)
+    Some (InWhere selection table more (earlier ++ condition ∷ []) (InMember WantsLeft))
 step_in_where EndOfText (HasCondition condition) selection table more earlier =
     Some (Whole (query_text selection table more (earlier ++ condition ∷ [])))
 step_in_where symbol part selection table more earlier =
@@ -165,7 +226,7 @@ step (InSelect earlier part) symbol = step_in_select symbol part earlier
 step (WantsTable selection earlier) (Name table) = Some (HasTable selection earlier table)
 step (HasTable selection earlier table) Comma = Some (WantsTable selection (earlier ++ table ∷ []))
 step (HasTable selection earlier table) (Word WhereWord) =
-    Some (InWhere selection (first_item earlier table) (other_items earlier table) [] WantsLeft)
+    Some (InWhere selection (first_item earlier table) (other_items earlier table) [] (InMember WantsLeft))
 step (HasTable selection earlier table) EndOfText =
     Some (Whole (query_text selection (first_item earlier table) (other_items earlier table) []))
 step (InWhere selection table more earlier part) symbol = step_in_where symbol part selection table more earlier

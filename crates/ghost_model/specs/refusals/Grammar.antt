@@ -1,7 +1,7 @@
 -- What a grammar says of a text, apart from any parser. A grammar is a spelling function: what a text may be is a tree,
 -- and each tree has one list of symbols, its end among them. A text is in the grammar where its symbols are those of
 -- some tree. It has a fault at the first token that no text of the grammar has after the tokens before it.
-use Rattle.std.specs.Prelude.{◌≡◌, ℕ, ◌+◌, ◌<◌, List, [], ◌∷◌, ◌++◌, length, take, flat_map, Some}
+use Rattle.std.specs.Prelude.{◌≡◌, ℕ, ◌+◌, ◌<◌, List, ◌∷◌, ◌++◌, length, take, flat_map, Some}
 use Rattle.ghost_model.specs.refusals.Tokens.{Symbol, symbols, offset_of}
 
 abbrev pub Spells : {Tree : Type 0} → (Tree → List Symbol) → List ℕ → Tree → Type 0

@@ -1,10 +1,11 @@
 -- The grammar of a query text: the tree of a text, and the symbols that spell it, with one equation for each
--- alternative. A text selects all columns or names some, names its tables, and may have conditions joined by AND. A
--- sign is a symbol of its own and stands before digits alone. Names stand in lower case, as symbols have them.
+-- alternative. A text selects all columns or names some, names its tables, and may have conditions joined by AND. Members
+-- joined by OR stand in parentheses, two or more of them. A sign is a symbol of its own and stands before digits alone.
+-- Names stand in lower case, as symbols have them.
 use Rattle.std.specs.Prelude.{ℕ, Bool, true, false, List, [], ◌∷◌, ◌++◌}
 use Rattle.ghost_model.specs.core.Query as query
 use Rattle.ghost_model.specs.core.Query.{Operator}
-use Rattle.ghost_model.specs.refusals.Tokens.{Symbol, Word, Name, Digits, Quoted, Comma, Point, Star, PlusSign, MinusSign, EqualSign, UnequalSign, LessSign, AtMostSign, MoreSign, AtLeastSign, EndOfText, SelectWord, FromWord, WhereWord, AndWord, BetweenWord, IsWord, NotWord, NullWord}
+use Rattle.ghost_model.specs.refusals.Tokens.{Symbol, Word, Name, Digits, Quoted, Open, Closing, Comma, Point, Star, PlusSign, MinusSign, EqualSign, UnequalSign, LessSign, AtMostSign, MoreSign, AtLeastSign, EndOfText, SelectWord, FromWord, WhereWord, AndWord, BetweenWord, IsWord, NotWord, NullWord, InWord, OrWord}
 use Rattle.ghost_model.specs.refusals.Grammar.{separated}
 
 -- a column, alone or after its table
@@ -21,10 +22,16 @@ pub data LiteralText : Type 0 where
   Signed : Sign → List ℕ → LiteralText
   Written : List ℕ → LiteralText
 
--- a column and a literal, a column that is NULL or is not, a column between two literals, or two columns that are equal
+-- a column and a literal, a column that is NULL or is not, or a column that is one of some literals
+pub data MemberText : Type 0 where
+  Compares : ColumnText → Operator → LiteralText → MemberText
+  TestsNull : ColumnText → (negated : Bool) → MemberText
+  IsIn : ColumnText → (first : LiteralText) → (others : List LiteralText) → MemberText
+
+-- a member alone, members of which one is to be true, a column between two literals, or two columns that are equal
 pub data ConditionText : Type 0 where
-  Compares : ColumnText → Operator → LiteralText → ConditionText
-  TestsNull : ColumnText → (negated : Bool) → ConditionText
+  Alone : MemberText → ConditionText
+  AnyOf : (first second : MemberText) → (others : List MemberText) → ConditionText
   LiesBetween : ColumnText → LiteralText → LiteralText → ConditionText
   Joins : ColumnText → ColumnText → ConditionText
 
@@ -66,11 +73,18 @@ abbrev pub spell_not : Bool → List Symbol
 spell_not false = []
 spell_not true = Word NotWord ∷ []
 
-abbrev pub spell_condition : ConditionText → List Symbol
-spell_condition (Compares column operator literal) =
+abbrev pub spell_member : MemberText → List Symbol
+spell_member (Compares column operator literal) =
     spell_column column ++ (spell_operator operator ∷ spell_literal literal)
-spell_condition (TestsNull column negated) =
+spell_member (TestsNull column negated) =
     spell_column column ++ (Word IsWord ∷ (spell_not negated ++ (Word NullWord ∷ [])))
+spell_member (IsIn column first others) =
+    spell_column column ++ (Word InWord ∷ Open ∷ (separated Comma spell_literal first others ++ (Closing ∷ [])))
+
+abbrev pub spell_condition : ConditionText → List Symbol
+spell_condition (Alone member) = spell_member member
+spell_condition (AnyOf first second others) =
+    Open ∷ (separated (Word OrWord) spell_member first (second ∷ others) ++ (Closing ∷ []))
 spell_condition (LiesBetween column low high) =
     spell_column column ++ (Word BetweenWord ∷ (spell_literal low ++ (Word AndWord ∷ spell_literal high)))
 spell_condition (Joins left right) = spell_column left ++ (EqualSign ∷ spell_column right)

@@ -1,22 +1,22 @@
 -- What a query text means over a schema: its names resolved, where none of the rules is broken; and why a text has no
 -- meaning. The rules are tested one after another, each over the whole text. A column may stand without its table
 -- where exactly one FROM table has it. `*` is every column of the FROM tables in the order of the text, identifiers and
--- foreign keys among them. BETWEEN is two conditions.
+-- foreign keys among them. BETWEEN is two conditions, IN a group of comparisons, and the members of all groups count as conditions.
 use Rattle.std.specs.Prelude.{◌≡◌, ℕ, ℤ, pos, neg_ℤ, Bool, true, false, not, ◌&&◌, ◌||◌, ◌==◌, nat_lt, List, [], ◌∷◌, ◌++◌, length, map, filter, filter_map, flat_map, sum_by, Option, Some, is_none, option_map, option_and_then, option_to_list, bytes_eq}
 use Rattle.std.specs.List.{list_any, list_all}
 use Rattle.ghost_model.specs.core.Schema.{Schema, Kind, Integer, Chars, IntegerOrNull, CharsOrNull, columns_of, column_at, column_kind, places_where, places_of, first_of, is_empty, is_table, parent}
 use Rattle.ghost_model.specs.refusals.Tokens.{number_of}
 use Rattle.ghost_model.specs.core.Values.{Value, Number, Text, fits_integer}
-use Rattle.ghost_model.specs.core.Query.{Field, AtMost, AtLeast, Test, Compared, IsNull, IsNotNull, Member, Condition, OneOf, Join, tested, compared, Query, is_among, is_some_among, top_of}
+use Rattle.ghost_model.specs.core.Query.{Field, Equal, AtMost, AtLeast, Test, Compared, IsNull, IsNotNull, Member, Condition, OneOf, Join, tested, compared, Query, is_among, is_some_among, top_of}
 use Rattle.ghost_model.specs.core.Groups.{some_of}
 use Rattle.ghost_model.specs.refusals.Rules.{broken_if, MeetsAll, BreaksFirst}
 use Rattle.ghost_model.specs.refusals.Grammar.{Spells, IsSyntaxFault}
-use Rattle.ghost_model.specs.refusals.QueryGrammar.{ColumnText, Bare, Qualified, Sign, Positive, Negative, LiteralText, Unsigned, Signed, Written, ConditionText, Compares, TestsNull, LiesBetween, Joins, Selection, All, Columns, QueryText, spelling}
+use Rattle.ghost_model.specs.refusals.QueryGrammar.{ColumnText, Bare, Qualified, Sign, Positive, Negative, LiteralText, Unsigned, Signed, Written, MemberText, Compares, TestsNull, IsIn, ConditionText, Alone, AnyOf, LiesBetween, Joins, Selection, All, Columns, QueryText, spelling}
 
 -- why a text is refused, in the order in which the rules are tested; a syntax fault has its offset in the text
 pub data Refusal : Type 0 where
   Syntax : ℕ → Refusal
-  Limit UnknownTable UnknownColumn Ambiguous KindMismatch BadLiteral NotLinked : Refusal
+  Limit UnknownTable UnknownColumn Ambiguous KindMismatch BadLiteral NotLinked MixedTables : Refusal
 
 -- names
 
@@ -63,11 +63,29 @@ abbrev pub null_test : (negated : Bool) → Test
 null_test false = IsNull
 null_test true = IsNotNull
 
+-- IN is a comparison with each of its literals
+abbrev pub tests_of_member : MemberText → List Test
+tests_of_member (Compares column operator literal) = Compared operator (value_of_literal literal) ∷ []
+tests_of_member (TestsNull column negated) = null_test negated ∷ []
+tests_of_member (IsIn column first others) = map (λ literal. Compared Equal (value_of_literal literal)) (first ∷ others)
+
+abbrev pub member_column : MemberText → ColumnText
+member_column (Compares column operator literal) = column
+member_column (TestsNull column negated) = column
+member_column (IsIn column first others) = column
+
+abbrev pub members_meant : Schema → List ℕ → MemberText → List Member
+members_meant schema from member =
+    flat_map (λ meant. map (tested meant) (tests_of_member member)) (meanings schema from (member_column member))
+
+-- the group of some members, if there are any
+abbrev pub group_of : List Member → List Condition
+group_of [] = []
+group_of (first ∷ others) = OneOf first others ∷ []
+
 abbrev pub conditions_of : Schema → List ℕ → ConditionText → List Condition
-conditions_of schema from (Compares column operator literal) =
-    map (λ meant. compared meant operator (value_of_literal literal)) (meanings schema from column)
-conditions_of schema from (TestsNull column negated) =
-    map (λ meant. OneOf (tested meant (null_test negated)) []) (meanings schema from column)
+conditions_of schema from (Alone member) = group_of (members_meant schema from member)
+conditions_of schema from (AnyOf first second others) = group_of (flat_map (members_meant schema from) (first ∷ second ∷ others))
 conditions_of schema from (LiesBetween column low high) =
     flat_map (λ meant. compared meant AtLeast (value_of_literal low) ∷ compared meant AtMost (value_of_literal high) ∷ [])
     (meanings schema from column)
@@ -92,8 +110,8 @@ selection_columns All = []
 selection_columns (Columns column more) = column ∷ more
 
 abbrev pub condition_columns : ConditionText → List ColumnText
-condition_columns (Compares column operator literal) = column ∷ []
-condition_columns (TestsNull column negated) = column ∷ []
+condition_columns (Alone member) = member_column member ∷ []
+condition_columns (AnyOf first second others) = map member_column (first ∷ second ∷ others)
 condition_columns (LiesBetween column low high) = column ∷ []
 condition_columns (Joins left right) = left ∷ right ∷ []
 
@@ -114,8 +132,8 @@ table_names tree = from_names tree ++ flat_map qualifier_of (columns_in tree)
 
 -- how many tests of a column a condition of a text is
 abbrev pub literal_conditions : ConditionText → ℕ
-literal_conditions (Compares column operator literal) = 1
-literal_conditions (TestsNull column negated) = 1
+literal_conditions (Alone member) = length (tests_of_member member)
+literal_conditions (AnyOf first second others) = sum_by (λ member. length (tests_of_member member)) (first ∷ second ∷ others)
 literal_conditions (LiesBetween column low high) = 2
 literal_conditions (Joins left right) = 0
 
@@ -208,6 +226,11 @@ is_unlinked schema query =
     || is_none (top_of schema query)
     || list_any (lacks_join schema query) query.from
 
+-- whether the columns of a group are of one table
+abbrev pub is_of_one_table : Condition → Bool
+is_of_one_table (OneOf first others) = list_all (λ one. one.field.table == first.field.table) others
+is_of_one_table (Join left right) = true
+
 abbrev pub rules_of_queries : Schema → List ℕ → QueryText → List (Option Refusal)
 rules_of_queries schema text tree =
     broken_if (is_over_limit schema text tree) Limit
@@ -217,6 +240,7 @@ rules_of_queries schema text tree =
     ∷ broken_if (list_any (literal_fails schema is_other_kind) (resolved schema tree).conditions) KindMismatch
     ∷ broken_if (list_any (literal_fails schema is_too_large) (resolved schema tree).conditions) BadLiteral
     ∷ broken_if (is_unlinked schema (resolved schema tree)) NotLinked
+    ∷ broken_if (not (list_all is_of_one_table (resolved schema tree).conditions)) MixedTables
     ∷ []
 
 -- the text spells a tree that meets the rules, and this is that tree with its names resolved

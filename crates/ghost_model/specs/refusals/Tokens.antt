@@ -11,7 +11,7 @@ use Rattle.std.specs.Char.{to_ascii_lowercase}
 
 -- the reserved words that the grammars use; INT is another spelling of INTEGER
 pub data Keyword : Type 0 where
-  AndWord BetweenWord CharWord CreateWord FromWord HiddenWord IntegerWord IsWord NotWord NullWord : Keyword
+  AndWord BetweenWord CharWord CreateWord FromWord HiddenWord InWord IntegerWord IsWord NotWord NullWord OrWord : Keyword
   PrimaryKeyWord PrimaryWord ReferencesWord SelectWord TableWord WhereWord : Keyword
 
 -- a token without its place: a name in lower case, a number by its digits, a literal by its value, `''` being one `'`
@@ -61,8 +61,8 @@ in_lower_case bytes = map to_ascii_lowercase bytes
 abbrev pub keywords : List (Keyword × List ℕ)
 keywords =
     (AndWord, codes "and") ∷ (BetweenWord, codes "between") ∷ (CharWord, codes "char") ∷ (CreateWord, codes "create")
-    ∷ (FromWord, codes "from") ∷ (HiddenWord, codes "hidden") ∷ (IntegerWord, codes "integer") ∷ (IsWord, codes "is")
-    ∷ (PrimaryKeyWord, codes "key") ∷ (NotWord, codes "not") ∷ (NullWord, codes "null") ∷ (PrimaryWord, codes "primary") ∷ (ReferencesWord, codes "references") ∷ (SelectWord, codes "select")
+    ∷ (FromWord, codes "from") ∷ (HiddenWord, codes "hidden") ∷ (InWord, codes "in") ∷ (IntegerWord, codes "integer") ∷ (IsWord, codes "is")
+    ∷ (PrimaryKeyWord, codes "key") ∷ (NotWord, codes "not") ∷ (NullWord, codes "null") ∷ (OrWord, codes "or") ∷ (PrimaryWord, codes "primary") ∷ (ReferencesWord, codes "references") ∷ (SelectWord, codes "select")
     ∷ (TableWord, codes "table") ∷ (WhereWord, codes "where") ∷ []
 
 -- the keyword that a word in lower case is; INT is INTEGER too
@@ -74,7 +74,7 @@ keyword_of word =
 -- the reserved words that the grammars do not use yet
 abbrev pub other_reserved : List (List ℕ)
 other_reserved =
-    codes "by" ∷ codes "count" ∷ codes "group" ∷ codes "in" ∷ codes "max" ∷ codes "min" ∷ codes "or" ∷ codes "sum" ∷ []
+    codes "by" ∷ codes "count" ∷ codes "group" ∷ codes "max" ∷ codes "min" ∷ codes "sum" ∷ []
 
 -- what a word in lower case is: a keyword, another reserved word, or a name
 abbrev pub symbol_of_word : List ℕ → Symbol

@@ -1,4 +1,4 @@
-use Rattle.ghost_laws.proofs.ScanLemmas.Rows.{answers_follow_keys}
+use Rattle.ghost_laws.proofs.ScanLemmas.AlongKeys.{answers_follow_keys}
 use Rattle.ghost_laws.proofs.scans.answers_follow_keys.Goals as goal
 
 pub returns : goal.returns

@@ -13,4 +13,6 @@ returns c = record {
   ambiguous = refl;
   kind = refl;
   literal = refl;
+  unlinked = refl;
+  mixed = refl;
 }

@@ -34,4 +34,11 @@ returns c = record {
   a_column_with_itself = refl;
   plain_columns = refl;
   keys_of_one_table = refl;
+  unlinked_before_two_tables_in_a_group = refl;
+  column_before_two_tables_in_a_group = refl;
+  ambiguous_before_two_tables_in_a_group = refl;
+  kind_before_two_tables_in_a_group = refl;
+  literal_before_two_tables_in_a_group = refl;
+  two_tables_in_the_last_member = refl;
+  two_tables_in_the_second_group = refl;
 }

@@ -12,7 +12,6 @@ use Rattle.ghost_model.specs.core.Groups.{groups_of}
 use Rattle.ghost_model.specs.core.Split.{replies_from}
 use Rattle.ghost_model.specs.core.Honest.{AreReplies}
 use Rattle.ghost_model.specs.core.Host.{welcomes, groups_from, frames_within, said_with_refusals}
-use Rattle.ghost_model.specs.laws.ShortWords.{said_to}
 use Rattle.ghost_model.specs.forms.Catalog.{catalog_bytes}
 use Rattle.ghost_model.specs.examples.Clinic.{clinic_catalog}
 use Rattle.ghost_model.specs.examples.Sessions.{cardio_reply, cardio_replied}

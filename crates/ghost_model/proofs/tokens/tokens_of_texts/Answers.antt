@@ -9,6 +9,7 @@ returns c = record {
   words_without_case = refl;
   int_is_integer = refl;
   words_of_later_grammars_are_no_names = refl;
+  in_and_or = refl;
   other_words_are_names = refl;
   a_name_runs_as_far_as_its_bytes = refl;
   a_number_ends_at_a_letter = refl;

@@ -1,0 +1,5 @@
+use Rattle.ghost_laws.proofs.ScanLemmas.AlongKeys.{followed_answers_follow_keys}
+use Rattle.ghost_laws.proofs.scans.followed_answers_follow_keys.Goals as goal
+
+pub returns : goal.returns
+returns c = followed_answers_follow_keys
