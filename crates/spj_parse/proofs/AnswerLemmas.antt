@@ -1,11 +1,12 @@
 -- The answer of a query with each of its joins once.
-use Rattle.std.proofs.Common.{◌≡◌, ℕ, Bool, true, false, not, ◌&&◌, ◌||◌, ◌==◌, cond, ◌⊎◌, inl, inr, List, [], ◌∷◌, ◌++◌, map, filter, flat_map, Option, Some, None, append_assoc, refl, ap, ap₂, sym, subst, ◌∙◌}
+use Rattle.std.proofs.Common.{◌≡◌, ℕ, Bool, true, false, not, ◌&&◌, ◌||◌, ◌==◌, cond, if◌then◌else◌, ◌⊎◌, inl, inr, List, [], ◌∷◌, ◌++◌, map, filter, flat_map, Option, Some, None, append_assoc, refl, ap, ap₂, sym, subst, ◌∙◌}
 use Rattle.std.specs.Prelude.{option_map, option_to_list}
 use Rattle.std.specs.List.{list_any, list_all, range_with_len}
 use Rattle.std.specs.declared.cmp.Ordering.{Ordering}
 use Rattle.std.specs.declared.cmp.Ordering.TheVariants as order
 use Rattle.std.proofs.lemmas.Bool.{and_parts, eqb-true, eq-eqb}
 use Rattle.std.proofs.lemmas.List.Folds.{list_any-append, list_all-append}
+use Rattle.std.proofs.lemmas.List.Elements.{filter-append}
 use Rattle.ghost_base.specs.CellLaws.{ValuesAreOrdered}
 use Rattle.ghost_model.specs.core.Schema.{Schema, parent, is_table, first_of}
 use Rattle.ghost_model.specs.laws.SchemaTrees.{IsTree}
@@ -14,11 +15,13 @@ use Rattle.ghost_model.specs.core.Database.{order_of, meets, holds}
 use Rattle.ghost_model.specs.laws.ShortWords as short
 use Rattle.ghost_model.specs.core.Query as query
 use Rattle.ghost_model.specs.core.Query.{Query, Field, Condition, OneOf, Join, is_among, is_some_among, top_of}
-use Rattle.ghost_model.specs.refusals.QueryGrammar.{ColumnText, Bare, Qualified, ConditionText, Compares, TestsNull, LiesBetween, Joins, QueryText}
-use Rattle.ghost_model.specs.refusals.QueryMeaning.{field, table_named, fields_named, meanings, conditions_of, resolved, from_tables, is_reference_to, is_proper, is_join_of, lacks_join, is_unlinked, value_of_literal, null_test}
+use Rattle.ghost_model.specs.refusals.QueryGrammar as grammar
+use Rattle.ghost_model.specs.refusals.QueryGrammar.{ColumnText, Bare, Qualified, ConditionText, QueryText}
+use Rattle.ghost_model.specs.refusals.QueryMeaning.{field, table_named, fields_named, meanings, members_meant, group_of, conditions_of, resolved, from_tables, is_reference_to, is_proper, is_join_of, lacks_join, is_unlinked, value_of_literal}
 use Rattle.ghost_model.specs.laws.ShortWords.{column_named}
 use Rattle.ghost_model.specs.core.Meaning as meaning
 use Rattle.ghost_model.specs.core.Meaning.{Source, pick, compares, is_kept, answer_of_row, answer_by_top, all_of, answer}
+use Rattle.ghost_model.specs.forms.Left.{is_left, without_left}
 use Rattle.spj_parse.specs.Resolved.{is_group, keys_between, join_by, join_with, join_to, joins_of, linked}
 use Rattle.spj_parse.proofs.KeyLemmas.{join_is}
 use Rattle.spj_parse.proofs.LinkedLemmas.{filter_same}
@@ -134,9 +137,9 @@ meanings_from : (schema : Schema) (from : List ℕ) (column : ColumnText) → li
 meanings_from schema from (Bare name) = fields_from schema name from from (self_from [] from)
 meanings_from schema from (Qualified table name) = fields_from schema name from (filter (λ other. is_table other (table_named schema table)) from) (all_filter (is_among from) (λ other. is_table other (table_named schema table)) from (self_from [] from))
 
-compared_within : (from : List ℕ) (make : Field → Condition) → ((place : Field) → within from (make place) ≡ true) → (fields : List Field) → list_all (within from) (map make fields) ≡ true
-compared_within from make h [] = refl
-compared_within from make h (place ∷ fields) = both_true (within from (make place)) (list_all (within from) (map make fields)) (h place) (compared_within from make h fields)
+group_within : (from : List ℕ) (members : List query.Member) → list_all (within from) (group_of members) ≡ true
+group_within from [] = refl
+group_within from (first ∷ others) = refl
 
 bounds_within : (from : List ℕ) (low high : Value) (fields : List Field) → list_all (within from) (flat_map (λ place. query.compared place query.AtLeast low ∷ query.compared place query.AtMost high ∷ []) fields) ≡ true
 bounds_within from low high [] = refl
@@ -157,10 +160,10 @@ joins_within from (left ∷ lefts) rights h g =
     (rights_within from left rights parts.0 g) (joins_within from lefts rights parts.1 g)
 
 condition_within : (schema : Schema) (from : List ℕ) (condition : ConditionText) → list_all (within from) (conditions_of schema from condition) ≡ true
-condition_within schema from (Compares column operator literal) = compared_within from (λ place. query.compared place operator (value_of_literal literal)) (λ place. refl) (meanings schema from column)
-condition_within schema from (TestsNull column negated) = compared_within from (λ place. OneOf (query.tested place (null_test negated)) []) (λ place. refl) (meanings schema from column)
-condition_within schema from (LiesBetween column low high) = bounds_within from (value_of_literal low) (value_of_literal high) (meanings schema from column)
-condition_within schema from (Joins left right) = joins_within from (meanings schema from left) (meanings schema from right) (meanings_from schema from left) (meanings_from schema from right)
+condition_within schema from (grammar.Alone member) = group_within from (members_meant schema from member)
+condition_within schema from (grammar.AnyOf first second others) = group_within from (flat_map (members_meant schema from) (first ∷ second ∷ others))
+condition_within schema from (grammar.LiesBetween column low high) = bounds_within from (value_of_literal low) (value_of_literal high) (meanings schema from column)
+condition_within schema from (grammar.Joins left right) = joins_within from (meanings schema from left) (meanings schema from right) (meanings_from schema from left) (meanings_from schema from right)
 
 pub all_within : (schema : Schema) (from : List ℕ) (conditions : List ConditionText) → list_all (within from) (flat_map (conditions_of schema from) conditions) ≡ true
 all_within schema from [] = refl
@@ -308,9 +311,83 @@ linked_by true true c h = absurd (let no : true ≡ false = h in cc)
 linked_by true false c h = (refl, h)
 linked_by false b c h = absurd (let no : true ≡ false = h in cc)
 
+-- the query without its groups that are left: its joins stay
+
+module _ (schema : Schema) where
+  abbrev stays : Condition → Bool
+  stays condition = not (is_left schema condition)
+
+  one_kept : (table holder : ℕ) (key : Option ℕ) → filter stays (join_by table holder key) ≡ join_by table holder key
+  one_kept table holder None = refl
+  one_kept table holder (Some column) = refl
+
+  joins_kept_with : (from : List ℕ) (table : ℕ) (holder : Option ℕ) → filter stays (join_with schema from table holder) ≡ join_with schema from table holder
+  joins_kept_with from table None = refl
+  joins_kept_with from table (Some holder) =
+      elim (is_among from holder) as (λ b. filter stays (if b then join_by table holder (first_of (keys_between schema holder table)) else []) ≡ (if b then join_by table holder (first_of (keys_between schema holder table)) else [])) [
+        | true ↦ one_kept table holder (first_of (keys_between schema holder table))
+        | false ↦ refl
+      ]
+
+  joins_kept : (from tables : List ℕ) → filter stays (flat_map (join_to schema from) tables) ≡ flat_map (join_to schema from) tables
+  joins_kept from [] = refl
+  joins_kept from (table ∷ tables) =
+      filter-append stays (join_to schema from table) (flat_map (join_to schema from) tables)
+      ∙ ap₂ (λ xs ys. xs ++ ys) (joins_kept_with from table (parent schema table)) (joins_kept from tables)
+
+  groups_kept : (conditions : List Condition) → filter stays (filter is_group conditions) ≡ filter is_group (filter stays conditions)
+  groups_kept [] = refl
+  groups_kept (Join left right ∷ conditions) = groups_kept conditions
+  groups_kept (OneOf first others ∷ conditions) = by (stays (OneOf first others)) (groups_kept conditions)
+    where
+      by : (b : Bool) → filter stays (filter is_group conditions) ≡ filter is_group (filter stays conditions)
+          → (if b then OneOf first others ∷ filter stays (filter is_group conditions) else filter stays (filter is_group conditions))
+          ≡ filter is_group (if b then OneOf first others ∷ filter stays conditions else filter stays conditions)
+      by true rest = ap (λ cs. OneOf first others ∷ cs) rest
+      by false rest = rest
+
+  without_linked : (asked : Query) → without_left schema (linked schema asked) ≡ linked schema (without_left schema asked)
+  without_linked asked =
+      ap (λ (cs : List Condition). record { from = asked.from; select = asked.select; conditions = cs })
+      (filter-append stays (joins_of schema asked.from) (filter is_group asked.conditions)
+      ∙ ap₂ (λ xs ys. xs ++ ys) (joins_kept asked.from asked.from) (groups_kept asked.conditions))
+
+  keeps_joins : (table : ℕ) (conditions : List Condition) → list_any (is_join_of schema table) (filter stays conditions) ≡ list_any (is_join_of schema table) conditions
+  keeps_joins table [] = refl
+  keeps_joins table (Join left right ∷ conditions) = ap (λ b. is_join_of schema table (Join left right) || b) (keeps_joins table conditions)
+  keeps_joins table (OneOf first others ∷ conditions) = by (stays (OneOf first others)) (keeps_joins table conditions)
+    where
+      by : (b : Bool) → list_any (is_join_of schema table) (filter stays conditions) ≡ list_any (is_join_of schema table) conditions → list_any (is_join_of schema table) (if b then OneOf first others ∷ filter stays conditions else filter stays conditions) ≡ list_any (is_join_of schema table) conditions
+      by true rest = rest
+      by false rest = rest
+
+any_same : {X : Type 0} (p q : X → Bool) → ((x : X) → p x ≡ q x) → (xs : List X) → list_any p xs ≡ list_any q xs
+any_same p q same [] = refl
+any_same p q same (x ∷ xs) = ap₂ (λ a b. a || b) (same x) (any_same p q same xs)
+
+still_linked : (schema : Schema) (asked : Query) → IsLinked schema asked → IsLinked schema (without_left schema asked)
+still_linked schema asked h = record {
+  proper = all_filter (is_proper schema) (λ condition. not (is_left schema condition)) asked.conditions h.proper;
+  inside = all_filter (within asked.from) (λ condition. not (is_left schema condition)) asked.conditions h.inside;
+  none_lacks =
+      any_same (lacks_join schema (without_left schema asked)) (lacks_join schema asked)
+      (λ table. ap (λ b. is_some_among asked.from (parent schema table) && not b) (keeps_joins schema table asked.conditions)) asked.from
+      ∙ h.none_lacks;
+}
+
+means_linked : (schema : Schema) (tree : QueryText) → is_unlinked schema (resolved schema tree) ≡ false → IsLinked schema (resolved schema tree)
+means_linked schema tree h =
+    let parts = linked_by (list_all (is_proper schema) (resolved schema tree).conditions) _ (list_any (lacks_join schema (resolved schema tree)) (resolved schema tree).from) h in
+    record { proper = parts.0; inside = all_within schema (from_tables schema tree) tree.conditions; none_lacks = parts.1 }
+
 pub answer_once : ValuesAreOrdered → (schema : Schema) → IsTree schema → (tree : QueryText) → is_unlinked schema (resolved schema tree) ≡ false → (database : Database)
     → answer schema database (linked schema (resolved schema tree)) ≡ answer schema database (resolved schema tree)
 answer_once laws schema schema_tree tree h database =
-    let parts = linked_by (list_all (is_proper schema) (resolved schema tree).conditions) _ (list_any (lacks_join schema (resolved schema tree)) (resolved schema tree).from) h in
-    same_answer laws schema schema_tree (resolved schema tree)
-    (record { proper = parts.0; inside = all_within schema (from_tables schema tree) tree.conditions; none_lacks = parts.1 }) (all_of database) (top_of schema (resolved schema tree))
+    same_answer laws schema schema_tree (resolved schema tree) (means_linked schema tree h) (all_of database) (top_of schema (resolved schema tree))
+
+pub answer_left : ValuesAreOrdered → (schema : Schema) → IsTree schema → (tree : QueryText) → is_unlinked schema (resolved schema tree) ≡ false → (database : Database)
+    → answer schema database (without_left schema (linked schema (resolved schema tree))) ≡ answer schema database (without_left schema (resolved schema tree))
+answer_left laws schema schema_tree tree h database =
+    ap (answer schema database) (without_linked schema (resolved schema tree))
+    ∙ same_answer laws schema schema_tree (without_left schema (resolved schema tree)) (still_linked schema (resolved schema tree) (means_linked schema tree h)) (all_of database)
+    (top_of schema (resolved schema tree))

@@ -6,16 +6,18 @@ use Rattle.std.proofs.lemmas.List.Folds.{list_any-append}
 use Rattle.std.proofs.lemmas.Grind.{flat_map-append}
 use Rattle.ghost_model.specs.core.Schema.{Schema, Column, column_at, columns_of, first_of, is_table, parent}
 use Rattle.ghost_model.specs.core.Query.{Query, Field, Condition, Join, is_among}
-use Rattle.ghost_model.specs.refusals.QueryGrammar.{ColumnText, Bare, Qualified, ConditionText, Selection, All, Columns, QueryText}
+use Rattle.ghost_model.specs.refusals.QueryGrammar.{ColumnText, Bare, Qualified, Selection, All, Columns, QueryText}
 use Rattle.ghost_model.specs.readings.QueryPlaces.{syntax_of}
 use Rattle.ghost_model.specs.refusals.QueryMeaning.{field, table_named, fields_named, fields_of, meanings, from_names, from_tables, selected_fields, selected_count, selection_columns, condition_columns, resolved, is_over_limit}
 use Rattle.ghost_model.specs.laws.ShortWords.{column_named}
 use Rattle.spj_parse.specs.Conditions.{IsClear, first_alone}
-use Rattle.spj_parse.specs.Items.{Item, Selected, From, Where, selection_items, items_of, items_in}
+use Rattle.spj_parse.specs.Items.{Item, Selected, From, selection_items, condition_items, items_of, items_in}
 use Rattle.spj_parse.specs.Names.{first_meaning, fields_in}
 use Rattle.spj_parse.specs.Resolved.{item_fields, is_group, joins_of, join_to, join_with, join_by, linked}
 use Rattle.spj_parse.proofs.TreeLemmas.{items_are}
-use Rattle.spj_parse.proofs.ConditionLemmas.{is_unclear, clear, left_of, right_of, all_clear}
+use Rattle.spj_parse.proofs.WalkLemmas.{none_where}
+use Rattle.spj_parse.proofs.ConditionLemmas.{all_clear}
+use Rattle.spj_parse.proofs.TestLemmas.{is_unclear, clear, left_of, right_of}
 use Rattle.spj_parse.proofs.ReadingLemmas.{few_tables, few_selected, fewer}
 use Rattle.spj_parse.proofs.Places.{place_below}
 use Rattle.spj_parse.proofs.NameLemmas.{meant}
@@ -25,10 +27,6 @@ use Rattle.spj_parse.proofs.NameLemmas.{meant}
 pub none_from : {Y : Type 0} (give : Item → List Y) → ((name : List ℕ) → give (From name) ≡ []) → (names : List (List ℕ)) → flat_map give (map From names) ≡ []
 none_from give none [] = refl
 none_from give none (name ∷ names) = ap₂ (λ xs ys. xs ++ ys) (none name) (none_from give none names)
-
-none_where : {Y : Type 0} (give : Item → List Y) → ((condition : ConditionText) → give (Where condition) ≡ []) → (conditions : List ConditionText) → flat_map give (map Where conditions) ≡ []
-none_where give none [] = refl
-none_where give none (condition ∷ conditions) = ap₂ (λ xs ys. xs ++ ys) (none condition) (none_where give none conditions)
 
 meanings_alone : (schema : Schema) (from : List ℕ) (columns : List ColumnText) → list_any (is_unclear schema from) columns ≡ false → flat_map (item_fields schema from) (map Selected columns) ≡ flat_map (meanings schema from) columns
 meanings_alone schema from [] h = refl
@@ -42,10 +40,10 @@ selection_fields schema from (Columns column more) h = meanings_alone schema fro
 
 fields_of_items : (schema : Schema) (from : List ℕ) (tree : QueryText) → list_any (is_unclear schema from) (selection_columns tree.selection) ≡ false → flat_map (item_fields schema from) (items_of tree) ≡ selected_fields schema from tree.selection
 fields_of_items schema from tree h =
-    flat_map-append (item_fields schema from) (selection_items tree.selection) (map From (from_names tree) ++ map Where tree.conditions)
+    flat_map-append (item_fields schema from) (selection_items tree.selection) (map From (from_names tree) ++ flat_map condition_items tree.conditions)
     ∙ ap₂ (λ xs ys. xs ++ ys) (selection_fields schema from tree.selection h)
-    (flat_map-append (item_fields schema from) (map From (from_names tree)) (map Where tree.conditions)
-    ∙ ap₂ (λ xs ys. xs ++ ys) (none_from (item_fields schema from) (λ name. refl) (from_names tree)) (none_where (item_fields schema from) (λ condition. refl) tree.conditions))
+    (flat_map-append (item_fields schema from) (map From (from_names tree)) (flat_map condition_items tree.conditions)
+    ∙ ap₂ (λ xs ys. xs ++ ys) (none_from (item_fields schema from) (λ name. refl) (from_names tree)) (none_where (item_fields schema from) (λ piece. refl) tree.conditions))
     ∙ append-nil (selected_fields schema from tree.selection)
 
 one_or_less : {X : Type 0} (found : Option X) → length (option_to_list found) ≤ 1

@@ -1,20 +1,20 @@
 -- The members of conditions in their order, and the groups that members in their order are.
-use Rattle.std.proofs.Common.{◌≡◌, Bool, true, false, not, ◌&&◌, List, [], ◌∷◌, ◌++◌, map, filter, refl, ap, ap₂, sym, ◌∙◌}
+use Rattle.std.proofs.Common.{◌≡◌, Bool, true, false, not, ◌&&◌, List, [], ◌∷◌, ◌++◌, map, filter, refl, ap, ◌∙◌}
 use Rattle.std.specs.Prelude.{if◌then◌else◌}
 use Rattle.std.specs.List.{list_all}
 use Rattle.ghost_model.specs.core.Groups.{ends}
 use Rattle.ghost_model.specs.core.Query as query
 use Rattle.ghost_model.specs.core.Query.{Condition, OneOf, Join, GroupMember, members_of_group, members_of, members_in}
-use Rattle.ghost_model.specs.laws.QueryLaws.{is_lone}
+use Rattle.ghost_model.specs.core.Schema.{Schema}
+use Rattle.ghost_model.specs.refusals.QueryGrammar.{QueryText}
+use Rattle.ghost_model.specs.refusals.QueryMeaning.{is_of_one_table, resolved}
 use Rattle.ghost_model.proofs.GroupLemmas.{ends_flat}
 use Rattle.spj_parse.specs.Resolved.{is_group}
-use Rattle.spj_parse.specs.Views.{into_first, grouped}
+use Rattle.spj_parse.specs.declared.query.Member.{Member}
+use Rattle.spj_parse.specs.Views.{into_first, grouped, member_of}
 
 abbrev more_of : GroupMember → Bool
 more_of one = one.more
-
-abbrev alone : GroupMember → Condition
-alone one = OneOf one.member []
 
 -- members in their order are groups
 
@@ -103,13 +103,18 @@ members_again (one ∷ next ∷ members) h =
     (first_in next.more one.member next.member (grouped members))
     (members_again (next ∷ members) h)
 
--- where each group has one member, that member alone is the group
+-- groups of several tables, over the members that a text has
 
-pub lone_again :
-    (conditions : List Condition) → list_all is_lone conditions ≡ true
-    → map alone (members_in conditions) ≡ filter is_group conditions
-lone_again [] h = refl
-lone_again (OneOf first [] ∷ conditions) h =
-    ap (λ (rest : List Condition). OneOf first [] ∷ rest) (lone_again conditions h)
-lone_again (OneOf first (next ∷ others) ∷ conditions) h = absurd (let no : false ≡ true = h in cc)
-lone_again (Join left right ∷ conditions) h = lone_again conditions h
+groups_alone : (conditions : List Condition) → list_all is_of_one_table (filter is_group conditions) ≡ list_all is_of_one_table conditions
+groups_alone [] = refl
+groups_alone (OneOf first others ∷ conditions) = ap (λ b. is_of_one_table (OneOf first others) && b) (groups_alone conditions)
+groups_alone (Join left right ∷ conditions) = groups_alone conditions
+
+pub mixed_in :
+    (schema : Schema) (tree : QueryText) (members seen : List Member) (b : Bool) → map member_of members ≡ members_in (resolved schema tree).conditions → seen ≡ members
+    → b ≡ not (list_all is_of_one_table (grouped (map member_of seen))) → b ≡ not (list_all is_of_one_table (resolved schema tree).conditions)
+mixed_in schema tree members seen b e s h =
+    h
+    ∙ ap (λ all. not (list_all is_of_one_table (grouped all))) (ap (map member_of) s ∙ e)
+    ∙ ap (λ groups. not (list_all is_of_one_table groups)) (groups_again (resolved schema tree).conditions)
+    ∙ ap not (groups_alone (resolved schema tree).conditions)

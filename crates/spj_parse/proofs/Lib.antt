@@ -3,6 +3,7 @@ pub mod Places
 pub mod NameLemmas
 pub mod WalkLemmas
 pub mod TreeLemmas
+pub mod TestLemmas
 pub mod LiteralLemmas
 pub mod ConditionLemmas
 pub mod ResolveLemmas
@@ -16,3 +17,4 @@ pub mod KeyLemmas
 pub mod AnswerLemmas
 pub mod QueryViews
 pub mod TopLemmas
+pub mod SplitLemmas

@@ -6,17 +6,19 @@ use Rattle.std.proofs.lemmas.List.Folds.{list_any-append, fold-map}
 use Rattle.std.proofs.lemmas.List.Sums.{sum_by-append}
 use Rattle.ghost_model.specs.core.Schema.{Schema, columns_of, places_from, is_empty}
 use Rattle.ghost_model.specs.refusals.Tokens.{tokens}
-use Rattle.ghost_model.specs.refusals.QueryGrammar.{ColumnText, ConditionText, Selection, All, Columns, QueryText}
+use Rattle.ghost_model.specs.core.Query.{Equal, Compared}
+use Rattle.ghost_model.specs.refusals.QueryGrammar as grammar
+use Rattle.ghost_model.specs.refusals.QueryGrammar.{ColumnText, LiteralText, MemberText, ConditionText, Selection, All, Columns, QueryText}
 use Rattle.ghost_model.specs.readings.QueryPlaces.{syntax_of}
 use Rattle.ghost_model.specs.readings.QueryPlaces as places
-use Rattle.ghost_model.specs.refusals.QueryMeaning.{table_named, meanings, fields_of, from_names, selected_count, selection_columns, condition_columns, columns_in, qualifier_of, column_name, table_names, literal_conditions, is_over_limit, has_unknown_table}
+use Rattle.ghost_model.specs.refusals.QueryMeaning.{table_named, meanings, fields_of, from_names, selected_count, selection_columns, value_of_literal, tests_of_member, member_column, condition_columns, columns_in, qualifier_of, column_name, table_names, literal_conditions, is_over_limit, has_unknown_table}
 use Rattle.ghost_model.specs.laws.ShortWords.{names_in}
 use Rattle.spj_parse.specs.declared.rules.NameRule.{NameRule}
 use Rattle.spj_parse.specs.declared.rules.NameRule.TheVariants as rule
 use Rattle.spj_parse.specs.declared.limits.Count.{Count}
 use Rattle.spj_parse.specs.declared.limits.Count.TheVariants as count
-use Rattle.spj_parse.specs.Items.{Item, AllColumns, Selected, From, Where, selection_items, items_of, items_in}
-use Rattle.spj_parse.specs.Rules.{is_long, is_unknown, name_breaks, column_breaks, breaks_rule, weight_of, width_of, columns_or_none, selects_all, columns_or}
+use Rattle.spj_parse.specs.Items.{TestText, Compares, Piece, Tests, Item, AllColumns, Selected, From, Where, selection_items, tests_in, group_items, condition_items, items_of, items_in}
+use Rattle.spj_parse.specs.Rules.{is_long, is_unknown, name_breaks, column_breaks, test_column, piece_columns, breaks_rule, weight_of, width_of, columns_or_none, selects_all, columns_or}
 use Rattle.spj_parse.proofs.Turns.{items_lead}
 use Rattle.spj_parse.proofs.WalkLemmas.{any_map, any_flat}
 
@@ -30,6 +32,92 @@ of_selection : (r : NameRule) (schema : Schema) (from : List ℕ) (selection : S
 of_selection r schema from All = refl
 of_selection r schema from (Columns column more) = ap (λ b. column_breaks r schema from column || b) (any_map (breaks_rule r schema from) Selected more)
 
+or_none : (a : Bool) → (a || false) ≡ a
+or_none true = refl
+or_none false = refl
+
+or_same : (a b : Bool) → b ≡ a → (a || b) ≡ a
+or_same true b e = refl
+or_same false b e = e
+
+-- a test of the columns that things name, over the things of a condition
+
+abbrev pub any_column : (ColumnText → Bool) → Item → Bool
+any_column p AllColumns = false
+any_column p (Selected column) = false
+any_column p (From name) = false
+any_column p (Where piece) = list_any p (piece_columns piece)
+
+any_group : (p : ColumnText → Bool) (tests : List TestText) → list_any (any_column p) (group_items tests) ≡ list_any (λ test. p (test_column test)) tests
+any_group p [] = refl
+any_group p (last ∷ []) = or_none (p (test_column last) || false)
+any_group p (test ∷ next ∷ tests) = ap₂ (λ a b. a || b) (or_none (p (test_column test))) (any_group p (next ∷ tests))
+
+any_listed : (p : ColumnText → Bool) (column : ColumnText) (first : LiteralText) (others : List LiteralText)
+    → list_any (λ test. p (test_column test)) (map (Compares column Equal) (first ∷ others)) ≡ p column
+any_listed p column first [] = or_none (p column)
+any_listed p column first (next ∷ others) = or_same (p column) _ (any_listed p column next others)
+
+any_member : (p : ColumnText → Bool) (member : MemberText) → list_any (λ test. p (test_column test)) (tests_in member) ≡ p (member_column member)
+any_member p (grammar.Compares column operator literal) = or_none (p column)
+any_member p (grammar.TestsNull column negated) = or_none (p column)
+any_member p (grammar.IsIn column first others) = any_listed p column first others
+
+any_members : (p : ColumnText → Bool) (members : List MemberText)
+    → list_any (λ test. p (test_column test)) (flat_map tests_in members) ≡ list_any p (map member_column members)
+any_members p [] = refl
+any_members p (member ∷ members) =
+    list_any-append (λ test. p (test_column test)) (tests_in member) (flat_map tests_in members)
+    ∙ ap₂ (λ a b. a || b) (any_member p member) (any_members p members)
+
+pub tests_alone : (p : ColumnText → Bool) (member : MemberText)
+    → list_any (λ test. p (test_column test)) (tests_in member) ≡ list_any p (condition_columns (grammar.Alone member))
+tests_alone p member = any_member p member ∙ sym (or_none (p (member_column member)))
+
+pub tests_grouped : (p : ColumnText → Bool) (first second : MemberText) (others : List MemberText)
+    → list_any (λ test. p (test_column test)) (flat_map tests_in (first ∷ second ∷ others)) ≡ list_any p (condition_columns (grammar.AnyOf first second others))
+tests_grouped p first second others = any_members p (first ∷ second ∷ others)
+
+any_condition : (p : ColumnText → Bool) (condition : ConditionText) → list_any (any_column p) (condition_items condition) ≡ list_any p (condition_columns condition)
+any_condition p (grammar.Alone member) = any_group p (tests_in member) ∙ tests_alone p member
+any_condition p (grammar.AnyOf first second others) = any_group p (flat_map tests_in (first ∷ second ∷ others)) ∙ any_members p (first ∷ second ∷ others)
+any_condition p (grammar.LiesBetween column low high) = or_none (p column || false)
+any_condition p (grammar.Joins left right) = or_none (p left || (p right || false))
+
+any_conditions : (p : ColumnText → Bool) (conditions : List ConditionText)
+    → list_any (any_column p) (flat_map condition_items conditions) ≡ list_any p (flat_map condition_columns conditions)
+any_conditions p [] = refl
+any_conditions p (condition ∷ conditions) =
+    list_any-append (any_column p) (condition_items condition) (flat_map condition_items conditions)
+    ∙ ap₂ (λ a b. a || b) (any_condition p condition) (any_conditions p conditions)
+    ∙ sym (list_any-append p (condition_columns condition) (flat_map condition_columns conditions))
+
+-- the same of rules
+
+any_alike : (r : NameRule) (schema : Schema) (from : List ℕ) (tests : List TestText)
+    → list_any (breaks_rule r schema from) (group_items tests) ≡ list_any (any_column (column_breaks r schema from)) (group_items tests)
+any_alike r schema from [] = refl
+any_alike r schema from (last ∷ []) = refl
+any_alike r schema from (test ∷ next ∷ tests) = ap (λ b. (column_breaks r schema from (test_column test) || false) || b) (any_alike r schema from (next ∷ tests))
+
+condition_alike : (r : NameRule) (schema : Schema) (from : List ℕ) (condition : ConditionText)
+    → list_any (breaks_rule r schema from) (condition_items condition) ≡ list_any (any_column (column_breaks r schema from)) (condition_items condition)
+condition_alike r schema from (grammar.Alone member) = any_alike r schema from (tests_in member)
+condition_alike r schema from (grammar.AnyOf first second others) = any_alike r schema from (flat_map tests_in (first ∷ second ∷ others))
+condition_alike r schema from (grammar.LiesBetween column low high) = refl
+condition_alike r schema from (grammar.Joins left right) = refl
+
+breaks_conditions : (r : NameRule) (schema : Schema) (from : List ℕ) (conditions : List ConditionText)
+    → list_any (breaks_rule r schema from) (flat_map condition_items conditions) ≡ list_any (column_breaks r schema from) (flat_map condition_columns conditions)
+breaks_conditions r schema from conditions = each conditions ∙ any_conditions (column_breaks r schema from) conditions
+  where
+    each : (xs : List ConditionText) → list_any (breaks_rule r schema from) (flat_map condition_items xs) ≡ list_any (any_column (column_breaks r schema from)) (flat_map condition_items xs)
+    each [] = refl
+    each (x ∷ xs) =
+        list_any-append (breaks_rule r schema from) (condition_items x) (flat_map condition_items xs)
+        ∙ ap₂ (λ a b. a || b) (condition_alike r schema from x) (each xs)
+        ∙ sym (list_any-append (any_column (column_breaks r schema from)) (condition_items x) (flat_map condition_items xs))
+
 turned : (a q w : Bool) → (a || (q || w)) ≡ ((a || w) || q)
 turned true q w = refl
 turned false true true = refl
@@ -40,11 +128,11 @@ turned false false false = refl
 pub any_items : (r : NameRule) (schema : Schema) (from : List ℕ) (tree : QueryText)
     → list_any (breaks_rule r schema from) (items_of tree) ≡ (list_any (column_breaks r schema from) (columns_in tree) || list_any (name_breaks r schema) (from_names tree))
 any_items r schema from tree =
-    list_any-append test (selection_items tree.selection) (map From (from_names tree) ++ map Where tree.conditions)
+    list_any-append test (selection_items tree.selection) (map From (from_names tree) ++ flat_map condition_items tree.conditions)
     ∙ ap₂ (λ a b. a || b) (of_selection r schema from tree.selection)
-    (list_any-append test (map From (from_names tree)) (map Where tree.conditions)
+    (list_any-append test (map From (from_names tree)) (flat_map condition_items tree.conditions)
     ∙ ap₂ (λ a b. a || b) (any_map test From (from_names tree))
-    (any_map test Where tree.conditions ∙ sym (any_flat (column_breaks r schema from) condition_columns tree.conditions)))
+    (breaks_conditions r schema from tree.conditions))
     ∙ turned (list_any (column_breaks r schema from) (selection_columns tree.selection)) (list_any (name_breaks r schema) (from_names tree)) (list_any (column_breaks r schema from) (flat_map condition_columns tree.conditions))
     ∙ ap (λ b. b || list_any (name_breaks r schema) (from_names tree)) (sym (list_any-append (column_breaks r schema from) (selection_columns tree.selection) (flat_map condition_columns tree.conditions)))
   where
@@ -127,12 +215,12 @@ sum_map weight view xs = fold-map (λ a y. a + weight y) view 0 xs
 
 pub sum_items : (c : Count) (schema : Schema) (tree : QueryText)
     → sum_by (weight_of c schema) (items_of tree)
-    ≡ sum_by (weight_of c schema) (selection_items tree.selection) + (sum_by (λ name. weight_of c schema (From name)) (from_names tree) + sum_by (λ condition. weight_of c schema (Where condition)) tree.conditions)
+    ≡ sum_by (weight_of c schema) (selection_items tree.selection) + (sum_by (λ name. weight_of c schema (From name)) (from_names tree) + sum_by (weight_of c schema) (flat_map condition_items tree.conditions))
 sum_items c schema tree =
-    sum_by-append (weight_of c schema) (selection_items tree.selection) (map From (from_names tree) ++ map Where tree.conditions)
+    sum_by-append (weight_of c schema) (selection_items tree.selection) (map From (from_names tree) ++ flat_map condition_items tree.conditions)
     ∙ ap (λ n. sum_by (weight_of c schema) (selection_items tree.selection) + n)
-    (sum_by-append (weight_of c schema) (map From (from_names tree)) (map Where tree.conditions)
-    ∙ ap₂ (λ n m. n + m) (sum_map (weight_of c schema) From (from_names tree)) (sum_map (weight_of c schema) Where tree.conditions))
+    (sum_by-append (weight_of c schema) (map From (from_names tree)) (flat_map condition_items tree.conditions)
+    ∙ ap (λ n. n + sum_by (weight_of c schema) (flat_map condition_items tree.conditions)) (sum_map (weight_of c schema) From (from_names tree)))
 
 selection_zero : (c : Count) (schema : Schema) (selection : Selection) → ((item : ColumnText) → weight_of c schema (Selected item) ≡ 0) → weight_of c schema AllColumns ≡ 0 → sum_by (weight_of c schema) (selection_items selection) ≡ 0
 selection_zero c schema All none star = ap (λ n. 0 + n) star
@@ -144,18 +232,75 @@ selection_zero c schema (Columns column more) none star =
     zeros [] = refl
     zeros (x ∷ xs) = ap (λ n. fold (λ a y. a + weight_of c schema (Selected y)) (0 + n) xs) (none x) ∙ zeros xs
 
+pub sum_cons : {X : Type 0} (weight : X → ℕ) (x : X) (xs : List X) → sum_by weight (x ∷ xs) ≡ weight x + sum_by weight xs
+sum_cons weight x xs = sum_by-append weight (x ∷ []) xs ∙ ap (λ n. n + sum_by weight xs) (zero-add (weight x))
+
+group_zero : (c : Count) (schema : Schema) → ((piece : Piece) → weight_of c schema (Where piece) ≡ 0) → (tests : List TestText) → sum_by (weight_of c schema) (group_items tests) ≡ 0
+group_zero c schema none [] = refl
+group_zero c schema none (last ∷ []) = zero-add (weight_of c schema (Where (Tests last false))) ∙ none (Tests last false)
+group_zero c schema none (test ∷ next ∷ tests) =
+    sum_cons (weight_of c schema) (Where (Tests test true)) (group_items (next ∷ tests))
+    ∙ ap₂ (λ n m. n + m) (none (Tests test true)) (group_zero c schema none (next ∷ tests))
+
+condition_zero : (c : Count) (schema : Schema) → ((piece : Piece) → weight_of c schema (Where piece) ≡ 0) → (condition : ConditionText) → sum_by (weight_of c schema) (condition_items condition) ≡ 0
+condition_zero c schema none (grammar.Alone member) = group_zero c schema none (tests_in member)
+condition_zero c schema none (grammar.AnyOf first second others) = group_zero c schema none (flat_map tests_in (first ∷ second ∷ others))
+condition_zero c schema none (grammar.LiesBetween column low high) = zero-add _ ∙ none _
+condition_zero c schema none (grammar.Joins left right) = zero-add _ ∙ none _
+
+conditions_zero : (c : Count) (schema : Schema) → ((piece : Piece) → weight_of c schema (Where piece) ≡ 0) → (xs : List ConditionText) → sum_by (weight_of c schema) (flat_map condition_items xs) ≡ 0
+conditions_zero c schema none [] = refl
+conditions_zero c schema none (x ∷ xs) =
+    sum_by-append (weight_of c schema) (condition_items x) (flat_map condition_items xs)
+    ∙ ap₂ (λ n m. n + m) (condition_zero c schema none x) (conditions_zero c schema none xs)
+
+-- each test counts
+
+group_counted : (schema : Schema) (tests : List TestText) → sum_by (weight_of count.Tests schema) (group_items tests) ≡ length tests
+group_counted schema [] = refl
+group_counted schema (last ∷ []) = refl
+group_counted schema (test ∷ next ∷ tests) =
+    let rest : sum_by (weight_of count.Tests schema) (group_items (next ∷ tests)) ≡ length (next ∷ tests) = group_counted schema (next ∷ tests) in
+    sum_cons (weight_of count.Tests schema) (Where (Tests test true)) (group_items (next ∷ tests)) ∙ omega (arith, rest)
+
+member_counted : (member : MemberText) → length (tests_in member) ≡ length (tests_of_member member)
+member_counted (grammar.Compares column operator literal) = refl
+member_counted (grammar.TestsNull column negated) = refl
+member_counted (grammar.IsIn column first others) =
+    length-map (first ∷ others) (Compares column Equal) ∙ sym (length-map (first ∷ others) (λ literal. Compared Equal (value_of_literal literal)))
+
+members_counted : (members : List MemberText) → length (flat_map tests_in members) ≡ sum_by (λ member. length (tests_of_member member)) members
+members_counted [] = refl
+members_counted (member ∷ members) =
+    length-append (tests_in member) (flat_map tests_in members)
+    ∙ ap₂ (λ n m. n + m) (member_counted member) (members_counted members)
+    ∙ sym (sum_cons (λ member. length (tests_of_member member)) member members)
+
+condition_counted : (schema : Schema) (condition : ConditionText) → sum_by (weight_of count.Tests schema) (condition_items condition) ≡ literal_conditions condition
+condition_counted schema (grammar.Alone member) = group_counted schema (tests_in member) ∙ member_counted member
+condition_counted schema (grammar.AnyOf first second others) = group_counted schema (flat_map tests_in (first ∷ second ∷ others)) ∙ members_counted (first ∷ second ∷ others)
+condition_counted schema (grammar.LiesBetween column low high) = refl
+condition_counted schema (grammar.Joins left right) = refl
+
+tests_counted : (schema : Schema) (conditions : List ConditionText) → sum_by (weight_of count.Tests schema) (flat_map condition_items conditions) ≡ sum_by literal_conditions conditions
+tests_counted schema [] = refl
+tests_counted schema (condition ∷ conditions) =
+    sum_by-append (weight_of count.Tests schema) (condition_items condition) (flat_map condition_items conditions)
+    ∙ ap₂ (λ n m. n + m) (condition_counted schema condition) (tests_counted schema conditions)
+    ∙ sym (sum_cons literal_conditions condition conditions)
+
 pub tables_count : (schema : Schema) (tree : QueryText) → sum_by (weight_of count.Tables schema) (items_of tree) ≡ length (from_names tree)
 tables_count schema tree =
     let selection = selection_zero count.Tables schema tree.selection (λ item. refl) refl in
     let tables : sum_by (λ name. weight_of count.Tables schema (From name)) (from_names tree) ≡ length (from_names tree) = sum_one (from_names tree) in
-    let others : sum_by (λ condition. weight_of count.Tables schema (Where condition)) tree.conditions ≡ 0 = sum_zero tree.conditions in
+    let others : sum_by (weight_of count.Tables schema) (flat_map condition_items tree.conditions) ≡ 0 = conditions_zero count.Tables schema (λ piece. refl) tree.conditions in
     sum_items count.Tables schema tree ∙ omega (arith, selection, tables, others)
 
 pub tests_count : (schema : Schema) (tree : QueryText) → sum_by (weight_of count.Tests schema) (items_of tree) ≡ sum_by literal_conditions tree.conditions
 tests_count schema tree =
     let selection = selection_zero count.Tests schema tree.selection (λ item. refl) refl in
     let tables : sum_by (λ name. weight_of count.Tests schema (From name)) (from_names tree) ≡ 0 = sum_zero (from_names tree) in
-    sum_items count.Tests schema tree ∙ omega (arith, selection, tables)
+    sum_items count.Tests schema tree ∙ omega (arith, selection, tables, tests_counted schema tree.conditions)
 
 all_places : {X : Type 0} (at : ℕ) (xs : List X) → length (places_from (λ x. true) at xs) ≡ length xs
 unfolding places_from
@@ -164,9 +309,6 @@ all_places at (x ∷ xs) = let rest : length (places_from (λ y. true) (at + 1) 
 
 pub width : (schema : Schema) (table : ℕ) → length (fields_of schema table) ≡ length (columns_of schema table)
 width schema table = length-map _ _ ∙ all_places 0 (columns_of schema table)
-
-pub sum_cons : {X : Type 0} (weight : X → ℕ) (x : X) (xs : List X) → sum_by weight (x ∷ xs) ≡ weight x + sum_by weight xs
-sum_cons weight x xs = sum_by-append weight (x ∷ []) xs ∙ ap (λ n. n + sum_by weight xs) (zero-add (weight x))
 
 widths_by : (schema : Schema) (found : Option ℕ) (rest : List ℕ) → length (flat_map (fields_of schema) (cons_option found rest)) ≡ columns_or_none schema found + length (flat_map (fields_of schema) rest)
 widths_by schema None rest = omega arith
@@ -179,16 +321,12 @@ widths schema (name ∷ names) =
     ∙ ap (λ n. width_of schema name + n) (widths schema names)
     ∙ sym (sum_cons (width_of schema) name names)
 
-conditions_zero : (c : Count) (schema : Schema) → ((condition : ConditionText) → weight_of c schema (Where condition) ≡ 0) → (xs : List ConditionText) → sum_by (λ x. weight_of c schema (Where x)) xs ≡ 0
-conditions_zero c schema none [] = refl
-conditions_zero c schema none (x ∷ xs) = ap (λ n. fold (λ a y. a + weight_of c schema (Where y)) (0 + n) xs) (none x) ∙ conditions_zero c schema none xs
-
 pub all_count : (schema : Schema) (tree : QueryText) → tree.selection ≡ All → sum_by (weight_of count.AllColumns schema) (items_of tree) ≡ selected_count schema tree tree.selection
 all_count schema tree e =
     let selection : sum_by (weight_of count.AllColumns schema) (selection_items tree.selection) ≡ 0 = selection_zero count.AllColumns schema tree.selection (λ item. refl) refl in
-    let others : sum_by (λ condition. weight_of count.AllColumns schema (Where condition)) tree.conditions ≡ 0 = conditions_zero count.AllColumns schema (λ condition. refl) tree.conditions in
+    let others : sum_by (weight_of count.AllColumns schema) (flat_map condition_items tree.conditions) ≡ 0 = conditions_zero count.AllColumns schema (λ piece. refl) tree.conditions in
     sum_items count.AllColumns schema tree
-    ∙ (let sums : sum_by (weight_of count.AllColumns schema) (selection_items tree.selection) + (sum_by (width_of schema) (from_names tree) + sum_by (λ condition. weight_of count.AllColumns schema (Where condition)) tree.conditions) ≡ sum_by (width_of schema) (from_names tree) = omega (arith, selection, others) in sums)
+    ∙ (let sums : sum_by (weight_of count.AllColumns schema) (selection_items tree.selection) + (sum_by (width_of schema) (from_names tree) + sum_by (weight_of count.AllColumns schema) (flat_map condition_items tree.conditions)) ≡ sum_by (width_of schema) (from_names tree) = omega (arith, selection, others) in sums)
     ∙ sym (widths schema (from_names tree)) ∙ ap (selected_count schema tree) (sym e)
 
 pub some_count : (schema : Schema) (tree : QueryText) (column : ColumnText) (more : List ColumnText) → tree.selection ≡ Columns column more
@@ -197,13 +335,13 @@ some_count schema tree column more e =
     let selection : sum_by (weight_of count.Columns schema) (selection_items tree.selection) ≡ length (column ∷ more) =
     ap (λ selection. sum_by (weight_of count.Columns schema) (selection_items selection)) e ∙ sum_map (weight_of count.Columns schema) Selected (column ∷ more) ∙ sum_one (column ∷ more) in
     let tables : sum_by (λ name. weight_of count.Columns schema (From name)) (from_names tree) ≡ 0 = sum_zero (from_names tree) in
-    let others : sum_by (λ condition. weight_of count.Columns schema (Where condition)) tree.conditions ≡ 0 = conditions_zero count.Columns schema (λ condition. refl) tree.conditions in
+    let others : sum_by (weight_of count.Columns schema) (flat_map condition_items tree.conditions) ≡ 0 = conditions_zero count.Columns schema (λ piece. refl) tree.conditions in
     sum_items count.Columns schema tree
-    ∙ (let sums : sum_by (weight_of count.Columns schema) (selection_items tree.selection) + (sum_by (λ name. weight_of count.Columns schema (From name)) (from_names tree) + sum_by (λ condition. weight_of count.Columns schema (Where condition)) tree.conditions) ≡ length (column ∷ more) = omega (arith, selection, tables, others) in sums)
+    ∙ (let sums : sum_by (weight_of count.Columns schema) (selection_items tree.selection) + (sum_by (λ name. weight_of count.Columns schema (From name)) (from_names tree) + sum_by (weight_of count.Columns schema) (flat_map condition_items tree.conditions)) ≡ length (column ∷ more) = omega (arith, selection, tables, others) in sums)
     ∙ ap (selected_count schema tree) (sym e)
 
 by_selection : (schema : Schema) (tree : QueryText) (selection : Selection) → tree.selection ≡ selection
-    → sum_by (weight_of (columns_or (selects_all (selection_items selection ++ (map From (from_names tree) ++ map Where tree.conditions)))) schema) (items_of tree) ≡ selected_count schema tree tree.selection
+    → sum_by (weight_of (columns_or (selects_all (selection_items selection ++ (map From (from_names tree) ++ flat_map condition_items tree.conditions)))) schema) (items_of tree) ≡ selected_count schema tree tree.selection
 by_selection schema tree All e = all_count schema tree e
 by_selection schema tree (Columns column more) e = some_count schema tree column more e
 

@@ -4,13 +4,14 @@ use Rattle.ghost_model.specs.core.Schema.{Schema, columns_of, places_where, firs
 use Rattle.ghost_model.specs.refusals.Tokens.{number_of}
 use Rattle.ghost_model.specs.core.Values.{Value, Number, Text}
 use Rattle.ghost_model.specs.core.Query.{Field, AtMost, AtLeast, Test, Compared, tested, GroupMember, Condition, OneOf, Join, Query, is_among}
-use Rattle.ghost_model.specs.refusals.QueryGrammar.{ColumnText, LiteralText, Unsigned, Signed, Written, Positive, ConditionText, Compares, TestsNull, LiesBetween, Joins}
+use Rattle.ghost_model.specs.refusals.QueryGrammar.{ColumnText, LiteralText, Unsigned, Signed, Written, Positive}
 use Rattle.ghost_model.specs.refusals.QueryMeaning.{field, table_named, fields_of, with_sign, null_test}
 use Rattle.ghost_model.specs.readings.QueryReading.{reading}
 use Rattle.tree_schema.specs.Schemas.{IsDeclared}
-use Rattle.spj_parse.specs.Items.{Item, AllColumns, Selected, From, Where}
+use Rattle.spj_parse.specs.Items.{TestText, Compares, TestsNull, Piece, Tests, LiesBetween, Joins, Item, AllColumns, Selected, From, Where}
 use Rattle.spj_parse.specs.Literals.{is_out}
 use Rattle.spj_parse.specs.Conditions.{first_alone}
+use Rattle.spj_parse.specs.Rules.{test_column}
 
 -- the foreign keys of one table to another, by place
 abbrev pub keys_between : Schema → (holder child : ℕ) → List ℕ
@@ -67,13 +68,13 @@ abbrev pub item_tables : Schema → Item → List ℕ
 item_tables schema AllColumns = []
 item_tables schema (Selected column) = []
 item_tables schema (From name) = option_to_list (table_named schema name)
-item_tables schema (Where condition) = []
+item_tables schema (Where piece) = []
 
 abbrev pub item_fields : Schema → (from : List ℕ) → Item → List Field
 item_fields schema from AllColumns = flat_map (fields_of schema) from
 item_fields schema from (Selected column) = first_alone schema from column
 item_fields schema from (From name) = []
-item_fields schema from (Where condition) = []
+item_fields schema from (Where piece) = []
 
 -- the value of a literal as it is kept, which is its value where that fits
 abbrev pub number_kept : ℤ → Value
@@ -84,17 +85,21 @@ literal_kept (Unsigned digits) = number_kept (with_sign Positive (number_of digi
 literal_kept (Signed sign digits) = number_kept (with_sign sign (number_of digits))
 literal_kept (Written text) = Text (take 64 text)
 
--- a test of a column that is a group of its own
-abbrev pub lone : Field → Test → GroupMember
-lone field test = record { member = tested field test; more = false }
+-- what is kept of a test of a text
+abbrev pub test_kept : TestText → Test
+test_kept (Compares column operator literal) = Compared operator (literal_kept literal)
+test_kept (TestsNull column negated) = null_test negated
 
-abbrev pub members_with : (ColumnText → List Field) → ConditionText → List GroupMember
-members_with meant (Compares column operator literal) =
-    map (λ field. lone field (Compared operator (literal_kept literal))) (meant column)
-members_with meant (TestsNull column negated) = map (λ field. lone field (null_test negated)) (meant column)
+-- a test of a column, and whether another one of its group follows
+abbrev pub flagged : (more : Bool) → Field → Test → GroupMember
+flagged more field test = record { member = tested field test; more = more }
+
+abbrev pub members_with : (ColumnText → List Field) → Piece → List GroupMember
+members_with meant (Tests test more) = map (λ field. flagged more field (test_kept test)) (meant (test_column test))
 members_with meant (LiesBetween column low high) =
     flat_map
-    (λ field. lone field (Compared AtLeast (literal_kept low)) ∷ lone field (Compared AtMost (literal_kept high)) ∷ [])
+    (λ field.
+    flagged false field (Compared AtLeast (literal_kept low)) ∷ flagged false field (Compared AtMost (literal_kept high)) ∷ [])
     (meant column)
 members_with meant (Joins left right) = []
 
@@ -102,4 +107,4 @@ abbrev pub item_members : Schema → (from : List ℕ) → Item → List GroupMe
 item_members schema from AllColumns = []
 item_members schema from (Selected column) = []
 item_members schema from (From name) = []
-item_members schema from (Where condition) = members_with (first_alone schema from) condition
+item_members schema from (Where piece) = members_with (first_alone schema from) piece

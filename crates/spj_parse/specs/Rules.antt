@@ -3,8 +3,8 @@ use Rattle.std.specs.Prelude.{ℕ, Bool, true, false, ◌||◌, nat_lt, List, []
 use Rattle.std.specs.List.{list_any}
 use Rattle.ghost_model.specs.core.Schema.{Schema, columns_of, is_empty}
 use Rattle.ghost_model.specs.refusals.QueryGrammar.{ColumnText}
-use Rattle.ghost_model.specs.refusals.QueryMeaning.{table_named, meanings, condition_columns, qualifier_of, column_name, literal_conditions}
-use Rattle.spj_parse.specs.Items.{Item, AllColumns, Selected, From, Where}
+use Rattle.ghost_model.specs.refusals.QueryMeaning.{table_named, meanings, qualifier_of, column_name}
+use Rattle.spj_parse.specs.Items.{TestText, Compares, TestsNull, Piece, Tests, LiesBetween, Joins, Item, AllColumns, Selected, From, Where}
 use Rattle.spj_parse.specs.declared.rules.NameRule.{NameRule}
 use Rattle.spj_parse.specs.declared.rules.NameRule.TheVariants as rule
 use Rattle.spj_parse.specs.declared.limits.Count.{Count}
@@ -29,11 +29,21 @@ column_breaks rule.NoTable schema from column = list_any (is_unknown schema) (qu
 column_breaks rule.NoMeaning schema from column = is_empty (meanings schema from column)
 column_breaks rule.SeveralMeanings schema from column = nat_lt 1 (length (meanings schema from column))
 
+-- the columns of a part of a condition
+abbrev pub test_column : TestText → ColumnText
+test_column (Compares column operator literal) = column
+test_column (TestsNull column negated) = column
+
+abbrev pub piece_columns : Piece → List ColumnText
+piece_columns (Tests test more) = test_column test ∷ []
+piece_columns (LiesBetween column low high) = column ∷ []
+piece_columns (Joins left right) = left ∷ right ∷ []
+
 abbrev pub breaks_rule : NameRule → Schema → (from : List ℕ) → Item → Bool
 breaks_rule rule schema from AllColumns = false
 breaks_rule rule schema from (Selected column) = column_breaks rule schema from column
 breaks_rule rule schema from (From table) = name_breaks rule schema table
-breaks_rule rule schema from (Where condition) = list_any (column_breaks rule schema from) (condition_columns condition)
+breaks_rule rule schema from (Where piece) = list_any (column_breaks rule schema from) (piece_columns piece)
 
 -- how many columns the table of this name has, none where there is no such table
 abbrev pub columns_or_none : Schema → Option ℕ → ℕ
@@ -43,10 +53,16 @@ columns_or_none schema (Some table) = length (columns_of schema table)
 abbrev pub width_of : Schema → List ℕ → ℕ
 width_of schema name = columns_or_none schema (table_named schema name)
 
+-- how many tests of a column a part of a condition is
+abbrev pub tests_of : Piece → ℕ
+tests_of (Tests test more) = 1
+tests_of (LiesBetween column low high) = 2
+tests_of (Joins left right) = 0
+
 -- how much a thing counts: FROM tables, tests of columns, selected columns, or those that `*` stands for
 abbrev pub weight_of : Count → Schema → Item → ℕ
 weight_of count.Tables schema (From table) = 1
-weight_of count.Tests schema (Where condition) = literal_conditions condition
+weight_of count.Tests schema (Where piece) = tests_of piece
 weight_of count.Columns schema (Selected column) = 1
 weight_of count.AllColumns schema (From table) = width_of schema table
 weight_of _ schema _ = 0

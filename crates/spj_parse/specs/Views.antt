@@ -1,5 +1,5 @@
 -- What the queries and refusals of the code stand for, in the words of the definitions.
-use Rattle.std.specs.Prelude.{ℕ, Bool, List, [], ◌∷◌, ◌++◌, map, if◌then◌else◌}
+use Rattle.std.specs.Prelude.{ℕ, suc, ◌==◌, Bool, true, false, List, [], ◌∷◌, ◌++◌, map, if◌then◌else◌}
 use Rattle.ghost_model.specs.core.Query as query
 use Rattle.ghost_model.specs.refusals.QueryMeaning as refusal
 use Rattle.ghost_base.specs.Views.{test_of}
@@ -18,10 +18,6 @@ member_of member = record { member = query.tested (field_of member.field) (test_
 abbrev pub says_more : Member → Bool
 says_more member = member.more
 
--- the condition that a member is where it stands alone
-abbrev pub alone_of : Member → query.Condition
-alone_of member = query.OneOf (query.tested (field_of member.field) (test_of member.test)) []
-
 -- a member before the others of the first group
 abbrev pub into_first : query.Member → List query.Condition → List query.Condition
 into_first member [] = query.OneOf member [] ∷ []
@@ -33,6 +29,16 @@ unfoldable pub grouped : List query.GroupMember → List query.Condition
 grouped [] = []
 grouped (one ∷ members) =
     if one.more then into_first one.member (grouped members) else query.OneOf one.member [] ∷ grouped members
+
+-- whether the column of a member is of a table
+abbrev pub is_of_table : (table : ℕ) → Member → Bool
+is_of_table table member = member.field.table == table
+
+-- how many members are of a group whose first member stands before them and says this
+abbrev pub others_after : (more : Bool) → List Member → ℕ
+others_after false members = 0
+others_after true [] = 0
+others_after true (member ∷ members) = suc (others_after member.more members)
 
 abbrev pub join_of : Join → query.Condition
 join_of join = query.Join (field_of join.key) (field_of join.identifier)
@@ -50,3 +56,4 @@ refusal_of told.Ambiguous = refusal.Ambiguous
 refusal_of told.KindMismatch = refusal.KindMismatch
 refusal_of told.BadLiteral = refusal.BadLiteral
 refusal_of told.NotLinked = refusal.NotLinked
+refusal_of told.MixedTables = refusal.MixedTables

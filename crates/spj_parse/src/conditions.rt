@@ -9,11 +9,11 @@ ghost use Rattle.ghost_model.specs.core.Schema as model;
 ghost use Rattle.ghost_model.specs.core.Values as values;
 ghost use Rattle.tree_schema.specs.Marks as marks;
 ghost use Rattle.spj_parse.specs.Conditions.{conditions_meant, item_passes, passes_test};
-ghost use Rattle.spj_parse.specs.Drafts.{condition_of, item_of, literal_of};
+ghost use Rattle.spj_parse.specs.Drafts.{item_of, literal_of, piece_of};
 ghost use Rattle.spj_parse.specs.Items.{items_in};
 ghost use Rattle.spj_parse.specs.Views.{field_of};
 
-use crate::drafts::{ConditionDraft, Item, LiteralDraft, Sign};
+use crate::drafts::{Item, LiteralDraft, PieceDraft, Sign, TestDraft};
 use crate::literals::{integer_in, text_in};
 use crate::names::{first_meaning, is_table};
 use crate::query::Field;
@@ -129,31 +129,25 @@ fn join_passes(test: ConditionTest, schema: &Schema, left: Field, right: Field) 
     }
 }
 
-/// Whether one of the conditions that a condition of a text is passes a test.
-fn condition_passes(
-    test: ConditionTest,
-    schema: &Schema,
-    from: &[u8],
-    condition: ConditionDraft,
-) -> bool
-    ensures passes { result ≡ list_any (passes_test test schema.now) (conditions_meant schema.now from.now (condition_of condition.entry)) }
+/// Whether one of the conditions that a part of a condition is passes a test, each member standing alone.
+fn piece_passes(test: ConditionTest, schema: &Schema, from: &[u8], piece: PieceDraft) -> bool
+    ensures passes { result ≡ list_any (passes_test test schema.now) (conditions_meant schema.now from.now (piece_of piece.entry)) }
 {
-    match condition {
-        ConditionDraft::Compares(column, _, literal) => match first_meaning(schema, from, column) {
-            None => false,
-            Some(field) => member_passes(test, schema, field, literal),
-        },
-        ConditionDraft::TestsNull(_, _) => false,
-        ConditionDraft::LiesBetween(column, low, high) => {
-            match first_meaning(schema, from, column) {
+    match piece {
+        PieceDraft::Tests(one, _) => match one {
+            TestDraft::Compares(column, _, literal) => match first_meaning(schema, from, column) {
                 None => false,
-                Some(field) => {
-                    member_passes(test, schema, field, low)
-                        || member_passes(test, schema, field, high)
-                }
+                Some(field) => member_passes(test, schema, field, literal),
+            },
+            TestDraft::TestsNull(_, _) => false,
+        },
+        PieceDraft::LiesBetween(column, low, high) => match first_meaning(schema, from, column) {
+            None => false,
+            Some(field) => {
+                member_passes(test, schema, field, low) || member_passes(test, schema, field, high)
             }
-        }
-        ConditionDraft::Joins(left, right) => match first_meaning(schema, from, left) {
+        },
+        PieceDraft::Joins(left, right) => match first_meaning(schema, from, left) {
             None => false,
             Some(left) => match first_meaning(schema, from, right) {
                 None => false,
@@ -163,7 +157,7 @@ fn condition_passes(
     }
 }
 
-/// Whether a thing that a text names is a condition that passes a test.
+/// Whether a thing that a text names is a part of a condition that passes a test.
 fn item_passes(test: ConditionTest, schema: &Schema, from: &[u8], item: Item) -> bool
     ensures passes { result ≡ item_passes test schema.now from.now (item_of item.entry) }
 {
@@ -171,7 +165,7 @@ fn item_passes(test: ConditionTest, schema: &Schema, from: &[u8], item: Item) ->
         Item::Star => false,
         Item::Selected(_) => false,
         Item::From(_) => false,
-        Item::Where(condition) => condition_passes(test, schema, from, condition),
+        Item::Where(piece) => piece_passes(test, schema, from, piece),
     }
 }
 

@@ -23,21 +23,27 @@ pub(crate) enum LiteralDraft<'a> {
     Written(&'a [u8]),
 }
 
-/// A column and a literal, a column that is NULL or, where that is negated, is not, a column between two literals, or two
-/// columns that are equal.
+/// A test of a column: by a literal, or that it is NULL or, where that is negated, is not.
 #[derive(Clone, Copy)]
-pub(crate) enum ConditionDraft<'a> {
+pub(crate) enum TestDraft<'a> {
     Compares(ColumnDraft<'a>, Operator, LiteralDraft<'a>),
     TestsNull(ColumnDraft<'a>, bool),
+}
+
+/// A part of a condition: a test and whether another one of its group follows, a column between two literals, or two
+/// columns that are equal. IN is a test of equality with each of its literals.
+#[derive(Clone, Copy)]
+pub(crate) enum PieceDraft<'a> {
+    Tests(TestDraft<'a>, bool),
     LiesBetween(ColumnDraft<'a>, LiteralDraft<'a>, LiteralDraft<'a>),
     Joins(ColumnDraft<'a>, ColumnDraft<'a>),
 }
 
-/// One thing that a text names: all columns, a selected column, a table or a condition.
+/// One thing that a text names: all columns, a selected column, a table or a part of a condition.
 #[derive(Clone, Copy)]
 pub(crate) enum Item<'a> {
     Star,
     Selected(ColumnDraft<'a>),
     From(&'a [u8]),
-    Where(ConditionDraft<'a>),
+    Where(PieceDraft<'a>),
 }

@@ -3,7 +3,7 @@
 ghost use Rattle.spj_parse.specs.Laws.{JoinsCountOnce};
 
 /// A query with each of its joins once has the top table, the asks and the answer of the query that its
-/// text means.
+/// text means, and the answer of that one without its groups that are left.
 pub fn joins_count_once()
     ensures { JoinsCountOnce }
 {

@@ -6,6 +6,7 @@
 
 mod conditions;
 mod drafts;
+pub mod groups;
 pub mod laws;
 mod limits;
 mod links;
@@ -21,6 +22,7 @@ mod syntax;
 pub mod texts;
 mod walk;
 
+pub use groups::{GroupSplit, split_group};
 pub use query::{Field, Join, Member, Query};
 pub use reading::read_query;
 pub use refusal::Refusal;

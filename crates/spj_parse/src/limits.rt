@@ -3,13 +3,13 @@
 ghost use Rattle.std.specs.Prelude.{◌≡◌, Ok, length, nat_lt, sum_by};
 ghost use Rattle.ghost_model.specs.refusals.QueryMeaning as meaning;
 ghost use Rattle.ghost_model.specs.refusals.Tokens.{in_lower_case};
-ghost use Rattle.spj_parse.specs.Drafts.{condition_of, item_of};
+ghost use Rattle.spj_parse.specs.Drafts.{item_of, piece_of};
 ghost use Rattle.spj_parse.specs.Items.{items_in};
 ghost use Rattle.ghost_model.specs.refusals.QueryGrammar as grammar;
 ghost use Rattle.ghost_model.specs.readings.QueryPlaces as places;
-ghost use Rattle.spj_parse.specs.Rules.{columns_or, is_star, selects_all, weight_of, width_of};
+ghost use Rattle.spj_parse.specs.Rules.{columns_or, is_star, selects_all, tests_of, weight_of, width_of};
 
-use crate::drafts::{ConditionDraft, Item};
+use crate::drafts::{Item, PieceDraft};
 use crate::names::table_named;
 use crate::rules::{NameRule, breaks_name_rule};
 use crate::walk::Walk;
@@ -35,15 +35,14 @@ fn width_of(schema: &Schema, name: &[u8]) -> usize
     }
 }
 
-/// How many tests of a column a condition of a text is; BETWEEN is two.
-fn tests_of(condition: ConditionDraft) -> usize
-    ensures count { result ≡ meaning.literal_conditions (condition_of condition.entry) }
+/// How many tests of a column a part of a condition is; BETWEEN is two.
+fn tests_of(piece: PieceDraft) -> usize
+    ensures count { result ≡ tests_of (piece_of piece.entry) }
 {
-    match condition {
-        ConditionDraft::Compares(_, _, _) => 1,
-        ConditionDraft::TestsNull(_, _) => 1,
-        ConditionDraft::LiesBetween(_, _, _) => 2,
-        ConditionDraft::Joins(_, _) => 0,
+    match piece {
+        PieceDraft::Tests(_, _) => 1,
+        PieceDraft::LiesBetween(_, _, _) => 2,
+        PieceDraft::Joins(_, _) => 0,
     }
 }
 
@@ -57,7 +56,7 @@ fn weight_of(count: Count, schema: &Schema, item: Item) -> usize
             _ => 0,
         },
         Count::Tests => match item {
-            Item::Where(condition) => tests_of(condition),
+            Item::Where(piece) => tests_of(piece),
             _ => 0,
         },
         Count::Columns => match item {

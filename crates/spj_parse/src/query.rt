@@ -4,7 +4,7 @@ ghost use Rattle.std.specs.Prelude.{◌≡◌, ℕ, ◌≤◌, List, true, false
 ghost use Rattle.ghost_model.specs.core.Groups.{ends};
 ghost use Rattle.ghost_model.specs.core.Query.{top_of, members_in};
 ghost use Rattle.spj_parse.specs.Resolved.{IsMeant, IsRead, is_group, is_join};
-ghost use Rattle.spj_parse.specs.Views.{alone_of, field_of, join_of, member_of, query_of, says_more};
+ghost use Rattle.spj_parse.specs.Views.{field_of, grouped, join_of, member_of, query_of, says_more};
 
 use crate::links::top_among;
 use arrayvec::ArrayVec;
@@ -110,14 +110,12 @@ impl Query {
         self.joined.as_slice()
     }
 
-    /// The members of all groups, in the order of the text; BETWEEN is two groups. For now each group has one member.
+    /// The members of all groups, in the order of the text; BETWEEN is two groups.
     pub fn members(&self) -> &[Member]
         ensures members { map member_of result.now ≡ members_in self.now.conditions }
-        ensures lone { map alone_of result.now ≡ filter is_group self.now.conditions }
+        ensures grouped { grouped (map member_of result.now) ≡ filter is_group self.now.conditions }
         ensures few { length result.now ≤ MAX_CONDITIONS }
     {
-        ghost_model::query::one_reading();
-        ghost_model::query::accepted_queries_are_lone();
         self.compared.as_slice()
     }
 

@@ -6,6 +6,7 @@ ghost use Rattle.spj_parse.specs.Resolved.{IsMeant};
 ghost use Rattle.spj_parse.specs.Views.{refusal_of};
 
 use crate::conditions::{ConditionTest, any_condition_passes};
+use crate::groups::are_mixed;
 use crate::limits::is_over_limit;
 use crate::links::is_unlinked;
 use crate::query::Query;
@@ -50,8 +51,11 @@ pub fn read_query(schema: &Schema, text: &[u8]) -> Result<Query, Refusal>
     if is_unlinked(schema, from, text) {
         return Err(Refusal::NotLinked);
     }
+    let compared = members(schema, from, text);
+    if are_mixed(compared.as_slice()) {
+        return Err(Refusal::MixedTables);
+    }
     let fields = selected(schema, from, text);
     let joined = joins(schema, from);
-    let compared = members(schema, from, text);
     Ok(Query::of(tables, fields, joined, compared))
 }

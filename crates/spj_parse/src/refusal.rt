@@ -37,4 +37,8 @@ pub enum Refusal {
     /// another FROM table is not joined with its parent.
     #[error("the tables are not linked by their foreign keys")]
     NotLinked,
+
+    /// A group has columns of several tables.
+    #[error("a group has columns of several tables")]
+    MixedTables,
 }

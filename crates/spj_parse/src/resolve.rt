@@ -1,6 +1,6 @@
 //! The query that a text means, gathered thing after thing.
 
-ghost use Rattle.std.specs.Prelude.{◌≡◌, ℕ, ◌<◌, ◌≤◌, IfSome, ◌++◌, ◌∷◌, [], List, flat_map, length, map, option_map, option_to_list, take};
+ghost use Rattle.std.specs.Prelude.{◌≡◌, ℕ, false, ◌<◌, ◌≤◌, IfSome, ◌++◌, ◌∷◌, [], List, flat_map, length, map, option_map, option_to_list, take};
 ghost use Rattle.ghost_base.specs.Views.{test_of, value_of};
 ghost use Rattle.ghost_model.specs.core.Schema as model;
 ghost use Rattle.ghost_model.specs.core.Query as query;
@@ -8,14 +8,15 @@ ghost use Rattle.ghost_model.specs.refusals.QueryMeaning as meaning;
 ghost use Rattle.ghost_model.specs.refusals.Tokens.{number_of};
 ghost use Rattle.ghost_model.specs.core.Values as values;
 ghost use Rattle.tree_schema.specs.Marks as marks;
-ghost use Rattle.spj_parse.specs.Drafts.{column_of, condition_of, item_of, literal_of, sign_of};
+ghost use Rattle.spj_parse.specs.Drafts.{column_of, item_of, literal_of, piece_of, sign_of, test_text_of};
 ghost use Rattle.spj_parse.specs.Conditions.{first_alone};
 ghost use Rattle.spj_parse.specs.Adding.{Adds};
+ghost use Rattle.spj_parse.specs.Items as items;
 ghost use Rattle.spj_parse.specs.Items.{items_in};
 ghost use Rattle.spj_parse.specs.Resolved as resolved;
 ghost use Rattle.spj_parse.specs.Views.{field_of, join_of, member_of};
 
-use crate::drafts::{ColumnDraft, ConditionDraft, Item, LiteralDraft, Sign};
+use crate::drafts::{ColumnDraft, Item, LiteralDraft, PieceDraft, Sign, TestDraft};
 use crate::links::is_among;
 use crate::literals::{integer_in, text_in};
 use crate::names::{first_meaning, table_named};
@@ -169,17 +170,6 @@ fn literal_value(literal: LiteralDraft) -> Value
     }
 }
 
-/// A member that is a group of its own.
-fn lone(field: Field, test: Test) -> Member
-    ensures lone { member_of result ≡ resolved.lone (field_of field) (test_of test) }
-{
-    Member {
-        field,
-        test,
-        more: false,
-    }
-}
-
 /// That a value is NULL, or that it is not.
 fn null_test(negated: bool) -> Test
     ensures test { test_of result ≡ meaning.null_test negated }
@@ -191,46 +181,70 @@ fn null_test(negated: bool) -> Test
     }
 }
 
-/// The two members of a BETWEEN, after those before.
-fn add_bounds(kept: &mut ArrayVec<Member, MAX_CONDITIONS>, field: Field, low: Value, high: Value)
-    ensures added { Adds member_of MAX_CONDITIONS kept.old.items kept.new.items (resolved.lone (field_of field) (query.Compared query.AtLeast (value_of low)) ∷ resolved.lone (field_of field) (query.Compared query.AtMost (value_of high)) ∷ []) }
+/// A member of a group.
+fn member(field: Field, test: Test, more: bool) -> Member
+    ensures member { member_of result ≡ resolved.flagged more (field_of field) (test_of test) }
 {
-    keep(kept, lone(field, Test::Compared(Operator::AtLeast, low)));
-    keep(kept, lone(field, Test::Compared(Operator::AtMost, high)));
+    Member { field, test, more }
 }
 
-/// The members that a condition of a text is, after those before.
+/// A test of a column, after the members before.
+fn add_test(
+    kept: &mut ArrayVec<Member, MAX_CONDITIONS>,
+    schema: &Schema,
+    from: &[u8],
+    test: TestDraft,
+    more: bool,
+)
+    ensures added { Adds member_of MAX_CONDITIONS kept.old.items kept.new.items (resolved.members_with (first_alone schema.now from.now) (items.Tests (test_text_of test.entry) more)) }
+{
+    match test {
+        TestDraft::Compares(column, operator, literal) => {
+            match first_meaning(schema, from, column) {
+                None => {}
+                Some(field) => {
+                    let test = Test::Compared(operator, literal_value(literal));
+                    keep(kept, member(field, test, more))
+                }
+            }
+        }
+        TestDraft::TestsNull(column, negated) => match first_meaning(schema, from, column) {
+            None => {}
+            Some(field) => keep(kept, member(field, null_test(negated), more)),
+        },
+    }
+}
+
+/// The two members of a BETWEEN, after those before; each is a group of its own.
+fn add_bounds(kept: &mut ArrayVec<Member, MAX_CONDITIONS>, field: Field, low: Value, high: Value)
+    ensures added { Adds member_of MAX_CONDITIONS kept.old.items kept.new.items (resolved.flagged false (field_of field) (query.Compared query.AtLeast (value_of low)) ∷ resolved.flagged false (field_of field) (query.Compared query.AtMost (value_of high)) ∷ []) }
+{
+    keep(
+        kept,
+        member(field, Test::Compared(Operator::AtLeast, low), false),
+    );
+    keep(
+        kept,
+        member(field, Test::Compared(Operator::AtMost, high), false),
+    );
+}
+
+/// The members that a part of a condition is, after those before.
 fn add_members(
     kept: &mut ArrayVec<Member, MAX_CONDITIONS>,
     schema: &Schema,
     from: &[u8],
-    condition: ConditionDraft,
+    piece: PieceDraft,
 )
-    ensures added { Adds member_of MAX_CONDITIONS kept.old.items kept.new.items (resolved.members_with (first_alone schema.now from.now) (condition_of condition.entry)) }
+    ensures added { Adds member_of MAX_CONDITIONS kept.old.items kept.new.items (resolved.members_with (first_alone schema.now from.now) (piece_of piece.entry)) }
 {
-    match condition {
-        ConditionDraft::Compares(column, operator, literal) => {
-            match first_meaning(schema, from, column) {
-                None => {}
-                Some(field) => {
-                    keep(
-                        kept,
-                        lone(field, Test::Compared(operator, literal_value(literal))),
-                    )
-                }
-            }
-        }
-        ConditionDraft::TestsNull(column, negated) => match first_meaning(schema, from, column) {
+    match piece {
+        PieceDraft::Tests(test, more) => add_test(kept, schema, from, test, more),
+        PieceDraft::LiesBetween(column, low, high) => match first_meaning(schema, from, column) {
             None => {}
-            Some(field) => keep(kept, lone(field, null_test(negated))),
+            Some(field) => add_bounds(kept, field, literal_value(low), literal_value(high)),
         },
-        ConditionDraft::LiesBetween(column, low, high) => {
-            match first_meaning(schema, from, column) {
-                None => {}
-                Some(field) => add_bounds(kept, field, literal_value(low), literal_value(high)),
-            }
-        }
-        ConditionDraft::Joins(_, _) => {}
+        PieceDraft::Joins(_, _) => {}
     }
 }
 
@@ -242,7 +256,7 @@ fn add_item(kept: &mut ArrayVec<Member, MAX_CONDITIONS>, schema: &Schema, from: 
         Item::Star => {}
         Item::Selected(_) => {}
         Item::From(_) => {}
-        Item::Where(condition) => add_members(kept, schema, from, condition),
+        Item::Where(piece) => add_members(kept, schema, from, piece),
     }
 }
 

@@ -7,11 +7,11 @@ ghost use Rattle.ghost_model.specs.refusals.QueryMeaning as meaning;
 ghost use Rattle.ghost_model.specs.readings.QueryPlaces as places;
 ghost use Rattle.ghost_model.specs.core.Schema as model;
 ghost use Rattle.ghost_model.specs.refusals.Tokens.{in_lower_case};
-ghost use Rattle.spj_parse.specs.Drafts.{column_of, condition_of, item_of};
+ghost use Rattle.spj_parse.specs.Drafts.{column_of, item_of, piece_of, test_text_of};
 ghost use Rattle.spj_parse.specs.Items.{items_in};
-ghost use Rattle.spj_parse.specs.Rules.{breaks_rule, column_breaks, is_long, is_unknown, name_breaks};
+ghost use Rattle.spj_parse.specs.Rules.{breaks_rule, column_breaks, is_long, is_unknown, name_breaks, piece_columns, test_column};
 
-use crate::drafts::{ColumnDraft, ConditionDraft, Item};
+use crate::drafts::{ColumnDraft, Item, PieceDraft, TestDraft};
 use crate::names::{Meaning, meaning_of, table_named};
 use crate::walk::Walk;
 use ghost_base::limits::MAX_NAME;
@@ -107,15 +107,24 @@ fn column_breaks(rule: NameRule, schema: &Schema, from: &[u8], column: ColumnDra
     }
 }
 
-/// Whether a column of a condition breaks a rule.
-fn condition_breaks(rule: NameRule, schema: &Schema, from: &[u8], condition: ConditionDraft) -> bool
-    ensures breaks { result ≡ list_any (column_breaks rule schema.now from.now) (meaning.condition_columns (condition_of condition.entry)) }
+/// The column of a test.
+fn column_of_test<'a>(test: TestDraft<'a>) -> ColumnDraft<'a>
+    ensures column { column_of result ≡ test_column (test_text_of test.entry) }
 {
-    match condition {
-        ConditionDraft::Compares(column, _, _) => column_breaks(rule, schema, from, column),
-        ConditionDraft::TestsNull(column, _) => column_breaks(rule, schema, from, column),
-        ConditionDraft::LiesBetween(column, _, _) => column_breaks(rule, schema, from, column),
-        ConditionDraft::Joins(left, right) => {
+    match test {
+        TestDraft::Compares(column, _, _) => column,
+        TestDraft::TestsNull(column, _) => column,
+    }
+}
+
+/// Whether a column of a part of a condition breaks a rule.
+fn piece_breaks(rule: NameRule, schema: &Schema, from: &[u8], piece: PieceDraft) -> bool
+    ensures breaks { result ≡ list_any (column_breaks rule schema.now from.now) (piece_columns (piece_of piece.entry)) }
+{
+    match piece {
+        PieceDraft::Tests(test, _) => column_breaks(rule, schema, from, column_of_test(test)),
+        PieceDraft::LiesBetween(column, _, _) => column_breaks(rule, schema, from, column),
+        PieceDraft::Joins(left, right) => {
             column_breaks(rule, schema, from, left) || column_breaks(rule, schema, from, right)
         }
     }
@@ -129,7 +138,7 @@ fn item_breaks(rule: NameRule, schema: &Schema, from: &[u8], item: Item) -> bool
         Item::Star => false,
         Item::Selected(column) => column_breaks(rule, schema, from, column),
         Item::From(table) => name_breaks(rule, schema, table),
-        Item::Where(condition) => condition_breaks(rule, schema, from, condition),
+        Item::Where(piece) => piece_breaks(rule, schema, from, piece),
     }
 }
 

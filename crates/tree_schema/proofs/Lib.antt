@@ -15,3 +15,4 @@ pub mod BuildingSteps
 pub mod CatalogParts
 pub mod AnySteps
 pub mod Parents
+pub mod NullLemmas

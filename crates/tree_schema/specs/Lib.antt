@@ -1,6 +1,7 @@
 pub mod Views
 pub mod Schemas
 pub mod Marks
+pub mod Nulls
 pub mod Catalogs
 pub mod Drafts
 pub mod Faults

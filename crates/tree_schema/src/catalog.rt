@@ -1,8 +1,9 @@
 //! Catalogs: what both sides of the channel know beforehand.
 
-ghost use Rattle.std.specs.Prelude.{◌≡◌, ◌<◌, ◌==◌, length, slice_get, IsTrue};
+ghost use Rattle.std.specs.Prelude.{◌≡◌, ◌<◌, ◌==◌, length, option_map, slice_get, IsTrue};
 ghost use Rattle.ghost_model.specs.forms.Catalog.{current_version};
 ghost use Rattle.tree_schema.specs.Catalogs.{IsCatalog, are_counts, catalog_of, catalog_of_version};
+ghost use Rattle.tree_schema.specs.Nulls.{allowing};
 ghost use Rattle.tree_schema.specs.Views.{version_of};
 
 use crate::{Schema, Version};
@@ -93,6 +94,45 @@ impl Catalog {
         ensures { version_of result ≡ self.now.version }
     {
         self.version
+    }
+
+    /// The catalog in which a column may be NULL too. There is none where there is no such column, and where it is the identifier, a
+    /// foreign key, or NULL already.
+    pub fn with_null(self, table: usize, column: usize) -> Option<Catalog>
+        ensures { result ≡ option_map (λ schema. catalog_of_version self.version schema self.counts self.generation) (allowing self.schema table column) }
+    {
+        let Catalog {
+            schema,
+            counts,
+            generation,
+            version,
+        } = self;
+        let _number = version.number();
+        if !schema.may_be_null(table, column) {
+            return None;
+        }
+        let schema = schema.with_null(table, column);
+        let _ = schema.tables();
+        Some(Catalog {
+            schema,
+            counts,
+            generation,
+            version,
+        })
+    }
+
+    /// The same catalog, of the version that is made.
+    pub fn renewed(self) -> Catalog
+        ensures { result ≡ catalog_of self.schema self.counts self.generation }
+    {
+        let Catalog {
+            schema,
+            counts,
+            generation,
+            version,
+        } = self;
+        let _number = version.number();
+        Catalog::of(schema, counts, generation)
     }
 
     /// Whether it is of the version that is made.

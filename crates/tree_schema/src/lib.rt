@@ -10,6 +10,7 @@ pub mod catalog;
 pub mod catalog_bytes;
 mod catalog_reading;
 pub mod faults;
+mod nulls;
 mod reading;
 mod rules;
 pub mod schema;

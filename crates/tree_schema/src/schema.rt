@@ -1,6 +1,6 @@
 //! Schemas as values of a fixed size.
 
-ghost use Rattle.std.specs.Prelude.{◌≡◌, ℕ, ◌<◌, ◌≤◌, ◌==◌, not, length, slice_get, option_map, option_and_then, position, IfSome};
+ghost use Rattle.std.specs.Prelude.{◌≡◌, ℕ, ◌<◌, ◌≤◌, ◌==◌, true, not, length, slice_get, option_map, option_and_then, position, IfSome};
 ghost use Rattle.std.specs.List.{list_any};
 ghost use Rattle.ghost_model.specs.laws.SchemaLaws as schema_laws;
 ghost use Rattle.ghost_model.specs.core.Schema as schema;
@@ -8,7 +8,9 @@ ghost use Rattle.ghost_model.specs.core.Database as database;
 ghost use Rattle.tree_schema.specs.Views.{column_of, table_of, schema_of};
 ghost use Rattle.tree_schema.specs.Schemas as schemas;
 ghost use Rattle.tree_schema.specs.Schemas.{DeclaredSchemasAreTrees};
+ghost use Rattle.tree_schema.specs.Nulls as nulls;
 
+use crate::nulls::{allow_at, is_free};
 use arrayvec::ArrayVec;
 use ghost_base::Kind;
 use ghost_base::limits::{MAX_COLUMNS, MAX_NAME, MAX_TABLES};
@@ -306,5 +308,28 @@ impl Schema {
             None => false,
             Some(found) => column > 0 && !found.hidden,
         }
+    }
+
+    /// Whether a column may be allowed NULL: it is there, and is neither the identifier nor a foreign key, nor NULL already.
+    pub fn may_be_null(&self, table: usize, column: usize) -> bool
+        ensures may { result ≡ nulls.may_be_null self.now table column }
+    {
+        match self.column(table, column) {
+            None => false,
+            Some(found) => column > 0 && is_free(found),
+        }
+    }
+
+    /// The schema in which such a column may be NULL too.
+    pub(crate) fn with_null(self, table: usize, column: usize) -> Schema
+        requires may { nulls.may_be_null self table column ≡ true }
+        ensures schema { result ≡ nulls.with_null self table column }
+    {
+        let _ = self.tables();
+        ghost_model::schema::one_schema_reading();
+        ghost_model::tokens::tokens_are_spelled();
+        let Schema { mut tables } = self;
+        allow_at(tables.as_mut_slice(), table, column);
+        Schema { tables }
     }
 }

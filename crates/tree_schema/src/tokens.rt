@@ -18,11 +18,13 @@ pub enum Mark {
     Create,
     From,
     Hidden,
+    In,
     Integer,
     Is,
     Key,
     Not,
     Null,
+    Or,
     Primary,
     References,
     Select,
@@ -142,10 +144,8 @@ fn is_reserved(word: &[u8]) -> bool
     is_word(word, b"by")
         || is_word(word, b"count")
         || is_word(word, b"group")
-        || is_word(word, b"in")
         || is_word(word, b"max")
         || is_word(word, b"min")
-        || is_word(word, b"or")
         || is_word(word, b"sum")
 }
 
@@ -168,6 +168,8 @@ fn mark_of_word(word: &[u8]) -> Mark
         Mark::From
     } else if is_word(word, b"hidden") {
         Mark::Hidden
+    } else if is_word(word, b"in") {
+        Mark::In
     } else if is_word(word, b"integer") {
         Mark::Integer
     } else if is_word(word, b"is") {
@@ -178,6 +180,8 @@ fn mark_of_word(word: &[u8]) -> Mark
         Mark::Not
     } else if is_word(word, b"null") {
         Mark::Null
+    } else if is_word(word, b"or") {
+        Mark::Or
     } else if is_word(word, b"primary") {
         Mark::Primary
     } else if is_word(word, b"references") {

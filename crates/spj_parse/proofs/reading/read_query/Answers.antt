@@ -6,6 +6,7 @@ use Rattle.spj_parse.proofs.GatheredLemmas.{gathered, selected_are, joins_are}
 use Rattle.spj_parse.proofs.ComparedLemmas.{compared_are}
 use Rattle.spj_parse.specs.Views.{grouped}
 use Rattle.spj_parse.proofs.GroupedLemmas.{groups_again, members_end}
+use Rattle.spj_parse.proofs.GroupedLemmas.{mixed_in}
 use Rattle.spj_parse.proofs.QueryViews.{ended_by}
 use Rattle.spj_parse.proofs.reading.read_query.Goals as goal
 
@@ -15,7 +16,7 @@ returns-then-has_unknown_columns-clause-refusal c =
     let h = c.in_default.ensures.tree.read in
     let over = c.if-is_over_limit.ensures.over tree h in
     let f = from_are c.args.schema.now c.args.text.now tree c.as_slice-from.result.now h (sym over) (c.as_slice-from.ensures.value ∙ c.from_tables-tables.ensures.tables) in
-    judged_by c.args.schema.now c.args.text.now tree h false false true _ _ _ _ over (c.if-has_unknown_tables.ensures.unknown tree h) (c.if-has_unknown_columns.ensures.unknown tree h f) refl refl refl refl
+    judged_by c.args.schema.now c.args.text.now tree h false false true _ _ _ _ _ over (c.if-has_unknown_tables.ensures.unknown tree h) (c.if-has_unknown_columns.ensures.unknown tree h f) refl refl refl refl refl
 
 pub returns-then-is_ambiguous-clause-refusal : goal.returns-then-is_ambiguous-clause-refusal
 returns-then-is_ambiguous-clause-refusal c =
@@ -23,7 +24,7 @@ returns-then-is_ambiguous-clause-refusal c =
     let h = c.in_default.ensures.tree.read in
     let over = c.if-is_over_limit.ensures.over tree h in
     let f = from_are c.args.schema.now c.args.text.now tree c.as_slice-from.result.now h (sym over) (c.as_slice-from.ensures.value ∙ c.from_tables-tables.ensures.tables) in
-    judged_by c.args.schema.now c.args.text.now tree h false false false true _ _ _ over (c.if-has_unknown_tables.ensures.unknown tree h) (c.if-has_unknown_columns.ensures.unknown tree h f) (c.if-is_ambiguous.ensures.ambiguous tree h f) refl refl refl
+    judged_by c.args.schema.now c.args.text.now tree h false false false true _ _ _ _ over (c.if-has_unknown_tables.ensures.unknown tree h) (c.if-has_unknown_columns.ensures.unknown tree h f) (c.if-is_ambiguous.ensures.ambiguous tree h f) refl refl refl refl
 
 pub returns-then-any_condition_passes-clause-refusal : goal.returns-then-any_condition_passes-clause-refusal
 returns-then-any_condition_passes-clause-refusal c =
@@ -35,7 +36,7 @@ returns-then-any_condition_passes-clause-refusal c =
     let ambiguous = c.if-is_ambiguous.ensures.ambiguous tree h f in
     let k : IsClear c.args.schema.now tree = record { known = sym column; single = sym ambiguous } in
     let kind = kind_in c.args.schema.now c.args.text.now tree c.as_slice-from.result.now true h f k c.if-any_condition_passes.ensures.passes in
-    judged_by c.args.schema.now c.args.text.now tree h false false false false true _ _ over (c.if-has_unknown_tables.ensures.unknown tree h) column ambiguous kind refl refl
+    judged_by c.args.schema.now c.args.text.now tree h false false false false true _ _ _ over (c.if-has_unknown_tables.ensures.unknown tree h) column ambiguous kind refl refl refl
 
 pub returns-then-any_condition_passes-2-clause-refusal : goal.returns-then-any_condition_passes-2-clause-refusal
 returns-then-any_condition_passes-2-clause-refusal c =
@@ -48,7 +49,7 @@ returns-then-any_condition_passes-2-clause-refusal c =
     let k : IsClear c.args.schema.now tree = record { known = sym column; single = sym ambiguous } in
     let kind = kind_in c.args.schema.now c.args.text.now tree c.as_slice-from.result.now false h f k c.if-any_condition_passes.ensures.passes in
     let literal = literal_in c.args.schema.now c.args.text.now tree c.as_slice-from.result.now true h f k c.if-any_condition_passes-2.ensures.passes in
-    judged_by c.args.schema.now c.args.text.now tree h false false false false false true _ over (c.if-has_unknown_tables.ensures.unknown tree h) column ambiguous kind literal refl
+    judged_by c.args.schema.now c.args.text.now tree h false false false false false true _ _ over (c.if-has_unknown_tables.ensures.unknown tree h) column ambiguous kind literal refl refl
 
 pub returns-then-is_unlinked-clause-refusal : goal.returns-then-is_unlinked-clause-refusal
 returns-then-is_unlinked-clause-refusal c =
@@ -61,7 +62,23 @@ returns-then-is_unlinked-clause-refusal c =
     let k : IsClear c.args.schema.now tree = record { known = sym column; single = sym ambiguous } in
     let kind = kind_in c.args.schema.now c.args.text.now tree c.as_slice-from.result.now false h f k c.if-any_condition_passes.ensures.passes in
     let literal = literal_in c.args.schema.now c.args.text.now tree c.as_slice-from.result.now false h f k c.if-any_condition_passes-2.ensures.passes in
-    judged_by c.args.schema.now c.args.text.now tree h false false false false false false true over (c.if-has_unknown_tables.ensures.unknown tree h) column ambiguous kind literal (c.if-is_unlinked.ensures.unlinked tree h f k)
+    judged_by c.args.schema.now c.args.text.now tree h false false false false false false true _ over (c.if-has_unknown_tables.ensures.unknown tree h) column ambiguous kind literal (c.if-is_unlinked.ensures.unlinked tree h f k) refl
+
+pub returns-then-are_mixed-clause-refusal : goal.returns-then-are_mixed-clause-refusal
+returns-then-are_mixed-clause-refusal c =
+    let tree = c.in_default.ensures.tree.tree in
+    let h = c.in_default.ensures.tree.read in
+    let over = c.if-is_over_limit.ensures.over tree h in
+    let f = from_are c.args.schema.now c.args.text.now tree c.as_slice-from.result.now h (sym over) (c.as_slice-from.ensures.value ∙ c.from_tables-tables.ensures.tables) in
+    let column = c.if-has_unknown_columns.ensures.unknown tree h f in
+    let ambiguous = c.if-is_ambiguous.ensures.ambiguous tree h f in
+    let k : IsClear c.args.schema.now tree = record { known = sym column; single = sym ambiguous } in
+    let kind = kind_in c.args.schema.now c.args.text.now tree c.as_slice-from.result.now false h f k c.if-any_condition_passes.ensures.passes in
+    let literal = literal_in c.args.schema.now c.args.text.now tree c.as_slice-from.result.now false h f k c.if-any_condition_passes-2.ensures.passes in
+    let schema_tree = c.schemas_are_trees.ensures c.args.schema.now c.tables.ensures.declared in
+    let members = compared_are c.args.schema.now schema_tree c.args.text.now tree c.as_slice-from.result.now _ h (sym over) f k (sym kind) (sym literal) c.members-compared.ensures.members in
+    let mixed = mixed_in c.args.schema.now tree _ _ true members c.as_slice.ensures.value c.if-are_mixed.ensures.mixed in
+    judged_by c.args.schema.now c.args.text.now tree h false false false false false false false true over (c.if-has_unknown_tables.ensures.unknown tree h) column ambiguous kind literal (c.if-is_unlinked.ensures.unlinked tree h f k) mixed
 
 pub of-requires : goal.of-requires
 of-requires c =
@@ -76,6 +93,7 @@ of-requires c =
     let literal = literal_in c.args.schema.now c.args.text.now tree c.as_slice-from.result.now false h f k c.if-any_condition_passes-2.ensures.passes in
     let schema_tree = c.schemas_are_trees.ensures c.args.schema.now c.tables.ensures.declared in
     let members = compared_are c.args.schema.now schema_tree c.args.text.now tree c.as_slice-from.result.now _ h (sym over) f k (sym kind) (sym literal) c.members-compared.ensures.members in
+    let mixed = mixed_in c.args.schema.now tree _ _ false members c.as_slice.ensures.value c.if-are_mixed.ensures.mixed in
     record {
       read = record {
         schema = c.args.schema.now;
@@ -83,7 +101,7 @@ of-requires c =
         text = c.args.text.now;
         meant = record {
           meant = resolved c.args.schema.now tree;
-          reads = judged_by c.args.schema.now c.args.text.now tree h false false false false false false false over (c.if-has_unknown_tables.ensures.unknown tree h) column ambiguous kind literal (c.if-is_unlinked.ensures.unlinked tree h f k);
+          reads = judged_by c.args.schema.now c.args.text.now tree h false false false false false false false false over (c.if-has_unknown_tables.ensures.unknown tree h) column ambiguous kind literal (c.if-is_unlinked.ensures.unlinked tree h f k) mixed;
           once = gathered c.args.schema.now tree _ _ _ _ (sym c.as_slice-from.ensures.value ∙ f)
               (selected_are c.args.schema.now c.args.text.now tree c.as_slice-from.result.now _ h (sym over) f k c.selected-fields.ensures.fields)
               (joins_are c.args.schema.now c.args.text.now tree c.as_slice-from.result.now _ (sym over) f c.joins-joined.ensures.joins)
@@ -106,9 +124,10 @@ returns-clause-meaning c =
     let literal = literal_in c.args.schema.now c.args.text.now tree c.as_slice-from.result.now false h f k c.if-any_condition_passes-2.ensures.passes in
     let schema_tree = c.schemas_are_trees.ensures c.args.schema.now c.tables.ensures.declared in
     let members = compared_are c.args.schema.now schema_tree c.args.text.now tree c.as_slice-from.result.now _ h (sym over) f k (sym kind) (sym literal) c.members-compared.ensures.members in
+    let mixed = mixed_in c.args.schema.now tree _ _ false members c.as_slice.ensures.value c.if-are_mixed.ensures.mixed in
     record {
       meant = resolved c.args.schema.now tree;
-      reads = judged_by c.args.schema.now c.args.text.now tree h false false false false false false false over (c.if-has_unknown_tables.ensures.unknown tree h) column ambiguous kind literal (c.if-is_unlinked.ensures.unlinked tree h f k);
+      reads = judged_by c.args.schema.now c.args.text.now tree h false false false false false false false false over (c.if-has_unknown_tables.ensures.unknown tree h) column ambiguous kind literal (c.if-is_unlinked.ensures.unlinked tree h f k) mixed;
       once = c.of.ensures.query
           ∙ gathered c.args.schema.now tree _ _ _ _ (sym c.as_slice-from.ensures.value ∙ f)
           (selected_are c.args.schema.now c.args.text.now tree c.as_slice-from.result.now _ h (sym over) f k c.selected-fields.ensures.fields)

@@ -1,8 +1,9 @@
-use Rattle.std.proofs.Common.{ap, map, subst, sym, ◌∙◌}
+use Rattle.std.proofs.Common.{List, ap, filter, map, sym, ◌∙◌}
 use Rattle.ghost_model.specs.core.Query.{Query, members_in}
-use Rattle.spj_parse.specs.Resolved.{IsRead}
-use Rattle.spj_parse.specs.Views.{member_of}
-use Rattle.spj_parse.proofs.QueryViews.{lone_among, members_among}
+use Rattle.spj_parse.specs.declared.query.Member.{Member}
+use Rattle.spj_parse.specs.Resolved.{is_group}
+use Rattle.spj_parse.specs.Views.{grouped, member_of}
+use Rattle.spj_parse.proofs.QueryViews.{groups_among, members_among}
 use Rattle.spj_parse.proofs.query.Query.members.Goals as goal
 
 pub returns-clause-members : goal.returns-clause-members
@@ -11,6 +12,8 @@ returns-clause-members c =
     ∙ sym (members_among c.self.inside.joined.items c.self.inside.compared.items c.self.invariant.1)
     ∙ ap (λ (q : Query). members_in q.conditions) c.self.view_is
 
-pub returns-clause-lone : goal.returns-clause-lone
-returns-clause-lone c =
-    lone_among c.one_reading.ensures c.accepted_queries_are_lone.ensures c.args.self.now (subst IsRead c.self.view_is c.self.invariant.0) _ (returns-clause-members c)
+pub returns-clause-grouped : goal.returns-clause-grouped
+returns-clause-grouped c =
+    ap (λ (members : List Member). grouped (map member_of members)) c.as_slice.ensures.value
+    ∙ sym (groups_among c.self.inside.joined.items (map member_of c.self.inside.compared.items))
+    ∙ ap (λ (q : Query). filter is_group q.conditions) c.self.view_is
