@@ -19,3 +19,5 @@ pub mod ImageCells
 pub mod RejoinedParts
 mod ImageLengths
 mod ImageBytes
+mod WidenedSchemas
+pub mod GrownRows

@@ -38,7 +38,7 @@ first_has_all : (count : ℕ) (values : List Value) (columns : List (List Value)
 first_has_all count values columns all = all.each 0 values refl
 
 -- one row more changes no row before
-earlier : (count place : ℕ) (columns : List (List Value)) (row : Row) → HaveAll count columns → length row ≡ length columns → place < count
+pub earlier : (count place : ℕ) (columns : List (List Value)) (row : Row) → HaveAll count columns → length row ≡ length columns → place < count
     → values_at (with_row columns row) place ≡ values_at columns place
 earlier count place [] row all same within = refl
 earlier count place (values ∷ columns) [] all same within = absurd (omega arith)
@@ -48,7 +48,7 @@ earlier count place (values ∷ columns) (value ∷ row) all same within =
     (earlier count place columns row (later_have_all count values columns all) (omega arith) within)
 
 -- and stands behind them
-last : (count : ℕ) (columns : List (List Value)) (row : Row) → HaveAll count columns → length row ≡ length columns → values_at (with_row columns row) count ≡ row
+pub last : (count : ℕ) (columns : List (List Value)) (row : Row) → HaveAll count columns → length row ≡ length columns → values_at (with_row columns row) count ≡ row
 last count [] [] all same = refl
 last count [] (_ ∷ _) all same = absurd (omega arith)
 last count (values ∷ columns) [] all same = absurd (omega arith)

@@ -91,7 +91,7 @@ kinds_stay columns cells i cell more kinds same =
     ∙ set-get_or (map kind_in cells) i (kind_in cell)
     ∙ kinds
 
-values_step : (N : List (List Value)) (i : ℕ) (x : List Value) (value : Value) (row : Row) → i < length N → x ≡ get_or N i [] ++ value ∷ []
+pub values_step : (N : List (List Value)) (i : ℕ) (x : List Value) (value : Value) (row : Row) → i < length N → x ≡ get_or N i [] ++ value ∷ []
     → take i N ++ with_row (drop i N) (value ∷ row) ≡ take (i + 1) (set N i x) ++ with_row (drop (i + 1) (set N i x)) row
 values_step N i x value row within is =
     let front : take (i + 1) (set N i x) ≡ take i N ++ x ∷ [] = take-set_at N i (i + 1) x refl within in

@@ -11,3 +11,4 @@ pub mod ReadingOrder
 pub mod Parts
 pub mod Wants
 pub mod ImageLengths
+pub mod Widened

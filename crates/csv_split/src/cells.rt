@@ -17,7 +17,7 @@ use crate::fields::{integer_of, is_text};
 use crate::flat_cells::FlatCells;
 use crate::texts::Texts;
 use ghost_base::{Kind, Text64, Value};
-use std::alloc::Global;
+use std::alloc::{AllocError, Global};
 
 /// The values of one column, in the order of the rows.
 #[derive(Drop)]
@@ -84,6 +84,47 @@ impl Cells {
             Cells::Nullable(cells) => take_nullable(cells, at, field),
         }
     }
+
+    /// Puts a value of the column's kind at the end.
+    pub fn push(&mut self, value: &Value) -> Result<(), AllocError>
+        requires held { IsTrue (database.is_of_kind (kind_in self.old) (value_of value.now)) }
+        requires room { length (values_in self.old) < 2 ^ 32 }
+        ensures values { OnOk result (values_in self.new ≡ values_in self.old ++ value_of value.now ∷ []) }
+        ensures kind { kind_in self.new ≡ kind_in self.old }
+    {
+        match self {
+            Cells::Numbers(numbers) => push_number(numbers, value),
+            Cells::Texts(texts) => push_text(texts, value),
+            Cells::Nullable(cells) => cells.push(value),
+        }
+    }
+}
+
+/// Puts the integer that a value is at the end.
+fn push_number(numbers: &mut Vec<i64>, value: &Value) -> Result<(), AllocError>
+    requires held { IsTrue (database.is_of_kind schema.Integer (value_of value.now)) }
+    ensures values { OnOk result (map Number numbers.new.items ≡ map Number numbers.old.items ++ value_of value.now ∷ []) }
+{
+    let Value::Int(number) = value else {
+        return Ok(());
+    };
+    match numbers.push(*number) {
+        Ok(()) => Ok(()),
+        Err(_) => Err(AllocError),
+    }
+}
+
+/// Puts the text that a value is at the end.
+fn push_text(texts: &mut Texts, value: &Value) -> Result<(), AllocError>
+    requires held { IsTrue (database.is_of_kind (schema.Chars texts.old.width) (value_of value.now)) }
+    requires room { length texts.old.texts < 2 ^ 32 }
+    ensures values { OnOk result (map Text texts.new.texts ≡ map Text texts.old.texts ++ value_of value.now ∷ []) }
+    ensures width { texts.new.width ≡ texts.old.width }
+{
+    let Value::Chars(text) = value else {
+        return Ok(());
+    };
+    texts.push(text.as_bytes())
 }
 
 /// Puts the integer that a field spells at the end.

@@ -1,6 +1,6 @@
 //! The values of a column that may be NULL, kept as cells of one width.
 
-ghost use Rattle.std.specs.Prelude.{◌≡◌, ◌==◌, ◌≤◌, ◌<◌, ◌^◌, ◌++◌, ◌∷◌, [], true, length, Some, OnOk, OnErr, IfSome, slice_get, option_map, IsTrue};
+ghost use Rattle.std.specs.Prelude.{◌≡◌, ◌==◌, ◌≤◌, ◌<◌, ◌^◌, ◌++◌, ◌∷◌, [], true, false, length, Some, OnOk, OnErr, IfSome, slice_get, option_map, IsTrue};
 ghost use Rattle.ghost_model.specs.core.Database as database;
 ghost use Rattle.ghost_model.specs.core.Schema.{plain_of};
 ghost use Rattle.ghost_model.specs.forms.Cells as cells;
@@ -68,7 +68,8 @@ impl FlatCells {
 
     /// Whether the values are kept as cells of this kind.
     pub fn is_of(&self, kind: Kind) -> bool
-        ensures { result ≡ true → self.now.kind ≡ kind_of kind }
+        ensures same { result ≡ true → self.now.kind ≡ kind_of kind }
+        ensures other { result ≡ false → self.now.kind ≡ kind_of kind → ⊥ }
     {
         match (self.kind, kind) {
             (Kind::Integer, Kind::Integer) | (Kind::IntegerOrNull, Kind::IntegerOrNull) => true,

@@ -34,7 +34,7 @@ impl Model for Part {
 
 impl Part {
     /// The rows of columns that have so many values each.
-    pub(crate) fn of(rows: u32, columns: Vec<Cells>) -> Part
+    pub fn of(rows: u32, columns: Vec<Cells>) -> Part
         requires few { rows ≤ faults.most_rows }
         requires all { HaveAll rows (column_values columns.items) }
         ensures { result ≡ part_in rows (column_values columns.items) }

@@ -31,7 +31,7 @@ impl Model for Public {
 
 impl Public {
     /// The part of no table.
-    pub(crate) fn new(alloc: Global) -> Public
+    pub fn new(alloc: Global) -> Public
         ensures { result ≡ public_with [] }
     {
         Public {
@@ -40,7 +40,7 @@ impl Public {
     }
 
     /// Puts the part of one more table at the end.
-    pub(crate) fn push(&mut self, part: Part) -> Result<(), AllocError>
+    pub fn push(&mut self, part: Part) -> Result<(), AllocError>
         ensures { OnOk result (self.new ≡ public_with (self.old.visible ++ part ∷ [])) }
     {
         match self.parts.push(part) {
@@ -88,7 +88,7 @@ impl Model for Hidden {
 
 impl Hidden {
     /// The part of no table.
-    pub(crate) fn new(alloc: Global) -> Hidden
+    pub fn new(alloc: Global) -> Hidden
         ensures { result ≡ hidden_with [] }
     {
         Hidden {
@@ -97,7 +97,7 @@ impl Hidden {
     }
 
     /// Puts the part of one more table at the end.
-    pub(crate) fn push(&mut self, part: Part) -> Result<(), AllocError>
+    pub fn push(&mut self, part: Part) -> Result<(), AllocError>
         ensures { OnOk result (self.new ≡ hidden_with (self.old.hidden ++ part ∷ [])) }
     {
         match self.parts.push(part) {

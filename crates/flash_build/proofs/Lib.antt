@@ -17,3 +17,8 @@ pub mod ValueEntries
 pub mod FirstLevels
 pub mod TextHeads
 pub mod ShortTexts
+pub mod CellReads
+pub mod ColumnReads
+pub mod HiddenRows
+pub mod PartReads
+pub mod RejoinedParts

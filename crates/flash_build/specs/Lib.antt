@@ -4,3 +4,7 @@ pub mod Levels
 pub mod Faults
 pub mod Building
 pub mod Sealing
+pub mod Reading
+pub mod ReadColumns
+pub mod ReadFaults
+pub mod Rejoined

@@ -63,7 +63,7 @@ record Built (schema : Schema) (counts : List ℕ) (bytes : List ℕ) : Type 0 w
   kinds : HaveKinds schema visible
   spelled : cells_of_tables schema visible ≡ bytes
 
-no_rows : (table place : ℕ) (row : Row) → slice_get (rows_or_none (slice_get [] table)) place ≡ Some row → ⊥
+pub no_rows : (table place : ℕ) (row : Row) → slice_get (rows_or_none (slice_get [] table)) place ≡ Some row → ⊥
 no_rows zero place row h = cc
 no_rows (suc table) place row h = cc
 
@@ -115,9 +115,14 @@ file_begins file cat most b short inside =
     let front : take size file ≡ catalog_bytes cat = sym (window_within file 0 size (omega (arith, inside))) ∙ whole in
     sym (take-append-drop size file) ∙ ap (λ (xs : List ℕ). xs ++ drop size file) front
 
-pub is_image : (cat : Catalog) (file : List ℕ) (most : ℕ) → cat.version ≡ current_version → BeginsWithCatalog (window file 0 most) cat → length (catalog_bytes cat) ≤ most
-    → length file ≡ table_start cat (length cat.schema) → ((table : ℕ) → table < length cat.schema → GoodTable cat file table) → IsImage cat file
-is_image cat file most current b short end good =
+-- the image of some public part
+pub record Spelled (cat : Catalog) (file : List ℕ) : Type 0 where
+  pub public : Public
+  pub spells : SpellsImage cat public file
+
+pub spells_image : (cat : Catalog) (file : List ℕ) (most : ℕ) → BeginsWithCatalog (window file 0 most) cat → length (catalog_bytes cat) ≤ most
+    → length file ≡ table_start cat (length cat.schema) → ((table : ℕ) → table < length cat.schema → GoodTable cat file table) → Spelled cat file
+spells_image cat file most b short end good =
     let counted : length cat.counts ≡ length cat.schema = b.proper.counted in
     let size : ℕ = length (catalog_bytes cat) in
     let grown = start_grows cat (length cat.schema) in
@@ -127,7 +132,6 @@ is_image cat file most current b short end good =
     (start_is cat table counted (omega (arith, inside))) (good table inside))
     (omega (arith, last, end)) in
     record {
-      current = current;
       public = record { visible = tables.visible };
       spells = record {
         catalog = b.proper;
@@ -135,6 +139,12 @@ is_image cat file most current b short end good =
         spelled = file_begins file cat most b short (omega (arith, end, grown)) ∙ ap (λ (xs : List ℕ). catalog_bytes cat ++ xs) (sym tables.spelled);
       };
     }
+
+pub is_image : (cat : Catalog) (file : List ℕ) (most : ℕ) → cat.version ≡ current_version → BeginsWithCatalog (window file 0 most) cat → length (catalog_bytes cat) ≤ most
+    → length file ≡ table_start cat (length cat.schema) → ((table : ℕ) → table < length cat.schema → GoodTable cat file table) → IsImage cat file
+is_image cat file most current b short end good =
+    let some = spells_image cat file most b short end good in
+    record { current = current; public = some.public; spells = some.spells }
 
 -- ---- from the image to the bytes
 

@@ -19,3 +19,6 @@ pub mod ImageReplies
 pub mod ImageTables
 pub mod RowSpelling
 pub mod ImageSpelling
+pub mod GrownColumns
+pub mod ReadTables
+pub mod OneImage

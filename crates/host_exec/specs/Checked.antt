@@ -53,3 +53,7 @@ pub record IsImage (cat : Catalog) (file : List ℕ) : Type 0 where
 -- a file is no visible image of the version that is served
 abbrev pub IsNoImage : (file : List ℕ) → Type 0
 IsNoImage file = (cat : Catalog) (public : Public) → cat.version ≡ current_version → SpellsImage cat public file → ⊥
+
+-- a file is no visible image of a catalog
+abbrev pub IsNoImageOf : Catalog → (file : List ℕ) → Type 0
+IsNoImageOf cat file = (public : Public) → SpellsImage cat public file → ⊥

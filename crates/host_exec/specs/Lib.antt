@@ -11,3 +11,5 @@ pub mod Hosts
 pub mod Checked
 pub mod Refusals
 pub mod Sessions
+pub mod Columns
+pub mod Reading

@@ -27,7 +27,7 @@ pub struct Opened {
 }
 
 /// Whether a file ends where the tables of a catalog end, and its rows spell values.
-fn check_file<D: Depot>(
+pub(crate) fn check_file<D: Depot>(
     depot: &mut D,
     name: &str,
     catalog: &Catalog,

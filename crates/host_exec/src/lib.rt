@@ -7,6 +7,7 @@
 
 mod begin;
 mod checking;
+mod columns;
 mod filling;
 mod form;
 mod gathering;
@@ -14,6 +15,7 @@ pub mod host;
 pub mod laws;
 mod piece;
 mod places;
+pub mod reading;
 mod reply;
 mod saying;
 pub mod serving;
@@ -22,5 +24,6 @@ mod stage;
 mod turning;
 
 pub use host::Host;
+pub use reading::{ReadPublicFault, read_public};
 pub use serving::BeginFault;
 pub use session::Served;
