@@ -1,4 +1,4 @@
--- In an accepted query each condition that is the key's to test is a term or holds of all rows, and so is each reply to an ask with conditions.
+-- In an accepted query each group whose rows the indexes have is a term or holds of all rows, and so is each reply to an ask with conditions.
 use Rattle.std.proofs.Common.{◌≡◌, ◌∙◌, refl, ap, ap₂, sym, ℕ, zero, suc, ◌<◌, inl, inr, Bool, true, false, ◌&&◌, nat_eq, nat_lt, List, [], ◌∷◌, ◌++◌, length, get_or, filter, flat_map, slice_get, Option, Some, None, if◌then◌else◌, arith}
 use Rattle.std.specs.Prelude.{◌||◌, ◌⊎◌, not, cond, position, is_some}
 use Rattle.std.specs.List.{list_all, list_any, position_or_len}
@@ -11,10 +11,10 @@ use Rattle.ghost_model.specs.core.Schema.{Schema, Column, plain_of, column_at, i
 use Rattle.ghost_model.specs.core.Query.{Query, Field, Test, Compared, IsNull, IsNotNull, Member, Condition, OneOf, Join, tested, is_among, top_of}
 use Rattle.ghost_model.specs.core.Database.{is_of_kind}
 use Rattle.ghost_model.specs.core.Asks.{kind_at, kind_or_none}
-use Rattle.ghost_model.specs.forms.Layout.{levels_of}
+use Rattle.ghost_model.specs.forms.Layout.{is_hidden, levels_of}
 use Rattle.ghost_model.specs.laws.LayoutLaws.{LevelsAreAncestors}
 use Rattle.ghost_model.specs.laws.MeaningLaws.{IsAtOrBelow}
-use Rattle.ghost_model.specs.laws.QueryLaws.{OneReading, is_lone}
+use Rattle.ghost_model.specs.laws.QueryLaws.{OneReading}
 use Rattle.ghost_model.specs.laws.SchemaTrees.{IsTree}
 use Rattle.ghost_model.proofs.MeaningLemmas.OneRow.{Among, among_is, both_true, either_true}
 use Rattle.ghost_model.proofs.SessionLemmas.Members.{each_true}
@@ -23,9 +23,10 @@ use Rattle.ghost_laws.proofs.ScanLemmas.Accepted.{pass_each}
 use Rattle.spj_parse.specs.Resolved.{IsMeant, joins_of, join_to, join_with, join_by, keys_between, is_group}
 use Rattle.leakless_plan.specs.declared.form.Form.{Form}
 use Rattle.leakless_plan.specs.Choices.{compares_visible}
-use Rattle.ghost_laws.specs.Asking.{is_tested}
-use Rattle.condition_lists.specs.Terms.{has_level, has_lists, is_listed, is_replied, is_compared, is_united}
+use Rattle.ghost_laws.specs.Asking.{is_gathered, is_left}
+use Rattle.condition_lists.specs.Terms.{has_level, has_lists, is_listed, is_replied, is_compared, is_sought, is_united}
 use Rattle.condition_lists.proofs.KindLemmas.{fits_if, fits_test, fits_column, literals_fit}
+use Rattle.condition_lists.proofs.MeetLemmas.{kept_unseen}
 use Rattle.condition_lists.proofs.RowLemmas.{in_schema}
 
 -- ---- lists
@@ -104,6 +105,51 @@ compared_there schema table (OneOf first others ∷ conditions) e =
       | inr later ↦ compared_there schema table conditions later
     ]
 
+-- ---- terms and groups
+
+lists_kept : (schema : Schema) (wanted : Field) (test : Test) → has_lists schema wanted test ≡ true → (nat_eq wanted.column 0 || is_hidden schema wanted.table wanted.column) ≡ true
+lists_kept schema wanted (Compared operator literal) e =
+    either_kept (nat_eq wanted.column 0) (is_hidden schema wanted.table wanted.column) (is_sought (kind_at schema wanted.table wanted.column) (Compared operator literal)) e
+  where
+    either_kept : (a b c : Bool) → (a || (b && c)) ≡ true → (a || b) ≡ true
+    either_kept true b c e = refl
+    either_kept false true c e = refl
+    either_kept false false c e = e
+lists_kept schema wanted IsNull e = e
+lists_kept schema wanted IsNotNull e =
+    later_kept (nat_eq wanted.column 0) (is_hidden schema wanted.table wanted.column) (both_true (is_hidden schema wanted.table wanted.column) (is_nullable (kind_at schema wanted.table wanted.column)) e).0
+  where
+    later_kept : (a b : Bool) → b ≡ true → (a || b) ≡ true
+    later_kept true b e = refl
+    later_kept false b e = e
+
+-- the indexes have the rows of a term's group
+pub term_is_gathered : (schema : Schema) (top : ℕ) (condition : Condition) → is_listed schema top condition ≡ true → is_gathered schema condition ≡ true
+term_is_gathered schema top (Join one other) e = absurd (cc (e))
+term_is_gathered schema top (OneOf first (next ∷ others)) e = absurd (cc (e))
+term_is_gathered schema top (OneOf first []) e =
+    ap not
+    (kept_unseen schema first.field.table first.field.column
+    (lists_kept schema first.field first.test (both_true (has_lists schema first.field first.test) (has_level schema top first.field.table) e).0))
+
+-- a query has the same terms without its groups that are left
+pub listed_without_left : (schema : Schema) (top : ℕ) (conditions : List Condition)
+    → filter (is_listed schema top) (filter (λ condition. not (is_left schema condition)) conditions) ≡ filter (is_listed schema top) conditions
+listed_without_left schema top [] = refl
+listed_without_left schema top (Join one other ∷ conditions) = listed_without_left schema top conditions
+listed_without_left schema top (OneOf first [] ∷ conditions) =
+    ap (λ later. if is_listed schema top (OneOf first []) then OneOf first [] ∷ later else later) (listed_without_left schema top conditions)
+listed_without_left schema top (OneOf first (next ∷ others) ∷ conditions) =
+    by (not (is_left schema (OneOf first (next ∷ others)))) (listed_without_left schema top conditions)
+  where
+    kept : List Condition
+    kept = filter (λ condition. not (is_left schema condition)) conditions
+
+    by : (b : Bool) → filter (is_listed schema top) kept ≡ filter (is_listed schema top) conditions
+        → filter (is_listed schema top) (if b then OneOf first (next ∷ others) ∷ kept else kept) ≡ filter (is_listed schema top) conditions
+    by true rest = rest
+    by false rest = rest
+
 -- ---- levels
 
 module _ (schema : Schema) (tree : IsTree schema) (levels : LevelsAreAncestors) (top : ℕ) where
@@ -158,21 +204,10 @@ module _ (schema : Schema) (tree : IsTree schema) (levels : LevelsAreAncestors) 
       by_column (column_at schema wanted.table (suc before)) declared there (is_nullable (kind_at schema wanted.table (suc before))) (has_level schema top wanted.table) nullable level
       ∙ after_first wanted.table before
 
-  -- a test alone of a column of FROM tables, with a literal of the column's kind where it has one
-  abbrev is_alone : Condition → Bool
-  is_alone (OneOf first []) = true
-  is_alone (OneOf first (next ∷ others)) = false
-  is_alone (Join one other) = true
-
+  -- a group of columns of FROM tables, with literals of the columns' kinds where it has some
   abbrev is_sound : List ℕ → Condition → Bool
-  is_sound from (OneOf first others) =
-      is_alone (OneOf first others) && (is_condition_from schema from (OneOf first others) && fits_column schema (OneOf first others))
+  is_sound from (OneOf first others) = is_condition_from schema from (OneOf first others) && fits_column schema (OneOf first others)
   is_sound from (Join one other) = true
-
-  lone_is_alone : (condition : Condition) → is_lone condition ≡ true → is_alone condition ≡ true
-  lone_is_alone (OneOf first []) e = refl
-  lone_is_alone (OneOf first (next ∷ others)) e = absurd (cc (e))
-  lone_is_alone (Join one other) e = refl
 
   there_is : {X : Type 0} (o : Option X) → is_some o ≡ true → (x : X) × (o ≡ Some x)
   there_is None e = absurd (cc (e))
@@ -183,16 +218,16 @@ module _ (schema : Schema) (tree : IsTree schema) (levels : LevelsAreAncestors) 
       (always : (wanted : Field) (declared : Column) → column_at schema wanted.table wanted.column ≡ Some declared → is_nullable declared.kind ≡ false
       → IsAtOrBelow schema top wanted.table → held (OneOf (tested wanted IsNotNull) []) ≡ true)
       (from : List ℕ) (below : (table : ℕ) → is_among from table ≡ true → IsAtOrBelow schema top table) where
-    test_is_tested : (wanted : Field) (test : Test) (declared : Column) → column_at schema wanted.table wanted.column ≡ Some declared
+    test_is_gathered : (wanted : Field) (test : Test) (declared : Column) → column_at schema wanted.table wanted.column ≡ Some declared
         → IsAtOrBelow schema top wanted.table → has_level schema top wanted.table ≡ true → fits_test (column_at schema wanted.table wanted.column) test ≡ true
         → ((has_lists schema wanted test && has_level schema top wanted.table) ≡ not (is_visible schema wanted.table wanted.column)) ⊎ (held (OneOf (tested wanted test) []) ≡ true)
-    test_is_tested wanted (Compared operator literal) declared there low level fits =
+    test_is_gathered wanted (Compared operator literal) declared there low level fits =
         inl (listed_by wanted wanted.column declared there (is_of_kind (plain_of (kind_at schema wanted.table wanted.column)) literal) (literal_fits (column_at schema wanted.table wanted.column) there fits) level)
       where
         literal_fits : (o : Option Column) → o ≡ Some declared → fits_if o literal ≡ true → is_of_kind (plain_of (kind_or_none o)) literal ≡ true
         literal_fits None e f = absurd (cc (e))
         literal_fits (Some column) e f = f
-    test_is_tested wanted IsNull declared there low level fits =
+    test_is_gathered wanted IsNull declared there low level fits =
         inl
         (ap (λ b. (nat_eq wanted.column 0 || b) && has_level schema top wanted.table) (both_so (option_map_or (λ (one : Column). one.hidden) (column_at schema wanted.table wanted.column) false))
         ∙ listed_by wanted wanted.column declared there true refl level)
@@ -200,7 +235,7 @@ module _ (schema : Schema) (tree : IsTree schema) (levels : LevelsAreAncestors) 
         both_so : (b : Bool) → b ≡ (b && true)
         both_so true = refl
         both_so false = refl
-    test_is_tested wanted IsNotNull declared there low level fits = by (is_nullable (kind_at schema wanted.table wanted.column)) refl
+    test_is_gathered wanted IsNotNull declared there low level fits = by (is_nullable (kind_at schema wanted.table wanted.column)) refl
       where
         by : (b : Bool) → is_nullable (kind_at schema wanted.table wanted.column) ≡ b
             → ((has_lists schema wanted IsNotNull && has_level schema top wanted.table) ≡ not (is_visible schema wanted.table wanted.column))
@@ -208,17 +243,17 @@ module _ (schema : Schema) (tree : IsTree schema) (levels : LevelsAreAncestors) 
         by true e = inl (nullable_listed wanted wanted.column declared there e level)
         by false e = inr (always wanted declared there (sym (ap (λ o. is_nullable (kind_or_none o)) there) ∙ e) low)
 
-    listed_is_tested : (condition : Condition) → is_sound from condition ≡ true
-        → (is_listed schema top condition ≡ is_tested schema condition) ⊎ (held condition ≡ true)
-    listed_is_tested (Join one other) e = inl refl
-    listed_is_tested (OneOf first (next ∷ others)) e = absurd (cc (e))
-    listed_is_tested (OneOf first []) e =
+    listed_is_gathered : (condition : Condition) → is_sound from condition ≡ true
+        → (is_listed schema top condition ≡ is_gathered schema condition) ⊎ (held condition ≡ true)
+    listed_is_gathered (Join one other) e = inl refl
+    listed_is_gathered (OneOf first (next ∷ others)) e = inl refl
+    listed_is_gathered (OneOf first []) e =
         let wanted = first.field in
         let both = both_true (is_column_from schema from wanted) (fits_test (column_at schema wanted.table wanted.column) first.test) e in
         let parts = both_true (is_among from wanted.table) (is_some (column_at schema wanted.table wanted.column)) both.0 in
         let declared = there_is (column_at schema wanted.table wanted.column) parts.1 in
         let low = below wanted.table parts.0 in
-        test_is_tested wanted first.test declared.0 declared.1 low
+        test_is_gathered wanted first.test declared.0 declared.1 low
         (leveled wanted.table (in_schema schema wanted.table wanted.column declared.0 declared.1) low) both.1
 
   -- ---- the conditions of a query with each of its joins once
@@ -240,18 +275,16 @@ module _ (schema : Schema) (tree : IsTree schema) (levels : LevelsAreAncestors) 
   joins_sound from (table ∷ tables) =
       all_both (is_sound from) (join_to schema from table) (flat_map (join_to schema from) tables) (joins_with from table (parent schema table)) (joins_sound from tables)
 
-  groups_sound : (from : List ℕ) (conditions : List Condition) → list_all is_lone conditions ≡ true → list_all (is_condition_from schema from) conditions ≡ true
+  groups_sound : (from : List ℕ) (conditions : List Condition) → list_all (is_condition_from schema from) conditions ≡ true
       → list_all (fits_column schema) conditions ≡ true → list_all (is_sound from) (filter is_group conditions) ≡ true
-  groups_sound from [] lone all fit = refl
-  groups_sound from (OneOf first others ∷ conditions) lone all fit =
-      let alone = both_true (is_lone (OneOf first others)) (list_all is_lone conditions) lone in
-      let single = lone_is_alone (OneOf first others) alone.0 in
+  groups_sound from [] all fit = refl
+  groups_sound from (OneOf first others ∷ conditions) all fit =
       let both = both_true (is_condition_from schema from (OneOf first others)) (list_all (is_condition_from schema from) conditions) all in
       let fits = both_true (fits_column schema (OneOf first others)) (list_all (fits_column schema) conditions) fit in
-      ap₂ (λ c d. c && d) (ap₂ (λ c d. c && d) single (ap₂ (λ c d. c && d) both.0 fits.0)) (groups_sound from conditions alone.1 both.1 fits.1)
-  groups_sound from (Join one other ∷ conditions) lone all fit =
+      ap₂ (λ c d. c && d) (ap₂ (λ c d. c && d) both.0 fits.0) (groups_sound from conditions both.1 fits.1)
+  groups_sound from (Join one other ∷ conditions) all fit =
       let both = both_true (is_condition_from schema from (Join one other)) (list_all (is_condition_from schema from) conditions) all in
-      groups_sound from conditions lone both.1 fit
+      groups_sound from conditions both.1 fit
 
   -- the reply of a table is a term where the table is compared and united
   replied_is_compared : (asked : Query) (forms : List (Option Form)) (table : ℕ) → IsAtOrBelow schema top table
@@ -280,16 +313,16 @@ module _ (schema : Schema) (tree : IsTree schema) (levels : LevelsAreAncestors) 
         ap (λ (q : Query). list_all (is_sound q.from) q.conditions) read.once
         ∙ all_both (is_sound read.meant.from) (joins_of schema read.meant.from) (filter is_group read.meant.conditions)
         (joins_sound read.meant.from read.meant.from)
-        (groups_sound read.meant.from read.meant.conditions follows.lone follows.conditions
+        (groups_sound read.meant.from read.meant.conditions follows.conditions
         (literals_fit schema text read.meant ((one.meaning schema text read.meant).0 read.reads)))
 
     pub conditions_hold : (held : Condition → Bool)
         → ((wanted : Field) (declared : Column) → column_at schema wanted.table wanted.column ≡ Some declared → is_nullable declared.kind ≡ false
         → IsAtOrBelow schema top wanted.table → held (OneOf (tested wanted IsNotNull) []) ≡ true)
-        → list_all held (filter (is_listed schema top) asked.conditions) ≡ list_all held (filter (is_tested schema) asked.conditions)
+        → list_all held (filter (is_listed schema top) asked.conditions) ≡ list_all held (filter (is_gathered schema) asked.conditions)
     conditions_hold held always =
-        filters_hold (is_listed schema top) (is_tested schema) held asked.conditions
-        (λ c a. listed_is_tested held always asked.from below_top c (pass_each (is_sound asked.from) asked.conditions all_sound c a))
+        filters_hold (is_listed schema top) (is_gathered schema) held asked.conditions
+        (λ c a. listed_is_gathered held always asked.from below_top c (pass_each (is_sound asked.from) asked.conditions all_sound c a))
 
     pub tables_are : (forms : List (Option Form))
         → filter (is_replied schema asked forms top) asked.from ≡ filter (λ table. is_compared schema asked table && is_united forms top table) asked.from

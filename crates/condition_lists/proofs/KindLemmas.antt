@@ -7,16 +7,17 @@ use Rattle.std.proofs.lemmas.List.Folds.{list_all-append, list_all-map}
 use Rattle.std.proofs.lemmas.Bool.{ltb-false, le-leb}
 use Rattle.ghost_model.specs.core.Schema.{Schema, Column, Kind, Integer, Chars, IntegerOrNull, CharsOrNull, plain_of, column_at, column_kind}
 use Rattle.ghost_model.specs.core.Values.{Value, Null, Number, Text, fits_integer}
-use Rattle.ghost_model.specs.core.Query.{Query, Test, Compared, IsNull, IsNotNull, Member, Condition, OneOf, Join, compared, tested, AtLeast, AtMost}
+use Rattle.ghost_model.specs.core.Query.{Query, Test, Compared, IsNull, IsNotNull, Member, Condition, OneOf, Join, compared, tested, Equal, AtLeast, AtMost}
 use Rattle.ghost_model.specs.core.Groups.{each_of, some_of}
 use Rattle.ghost_model.specs.core.Database.{is_of_kind}
-use Rattle.ghost_model.specs.refusals.Tokens.{Symbol, Quoted, EndOfText, Word, AndWord, Comma, is_printable, symbols}
+use Rattle.ghost_model.specs.refusals.Tokens.{Symbol, Quoted, Open, Closing, EndOfText, Word, AndWord, InWord, OrWord, Comma, is_printable, symbols}
 use Rattle.ghost_model.specs.laws.Spelled.{is_spelled, IsBeforeEnd}
-use Rattle.ghost_model.specs.refusals.QueryGrammar.{ConditionText, Compares, TestsNull, LiesBetween, Joins, LiteralText, Unsigned, Signed, Written, QueryText, spelling, spell_condition, spell_literal, spell_where, spell_column, spell_table, spell_selection}
+use Rattle.ghost_model.specs.refusals.QueryGrammar.{MemberText, Compares, TestsNull, IsIn, ConditionText, Alone, AnyOf, LiesBetween, Joins, LiteralText, Unsigned, Signed, Written, QueryText, spelling, spell_member, spell_condition, spell_literal, spell_where, spell_column, spell_table, spell_selection}
 use Rattle.ghost_model.specs.refusals.Grammar.{separated}
 use Rattle.ghost_model.specs.refusals.QueryMeaning as meaning
 use Rattle.ghost_model.proofs.TokenLemmas.{before_end}
 use Rattle.ghost_model.proofs.QueryReadingLemmas.{kept_rules}
+use Rattle.ghost_model.proofs.GroupLemmas.{each_is_all}
 use Rattle.ghost_model.proofs.ChannelLemmas.Tests.{false_is_not, both_hold, hold_both, BothHold}
 
 -- tests of lists
@@ -170,18 +171,51 @@ plain_literal (Unsigned digits) e = refl
 plain_literal (Signed sign digits) e = refl
 plain_literal (Written text) e = (both_hold (list_all is_printable text) true e).one
 
+plain_null : (negated : Bool) → is_plain_test (meaning.null_test negated) ≡ true
+plain_null false = refl
+plain_null true = refl
+
+-- what is said of items with a symbol between them is said of each
+loose_separated : {X : Type 0} (by : Symbol) (spell : X → List Symbol) (x : X) (xs : List X) → list_all is_loose (separated by spell x xs) ≡ true
+    → list_all (λ item. list_all is_loose (spell item)) (x ∷ xs) ≡ true
+loose_separated by spell x xs e =
+    hold_both _ _ (loose_left (spell x) _ e)
+    (all_weaker (λ item. list_all is_loose (by ∷ spell item)) (λ item. list_all is_loose (spell item)) xs (λ item h. loose_right (by ∷ []) (spell item) h)
+    (all_inside is_loose (λ item. by ∷ spell item) xs (loose_right (spell x) _ e)))
+
+plain_tests : (member : MemberText) → list_all is_loose (spell_member member) ≡ true → list_all is_plain_test (meaning.tests_of_member member) ≡ true
+plain_tests (Compares column operator literal) e =
+    let right : BothHold _ (list_all is_loose (spell_literal literal)) = both_hold _ _ (loose_right (spell_column column) _ e) in
+    hold_both _ _ (plain_literal literal right.other) refl
+plain_tests (TestsNull column negated) e = hold_both _ _ (plain_null negated) refl
+plain_tests (IsIn column first others) e =
+    let listed : list_all is_loose (separated Comma spell_literal first others ++ (Closing ∷ [])) ≡ true =
+    loose_right (Word InWord ∷ Open ∷ []) (separated Comma spell_literal first others ++ (Closing ∷ [])) (loose_right (spell_column column) _ e) in
+    list_all-map is_plain_test (λ literal. Compared Equal (meaning.value_of_literal literal)) (first ∷ others)
+    ∙ all_weaker (λ literal. list_all is_loose (spell_literal literal)) (λ literal. is_plain (meaning.value_of_literal literal)) (first ∷ others)
+    plain_literal (loose_separated Comma spell_literal first others (loose_left (separated Comma spell_literal first others) (Closing ∷ []) listed))
+
+plain_group : (members : List Member) → list_all (λ one. is_plain_test one.test) members ≡ true → list_all is_plain_condition (meaning.group_of members) ≡ true
+plain_group [] e = refl
+plain_group (first ∷ others) e = hold_both _ _ (each_is_all (λ one. is_plain_test one.test) first others ∙ e) refl
+
 module _ (schema : Schema) (from : List ℕ) where
+  plain_members : (member : MemberText) → list_all is_loose (spell_member member) ≡ true
+      → list_all (λ one. is_plain_test one.test) (meaning.members_meant schema from member) ≡ true
+  plain_members member e =
+      all_flat (λ one. is_plain_test one.test) (λ meant. map (tested meant) (meaning.tests_of_member member)) (meaning.meanings schema from (meaning.member_column member))
+      (all_each (λ meant. list_all (λ one. is_plain_test one.test) (map (tested meant) (meaning.tests_of_member member))) (meaning.meanings schema from (meaning.member_column member))
+      (λ meant. list_all-map (λ one. is_plain_test one.test) (tested meant) (meaning.tests_of_member member) ∙ plain_tests member e))
+
   plain_conditions : (condition : ConditionText) → list_all is_loose (spell_condition condition) ≡ true → list_all is_plain_condition (meaning.conditions_of schema from condition) ≡ true
-  plain_conditions (Compares column operator literal) e =
-      let right : BothHold _ (list_all is_loose (spell_literal literal)) = both_hold _ _ (loose_right (spell_column column) _ e) in
-      list_all-map is_plain_condition (λ meant. compared meant operator (meaning.value_of_literal literal)) (meaning.meanings schema from column)
-      ∙ all_each (λ meant. is_plain (meaning.value_of_literal literal)) (meaning.meanings schema from column) (λ _. plain_literal literal right.other)
-  plain_conditions (TestsNull column false) e =
-      list_all-map is_plain_condition (λ meant. OneOf (tested meant IsNull) []) (meaning.meanings schema from column)
-      ∙ all_each (λ _. true) (meaning.meanings schema from column) (λ _. refl)
-  plain_conditions (TestsNull column true) e =
-      list_all-map is_plain_condition (λ meant. OneOf (tested meant IsNotNull) []) (meaning.meanings schema from column)
-      ∙ all_each (λ _. true) (meaning.meanings schema from column) (λ _. refl)
+  plain_conditions (Alone member) e = plain_group (meaning.members_meant schema from member) (plain_members member e)
+  plain_conditions (AnyOf first second others) e =
+      let inside : list_all is_loose (separated (Word OrWord) spell_member first (second ∷ others)) ≡ true =
+      loose_left (separated (Word OrWord) spell_member first (second ∷ others)) (Closing ∷ []) (loose_right (Open ∷ []) (separated (Word OrWord) spell_member first (second ∷ others) ++ (Closing ∷ [])) e) in
+      plain_group (flat_map (meaning.members_meant schema from) (first ∷ second ∷ others))
+      (all_flat (λ one. is_plain_test one.test) (meaning.members_meant schema from) (first ∷ second ∷ others)
+      (all_weaker (λ member. list_all is_loose (spell_member member)) (λ member. list_all (λ one. is_plain_test one.test) (meaning.members_meant schema from member))
+      (first ∷ second ∷ others) plain_members (loose_separated (Word OrWord) spell_member first (second ∷ others) inside)))
   plain_conditions (LiesBetween column low high) e =
       let both : list_all is_loose (spell_literal low ++ (Word AndWord ∷ spell_literal high)) ≡ true = loose_right (spell_column column) _ e in
       let first : is_plain (meaning.value_of_literal low) ≡ true = plain_literal low (loose_left (spell_literal low) _ both) in

@@ -51,7 +51,7 @@ kept_hidden schema table before kept =
     let other : nat_eq (suc before) 0 ≡ false = grind (arith, nat_tests) in
     sym (ap (λ b. b || is_hidden schema table (suc before)) other) ∙ kept
 
-kept_unseen : (schema : Schema) (table column : ℕ) → (nat_eq column 0 || is_hidden schema table column) ≡ true → is_visible schema table column ≡ false
+pub kept_unseen : (schema : Schema) (table column : ℕ) → (nat_eq column 0 || is_hidden schema table column) ≡ true → is_visible schema table column ≡ false
 kept_unseen schema table zero kept = refl
 kept_unseen schema table (suc before) kept = unseen schema table (suc before) (kept_hidden schema table before kept)
 

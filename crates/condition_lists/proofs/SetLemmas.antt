@@ -20,6 +20,7 @@ use Rattle.ghost_model.specs.laws.MeaningLaws.{IsAtOrBelow, LeadsFollowKeys}
 use Rattle.ghost_model.specs.laws.QueryLaws.{OneReading}
 use Rattle.ghost_model.specs.laws.SchemaTrees.{IsTree}
 use Rattle.ghost_model.proofs.MeaningLemmas.OneRow.{among_is, both_true, neither_true}
+use Rattle.ghost_laws.specs.Asking.{without_left}
 use Rattle.ghost_laws.specs.Followed.{AcceptedQueriesAreFollowed}
 use Rattle.ghost_laws.specs.Scans.{known_along, holds_or_asked_along, is_kept_row, stands_along, known_row}
 use Rattle.spj_parse.specs.Resolved.{IsMeant}
@@ -28,7 +29,7 @@ use Rattle.flash_layout.specs.Ranges.{IsRowOf}
 use Rattle.condition_lists.specs.declared.term.Term.{Term}
 use Rattle.condition_lists.specs.Terms.{AreTableTerms, AreTermsBy, AreTermsOf, has_level, has_lists, is_compared, is_listed, is_replied, is_united, level_in, meets, unites_whole}
 use Rattle.condition_lists.specs.Laws.{IsOver, LeadsInto, leads_into}
-use Rattle.condition_lists.proofs.FilterLemmas.{compared_there, filters_agree, follows, leveled}
+use Rattle.condition_lists.proofs.FilterLemmas.{compared_there, filters_agree, follows, leveled, listed_without_left}
 use Rattle.condition_lists.proofs.MeetLemmas.{all_met}
 use Rattle.condition_lists.proofs.MemberLemmas.{among_of}
 use Rattle.condition_lists.proofs.PathLemmas.{below_level, itself, led_on, some_level}
@@ -159,17 +160,19 @@ module _ (cat : Catalog) (database : Database) (over : IsOver cat database) (giv
       by later false e = later
 
   pub unmet_there : (asked : Query) (forms : List (Option Form)) (terms : List Term) → AreTermsBy cat asked forms (Some table) terms
-      → list_all (meets cat.schema database given table reached) terms ≡ false → known_row cat.schema database asked given top identifier ≡ []
+      → list_all (meets cat.schema database given table reached) terms ≡ false → known_row cat.schema database (without_left cat.schema asked) given top identifier ≡ []
   unmet_there asked forms terms are unmet =
       let shown = map (λ one. unwrap_or (known_along cat.schema database given top identifier one) no_value) asked.select in
       let listed = filter (is_listed cat.schema table) asked.conditions in
       let replied = filter (is_replied cat.schema asked forms table) asked.from in
       let failed = sym (all_met cat database over given table reached row_is levels keys values listed replied terms are) ∙ unmet in
-      no_rows (shown ∷ []) (list_all stands_above asked.from && list_all holds_above asked.conditions)
+      let kept = (without_left cat.schema asked).conditions in
+      no_rows (shown ∷ []) (list_all stands_above asked.from && list_all holds_above kept)
       (elim (either_fails (list_all holds_there listed) (list_all stands_there replied) failed) [
-        | inl unheld ↦ and_no (list_all stands_above asked.from) (list_all holds_above asked.conditions)
-            (one_fails holds_above (is_listed cat.schema table) asked.conditions (sym (all_alike asked.conditions) ∙ unheld))
-        | inr absent ↦ no_and (list_all stands_above asked.from) (list_all holds_above asked.conditions)
+        | inl unheld ↦ and_no (list_all stands_above asked.from) (list_all holds_above kept)
+            (one_fails holds_above (is_listed cat.schema table) kept
+            (ap (list_all holds_above) (listed_without_left cat.schema table asked.conditions) ∙ sym (all_alike asked.conditions) ∙ unheld))
+        | inr absent ↦ no_and (list_all stands_above asked.from) (list_all holds_above kept)
             (one_fails stands_above (is_replied cat.schema asked forms table) asked.from (sym (all_stand_alike asked forms asked.from) ∙ absent))
       ])
 
@@ -177,14 +180,14 @@ module _ (cat : Catalog) (database : Database) (over : IsOver cat database) (giv
     (levels : LevelsAreAncestors) (keys : LeadsFollowKeys cat.schema database) (values : HiddenValuesOfDatabases)
     (asked : Query) (table : ℕ) (below : IsAtOrBelow cat.schema top table)
     (forms : List (Option Form)) (terms : List Term) (are : AreTermsBy cat asked forms (Some table) terms) where
-  pub outside_set : leads_into cat.schema database given top identifier table terms ≡ false → known_row cat.schema database asked given top identifier ≡ []
+  pub outside_set : leads_into cat.schema database given top identifier table terms ≡ false → known_row cat.schema database (without_left cat.schema asked) given top identifier ≡ []
   outside_set e =
       let lands = led cat database over keys top table identifier below row in
       unmet_there cat database over given top identifier row levels keys values table below lands.reached lands.led
       (is_row cat database over table lands.reached lands.row lands.stands) asked forms terms are
       (sym (ap (λ o. option_map_or (λ reached. list_all (meets cat.schema database given table reached) terms) o false) lands.led) ∙ e)
 
-  pub inside_set : known_row cat.schema database asked given top identifier ≢ [] → LeadsInto cat database given top identifier table terms
+  pub inside_set : known_row cat.schema database (without_left cat.schema asked) given top identifier ≢ [] → LeadsInto cat database given top identifier table terms
   inside_set some = by (leads_into cat.schema database given top identifier table terms) refl
     where
       by : (b : Bool) → leads_into cat.schema database given top identifier table terms ≡ b → LeadsInto cat database given top identifier table terms

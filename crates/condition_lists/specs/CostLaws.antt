@@ -12,6 +12,7 @@ use Rattle.ghost_model.specs.core.Replies as replies
 use Rattle.ghost_model.specs.core.Replies.{reply_about}
 use Rattle.ghost_model.specs.forms.Flash.{AreValues, hidden_cells}
 use Rattle.ghost_model.specs.forms.Layout.{count_of}
+use Rattle.ghost_model.specs.forms.Left.{without_left}
 use Rattle.ghost_model.specs.laws.SchemaTrees.{IsTree}
 use Rattle.ghost_model.specs.laws.SessionLaws.{whole_reply}
 use Rattle.ghost_model.specs.readings.QueryReading.{reading}
@@ -129,5 +130,5 @@ pub record TermsCostTheirWork : Type 0 where
       → (top : ℕ) → top_of cat.schema asked ≡ Some top
       → (forms : List (Option Form)) (terms : List Term) → AreTermsBy cat asked forms (Some top) terms
       → (given : List replies.Reply) → AreHonest cat database asked given
-      → 64 + (sum_by (term_cost cat database given top) terms + length (answer cat.schema database asked) * row_work cat.schema database asked)
+      → 64 + (sum_by (term_cost cat database given top) terms + length (answer cat.schema database (without_left cat.schema asked)) * row_work cat.schema database asked)
       ≤ work cat.schema database asked

@@ -9,17 +9,18 @@ pub fn bounds_are_of_values()
     ghost_base::laws::cell_order_is_value_order();
 }
 
-/// Each term of a query is that of one of its conditions, or that of the reply of a FROM table with conditions on visible columns.
+/// Each term of a query is that of one of its groups whose rows the indexes have, or that of the reply of a FROM table with visible
+/// groups.
 pub fn each_term_is_of_the_query()
     ensures { EachTermIsOfTheQuery }
 {}
 
-/// Each term at a FROM table with conditions on visible columns is that of a condition of the query, or that of the table's reply.
+/// Each term at a FROM table with visible groups is that of such a group of the query, or that of the table's reply.
 pub fn each_table_term_is_of_the_query()
     ensures { EachTableTermIsOfTheQuery }
 {}
 
-/// The terms at a FROM table with conditions on visible columns are those of an accepted query over that table, where no form unites
+/// The terms at a FROM table with visible groups are those of an accepted query over that table, where no form unites
 /// other replies.
 pub fn table_terms_are_terms_by()
     ensures { TableTermsAreTermsBy }
@@ -29,8 +30,8 @@ pub fn table_terms_are_terms_by()
     ghost_laws::followed::accepted_queries_are_followed();
 }
 
-/// A row of the top table meets all terms of an accepted query exactly where all conditions that are the key's to test hold along
-/// it, and it stands along each table with conditions on visible columns whose reply is united.
+/// A row of the top table meets all terms of an accepted query exactly where all groups whose rows the indexes have hold along it, and
+/// it stands along each table with visible groups whose reply is united.
 pub fn terms_are_those_of_queries()
     ensures { TermsAreThoseOfQueries }
 {
@@ -41,15 +42,15 @@ pub fn terms_are_those_of_queries()
     ghost_laws::followed::accepted_queries_are_followed();
 }
 
-/// Along a row of the top table that meets all terms all conditions that are the key's to test hold, and one that does not meet
-/// them has no line in what the key answers.
+/// Along a row of the top table that meets all terms all groups hold whose rows the indexes have, and one that does not meet them has no
+/// line in what the key answers, whether or not it meets the groups that are left.
 pub fn terms_sift_rows()
     ensures { TermsSiftRows }
 {
     terms_are_those_of_queries();
 }
 
-/// Where the reply of each table with conditions on visible columns is united, the terms of replies are of all these tables. It is
+/// Where the reply of each table with visible groups is united, the terms of replies are of all these tables. It is
 /// where the form of united lists is forced.
 pub fn all_are_united()
     ensures { AllAreUnited }

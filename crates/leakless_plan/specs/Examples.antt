@@ -45,6 +45,13 @@ pub record FormsOnLeaves : Type 0 where
   pub cross_forced : forms_on_leaves (codes "tag <= 5 AND mark = 3") 5 (Some CrossPost) ≡ Some CrossPost ∷ None ∷ []
   pub cross_forced_without_a_condition : forms_on_leaves (codes "tag <= 5") 5 (Some CrossPost) ≡ Some Post ∷ None ∷ []
 
+-- a group of visible columns links its table, a mixed one does not, and one of several hidden columns does not cross for now
+pub record FormsOfGroups : Type 0 where
+  pub of_visible_columns : forms_on_leaves (codes "tag IN (3, 4)") 5 None ≡ Some Pre ∷ None ∷ []
+  pub with_another : forms_on_leaves (codes "(tag = 3 OR tag > 48) AND mark = 3") 6 None ≡ Some CrossPost ∷ None ∷ []
+  pub of_mixed_columns : forms_on_leaves (codes "(tag = 3 OR mark = 3)") 5 None ≡ None ∷ None ∷ []
+  pub of_hidden_columns : forms_on_leaves (codes "tag <= 5 AND mark IN (3, 4)") 5 None ≡ Some Pre ∷ None ∷ []
+
 pub record FormsOnTheClinic : Type 0 where
   pub of_one_table :
       forms_on_clinic (codes "SELECT visit.id FROM visit, doctor WHERE doc = doctor.id AND specialty = 'cardio' AND country = 'ES'") (2 ∷ 0 ∷ 0 ∷ []) None

@@ -1,6 +1,6 @@
 //! Forms of worked texts.
 
-ghost use Rattle.leakless_plan.specs.Examples.{FormsByRows, FormsOnLeaves, FormsOnTheClinic, FormsOverThreeLevels};
+ghost use Rattle.leakless_plan.specs.Examples.{FormsByRows, FormsOfGroups, FormsOnLeaves, FormsOnTheClinic, FormsOverThreeLevels};
 
 /// Examples: forms by the rows of a reply.
 pub fn forms_by_rows()
@@ -10,6 +10,11 @@ pub fn forms_by_rows()
 /// Examples: forms of texts over the remainders.
 pub fn forms_on_leaves()
     ensures { FormsOnLeaves }
+{}
+
+/// Examples: forms of texts with groups of several members.
+pub fn forms_of_groups()
+    ensures { FormsOfGroups }
 {}
 
 /// Examples: forms of texts over the clinic.

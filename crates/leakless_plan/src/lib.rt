@@ -8,5 +8,5 @@ pub mod form;
 pub mod laws;
 pub mod plan;
 
-pub use form::{Form, choose};
+pub use form::{Form, choose, has_visible_condition};
 pub use plan::Plan;

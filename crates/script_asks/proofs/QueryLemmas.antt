@@ -1,24 +1,26 @@
 -- The asks of a query, table after table.
-use Rattle.std.proofs.Common.{◌≡◌, ◌<◌, ◌≤◌, ◌+◌, ◌||◌, ℕ, Bool, true, false, cond, not, ◌&&◌, ◌==◌, arith, List, [], ◌∷◌, ◌++◌, length, drop, map, filter, flat_map, refl, ap, ap₂, sym, ◌∙◌, append_assoc, append-nil}
-use Rattle.std.specs.List.{list_any}
+use Rattle.std.proofs.Common.{◌≡◌, ◌<◌, ◌≤◌, ◌+◌, ◌||◌, ℕ, Bool, true, false, cond, not, ◌&&◌, ◌==◌, arith, List, [], ◌∷◌, ◌++◌, length, drop, map, filter, refl, ap, ap₂, sym, ◌∙◌, append_assoc, append-nil}
+use Rattle.std.specs.List.{list_all, list_any}
 use Rattle.std.proofs.lemmas.List.{length-map}
-use Rattle.std.proofs.lemmas.List.Elements.{filter_agree}
+use Rattle.std.proofs.lemmas.List.Folds.{list_all-map}
 use Rattle.std.proofs.lemmas.Bool.Decides.{nat_tests}
-use Rattle.ghost_model.specs.core.Schema.{Schema, places_from, columns_of, is_empty, is_visible, places_of}
-use Rattle.ghost_model.specs.core.Query.{Query, Field, Member, GroupMember, Condition, OneOf, Join, members_in}
+use Rattle.ghost_model.specs.core.Schema.{Schema, places_from, columns_of, is_empty, places_of}
+use Rattle.ghost_model.specs.core.Query.{Query, Member, Condition, OneOf, Join}
+use Rattle.ghost_model.specs.core.Groups.{each_of, some_of}
+use Rattle.ghost_model.proofs.GroupLemmas.{each_is_all, some_is_any}
 use Rattle.ghost_model.specs.core.Channel.{Ask, ColumnTest}
 use Rattle.ghost_model.specs.core.Asks as asks
-use Rattle.ghost_model.specs.core.Asks.{column_test, is_column, is_mixed, is_needed, is_shown, is_wanted, names_column}
+use Rattle.ghost_model.specs.core.Asks.{is_needed, is_wanted}
 use Rattle.ghost_model.specs.laws.ShortWords.{tests_of, is_from}
 use Rattle.spj_parse.specs.Resolved.{is_group}
-use Rattle.spj_parse.specs.Views.{alone_of, member_of}
+use Rattle.spj_parse.specs.Views.{grouped, member_of}
 use Rattle.spj_parse.specs.declared.query.Member as declared_member
 use Rattle.tree_schema.proofs.RuleSteps.{place_next, places_end}
-use Rattle.std.specs.Prelude.{if◌then◌else◌, Option, Some, None, is_some, option_to_list, option_map, IfSome}
+use Rattle.std.specs.Prelude.{Option, Some, None, is_some, option_to_list, option_map, IfSome}
 use Rattle.channel_codec.specs.AskViews.{ask_view}
 use Rattle.channel_codec.specs.declared.ask.Ask as declared
 use Rattle.script_asks.specs.Left.{asks_for, asks_after}
-use Rattle.script_asks.specs.Shown.{is_selected, shown_tests}
+use Rattle.script_asks.specs.Shown.{mixes_column}
 
 pub any_map : {X Y : Type 0} (view : X → Y) (test : Y → Bool) (xs : List X) → list_any (λ x. test (view x)) xs ≡ list_any test (map view xs)
 any_map view test [] = refl
@@ -49,72 +51,61 @@ pub all_columns : {X : Type 0} (test : ℕ → Bool) (xs : List X) (at : ℕ) (f
 all_columns test xs at found past h =
     sym (append-nil found) ∙ (ap (λ (ys : List ℕ). found ++ filter test ys) (sym (places_end xs at past)) ∙ h)
 
--- ---- queries whose groups have one member each
+-- ---- groups
 
-alone_later : (one : declared_member.Member) (alone : List declared_member.Member) (condition : Condition) (later : List Condition)
-    → alone_of one ∷ map alone_of alone ≡ condition ∷ later → map alone_of alone ≡ later
-alone_later one alone condition later e = cc
+abbrev member : declared_member.Member → Member
+member one = (member_of one).member
 
-none_is_not_one : (condition : Condition) (later : List Condition) → [] ≡ condition ∷ later → ⊥
-none_is_not_one condition later e = cc
+-- what holds of each or of one of a group's members
+module _ (p : Member → Bool) (first : declared_member.Member) (others : List declared_member.Member) where
+  pub each_then : (a b : Bool) → a ≡ p (member first) → a ≡ true → b ≡ list_all (λ one. p (member_of one).member) others
+      → b ≡ each_of p (member first) (map member others)
+  each_then a b e f h =
+      h ∙ (sym (list_all-map p member others)
+      ∙ (ap (λ (c : Bool). c && list_all p (map member others)) (sym f ∙ e) ∙ sym (each_is_all p (member first) (map member others))))
 
-alone_is_not_two : (one first next : Member) (others later rest : List _) → OneOf one [] ∷ later ≡ OneOf first (next ∷ others) ∷ rest → ⊥
-alone_is_not_two one first next others later rest e = cc
+  pub each_else : (a : Bool) → a ≡ p (member first) → a ≡ false → a ≡ each_of p (member first) (map member others)
+  each_else a e f =
+      f ∙ (ap (λ (c : Bool). c && list_all p (map member others)) (sym f ∙ e) ∙ sym (each_is_all p (member first) (map member others)))
 
--- there is no mixed group
-never_mixed : (shown named others : Bool) → others ≡ false → ((shown && not shown && named) || others) ≡ false
-never_mixed true named others e = e
-never_mixed false named others e = e
+  pub some_then : (a : Bool) → a ≡ p (member first) → a ≡ true → a ≡ some_of p (member first) (map member others)
+  some_then a e f =
+      f ∙ (ap (λ (c : Bool). c || list_any p (map member others)) (sym f ∙ e) ∙ sym (some_is_any p (member first) (map member others)))
 
-no_mixed : (schema : Schema) (table column : ℕ) (alone : List declared_member.Member) (conditions : List Condition) → map alone_of alone ≡ filter is_group conditions
-    → list_any (λ condition. is_mixed schema table condition && names_column table column condition) conditions ≡ false
-no_mixed schema table column alone [] e = refl
-no_mixed schema table column alone (Join left right ∷ conditions) e = no_mixed schema table column alone conditions e
-no_mixed schema table column [] (OneOf first others ∷ conditions) e = absurd (none_is_not_one _ _ e)
-no_mixed schema table column (one ∷ alone) (OneOf first (next ∷ others) ∷ conditions) e = absurd (alone_is_not_two _ _ _ _ _ _ e)
-no_mixed schema table column (one ∷ alone) (OneOf first [] ∷ conditions) e =
-    never_mixed (is_shown schema table first) (is_column table column first.field) _ (no_mixed schema table column alone conditions (alone_later one alone _ _ e))
+  pub some_else : (a b : Bool) → a ≡ p (member first) → a ≡ false → b ≡ list_any (λ one. p (member_of one).member) others
+      → b ≡ some_of p (member first) (map member others)
+  some_else a b e f h =
+      h ∙ (any_map member p others
+      ∙ (ap (λ (c : Bool). c || list_any p (map member others)) (sym f ∙ e) ∙ sym (some_is_any p (member first) (map member others))))
 
-same_column : (visible chosen mixed : Bool) → mixed ≡ false → (visible && chosen) ≡ (visible && (chosen || mixed))
-same_column false chosen mixed e = refl
-same_column true true mixed e = refl
-same_column true false mixed e = sym e
+-- no members are no groups
+pub no_group : {X : Type 0} (f : List Condition → X) (members : List declared_member.Member) → members ≡ [] → f (grouped (map member_of members)) ≡ f []
+unfolding grouped
+no_group f members e = ap (λ (ones : List declared_member.Member). f (grouped (map member_of ones))) e
 
--- the members of visible columns are those of visible groups
-one_shown : (b : Bool) (one : GroupMember) (later : List GroupMember) → map column_test (cond b (one ∷ later) later) ≡ map column_test (cond b (one ∷ []) []) ++ map column_test later
-one_shown true one later = refl
-one_shown false one later = refl
+-- joins are in no group
+pub mixed_aside : (schema : Schema) (table column : ℕ) (conditions : List Condition)
+    → list_any (mixes_column schema table column) (filter is_group conditions) ≡ list_any (mixes_column schema table column) conditions
+mixed_aside schema table column [] = refl
+mixed_aside schema table column (OneOf first others ∷ conditions) =
+    ap (λ (b : Bool). mixes_column schema table column (OneOf first others) || b) (mixed_aside schema table column conditions)
+mixed_aside schema table column (Join left right ∷ conditions) = mixed_aside schema table column conditions
 
-chosen : (b : Bool) (one : GroupMember) → map column_test (cond b (one ∷ []) []) ≡ (if b then column_test one ∷ [] else [])
-chosen true one = refl
-chosen false one = refl
-
-same_tests : (schema : Schema) (table : ℕ) (alone : List declared_member.Member) (conditions : List Condition) → map alone_of alone ≡ filter is_group conditions
-    → shown_tests schema table (members_in conditions) ≡ tests_of schema table conditions
-same_tests schema table alone [] e = refl
-same_tests schema table alone (Join left right ∷ conditions) e = same_tests schema table alone conditions e
-same_tests schema table [] (OneOf first others ∷ conditions) e = absurd (none_is_not_one _ _ e)
-same_tests schema table (one ∷ alone) (OneOf first (next ∷ others) ∷ conditions) e = absurd (alone_is_not_two _ _ _ _ _ _ e)
-same_tests schema table (one ∷ alone) (OneOf first [] ∷ conditions) e =
-    let member : GroupMember = record { member = first; more = false } in
-    one_shown (is_shown schema table first) member (filter (λ other. is_shown schema table other.member) (members_in conditions))
-    ∙ ap₂ (λ (xs ys : List ColumnTest). xs ++ ys) (chosen (is_shown schema table first) member) (same_tests schema table alone conditions (alone_later one alone _ _ e))
+tests_aside : (schema : Schema) (table : ℕ) (conditions : List Condition) → tests_of schema table (filter is_group conditions) ≡ tests_of schema table conditions
+tests_aside schema table [] = refl
+tests_aside schema table (OneOf first others ∷ conditions) =
+    ap (λ (tests : List ColumnTest). asks.test_of schema table (OneOf first others) ++ tests) (tests_aside schema table conditions)
+tests_aside schema table (Join left right ∷ conditions) = tests_aside schema table conditions
 
 abbrev ask_with : (table : ℕ) → List ℕ → List ColumnTest → Ask
 ask_with table columns tests = record { table = table; columns = columns; tests = tests }
 
 -- an ask is that of a query for a table
-pub ask_is : (schema : Schema) (query : Query) (table : ℕ) (columns : List ℕ) (tests : List ColumnTest) (fields : List Field) (members : List declared_member.Member)
-    → fields ≡ query.select → map member_of members ≡ members_in query.conditions → map alone_of members ≡ filter is_group query.conditions
-    → columns ≡ filter (is_selected schema fields table) (places_of (columns_of schema table)) → tests ≡ shown_tests schema table (map member_of members)
-    → ask_with table columns tests ≡ asks.ask_for schema query table
-ask_is schema query table columns tests fields members f m alone c t =
-    ap₂ (ask_with table)
-    (c ∙ (ap (λ (fs : List Field). filter (is_selected schema fs table) (places_of (columns_of schema table))) f
-    ∙ filter_agree (is_selected schema query.select table) (is_wanted schema query table)
-    (λ at. same_column (is_visible schema table at) (list_any (is_column table at) query.select) _ (no_mixed schema table at members query.conditions alone))
-    (places_of (columns_of schema table))))
-    (t ∙ (ap (shown_tests schema table) m ∙ same_tests schema table members query.conditions alone))
+pub ask_is : (schema : Schema) (query : Query) (table : ℕ) (columns : List ℕ) (tests : List ColumnTest) (members : List declared_member.Member)
+    → grouped (map member_of members) ≡ filter is_group query.conditions → columns ≡ filter (is_wanted schema query table) (places_of (columns_of schema table))
+    → tests ≡ tests_of schema table (grouped (map member_of members)) → ask_with table columns tests ≡ asks.ask_for schema query table
+ask_is schema query table columns tests members g c t =
+    ap₂ (ask_with table) c (t ∙ (ap (tests_of schema table) g ∙ tests_aside schema table query.conditions))
 
 -- one table and those behind it
 split_needed : (ask : Ask) (later : List Ask) (b : Bool) → is_needed ask ≡ b → filter is_needed (ask ∷ later) ≡ cond b (ask ∷ []) [] ++ filter is_needed later

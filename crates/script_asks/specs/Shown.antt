@@ -1,16 +1,18 @@
--- What the code asks of a table: the visible columns that are selected, and the members of visible columns. A query whose groups have
--- one member each asks no more and no less.
-use Rattle.std.specs.Prelude.{ℕ, Bool, ◌&&◌, List, filter, map}
-use Rattle.std.specs.List.{list_any}
-use Rattle.ghost_model.specs.core.Schema.{Schema, is_visible}
-use Rattle.ghost_model.specs.core.Query.{Field, GroupMember}
+-- What a group is in an ask: the conditions of a visible one, and whether a column is one of a mixed one.
+use Rattle.std.specs.Prelude.{ℕ, Bool, ◌&&◌, List, map}
+use Rattle.ghost_model.specs.core.Schema.{Schema}
+use Rattle.ghost_model.specs.core.Query.{Member, Condition, members_of_group}
 use Rattle.ghost_model.specs.core.Channel.{ColumnTest}
-use Rattle.ghost_model.specs.core.Asks.{column_test, is_column, is_shown}
+use Rattle.ghost_model.specs.core.Asks.{column_test, is_mixed, names_column}
 
--- whether a column is visible and among these that are selected
-abbrev pub is_selected : Schema → (select : List Field) → (table column : ℕ) → Bool
-is_selected schema select table column = is_visible schema table column && list_any (is_column table column) select
+-- whether a condition is a mixed group with this column
+abbrev pub mixes_column : Schema → (table column : ℕ) → Condition → Bool
+mixes_column schema table column condition = is_mixed schema table condition && names_column table column condition
 
--- the conditions of an ask for a table that the members of its visible columns are
-abbrev pub shown_tests : Schema → (table : ℕ) → List GroupMember → List ColumnTest
-shown_tests schema table members = map column_test (filter (λ one. is_shown schema table one.member) members)
+-- the condition of an ask that a member is, with another of its group behind it or none
+abbrev pub test_with : Member → (more : Bool) → ColumnTest
+test_with one more = column_test (record { member = one; more = more })
+
+-- the conditions of an ask that a visible group is
+abbrev pub group_tests : (first : Member) → (others : List Member) → List ColumnTest
+group_tests first others = map column_test (members_of_group first others)

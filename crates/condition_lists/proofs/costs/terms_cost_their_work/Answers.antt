@@ -5,6 +5,7 @@ use Rattle.ghost_model.specs.core.Query.{Query, top_of}
 use Rattle.ghost_model.specs.core.Asks.{asks_of, ask_for}
 use Rattle.ghost_model.specs.core.Meaning.{answer}
 use Rattle.ghost_model.proofs.MeaningLemmas.OneRow.{Among, Distinct, distinct-filter, from_filter, query_is_linked}
+use Rattle.ghost_model.specs.forms.Left.{without_left}
 use Rattle.condition_lists.specs.Terms.{is_listed, is_replied, is_compared, is_united, has_level}
 use Rattle.ghost_model.specs.forms.QueryWork.{condition_work, reply_work, row_work, work_by_top}
 use Rattle.condition_lists.specs.Costs.{term_cost}
@@ -39,10 +40,10 @@ returns c =
           let its = its_ask cat.schema database asked top table (compared table among).0 (there table among) (compared table among).1 in
           reply_cost cat database over levels keys grows given top (ask_for cat.schema asked table)
           (honest (ask_for cat.schema asked table) (contains_of (asks_of cat.schema asked) (ask_for cat.schema asked table) its.0)) its.1 term is) in
-          subst (λ o. 64 + (sum_by (term_cost cat database given top) terms + length (answer cat.schema database asked) * row_work cat.schema database asked) ≤ work_by_top cat.schema database asked o) (sym top_is)
+          subst (λ o. 64 + (sum_by (term_cost cat database given top) terms + length (answer cat.schema database (without_left cat.schema asked)) * row_work cat.schema database asked) ≤ work_by_top cat.schema database asked o) (sym top_is)
           (all_add_up (sum_by (term_cost cat database given top) terms) (sum_by (condition_work cat.schema database top) asked.conditions)
           (sum_by (condition_work cat.schema database top) (filter (is_listed cat.schema top) asked.conditions)) (sum_by (reply_work cat.schema database top) (asks_of cat.schema asked))
-          (sum_by (λ table. reply_work cat.schema database top (ask_for cat.schema asked table)) tables) (length (answer cat.schema database asked) * row_work cat.schema database asked)
+          (sum_by (λ table. reply_work cat.schema database top (ask_for cat.schema asked table)) tables) (length (answer cat.schema database (without_left cat.schema asked)) * row_work cat.schema database asked)
           sums (conditions_work (condition_work cat.schema database top) (is_listed cat.schema top) asked.conditions)
           (tables_work cat.schema database asked top tables (distinct-filter (is_replied cat.schema asked forms top) asked.from once) (λ table among. ((compared table among).0, there table among))));
     }

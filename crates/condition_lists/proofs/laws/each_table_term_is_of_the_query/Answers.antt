@@ -1,6 +1,7 @@
 use Rattle.std.proofs.Common.{sym, subst, inl, inr, [], ◌∷◌, filter}
 use Rattle.ghost_model.proofs.MeaningLemmas.OneRow.{from_filter}
 use Rattle.condition_lists.specs.Terms.{IsReplyTermOf, is_listed}
+use Rattle.condition_lists.proofs.FilterLemmas.{term_is_gathered}
 use Rattle.condition_lists.proofs.MemberLemmas.{contains_of}
 use Rattle.condition_lists.proofs.PlaceLemmas.{found}
 use Rattle.condition_lists.proofs.laws.each_table_term_is_of_the_query.Goals as goal
@@ -10,7 +11,12 @@ returns c = λ cat asked table held compared terms are place term e.
     elim (found cat table (filter (is_listed cat.schema table) asked.conditions) (table ∷ []) terms are place term e) [
       | inl one ↦ (
           let from = from_filter (is_listed cat.schema table) one.condition asked.conditions one.among in
-          inl (record { condition = one.condition; among = contains_of asked.conditions one.condition from.0; is = one.is }))
+          inl (record {
+            condition = one.condition;
+            among = contains_of asked.conditions one.condition from.0;
+            gathered = term_is_gathered cat.schema table one.condition from.1;
+            is = one.is;
+          }))
       | inr other ↦ elim other.among [
         | inl same ↦ inr (record {
           table = table;

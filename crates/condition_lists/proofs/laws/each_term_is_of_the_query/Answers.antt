@@ -3,6 +3,7 @@ use Rattle.std.specs.Prelude.{◌&&◌}
 use Rattle.std.proofs.lemmas.Bool.{and_parts}
 use Rattle.ghost_model.proofs.MeaningLemmas.OneRow.{from_filter}
 use Rattle.condition_lists.specs.Terms.{is_listed, is_replied, is_compared, is_united, has_level}
+use Rattle.condition_lists.proofs.FilterLemmas.{term_is_gathered}
 use Rattle.condition_lists.proofs.MemberLemmas.{contains_of}
 use Rattle.condition_lists.proofs.PlaceLemmas.{found}
 use Rattle.condition_lists.proofs.laws.each_term_is_of_the_query.Goals as goal
@@ -12,7 +13,12 @@ returns c = λ cat asked forms top terms are place term e.
     elim (found cat top (filter (is_listed cat.schema top) asked.conditions) (filter (is_replied cat.schema asked forms top) asked.from) terms are place term e) [
       | inl one ↦ (
           let from = from_filter (is_listed cat.schema top) one.condition asked.conditions one.among in
-          inl (record { condition = one.condition; among = contains_of asked.conditions one.condition from.0; is = one.is }))
+          inl (record {
+            condition = one.condition;
+            among = contains_of asked.conditions one.condition from.0;
+            gathered = term_is_gathered cat.schema top one.condition from.1;
+            is = one.is;
+          }))
       | inr other ↦ (
           let from = from_filter (is_replied cat.schema asked forms top) other.table asked.from other.among in
           inr (record {
