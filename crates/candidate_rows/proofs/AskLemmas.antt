@@ -158,7 +158,7 @@ place_stands at (suc place) (x ∷ xs) h =
     let e : at + 1 + place ≡ at + suc place = omega arith in
     inr (subst (λ n. Among n (places_from (λ _. true) (at + 1) xs)) e (place_stands (at + 1) place xs (omega (arith, h))))
 
-stands_first : {X : Type 0} (place : ℕ) (xs : List X) → place < length xs → Among place (places_of xs)
+pub stands_first : {X : Type 0} (place : ℕ) (xs : List X) → place < length xs → Among place (places_of xs)
 stands_first place xs h =
     let e : 0 + place ≡ place = omega arith in
     subst (λ n. Among n (places_of xs)) e (place_stands 0 place xs h)

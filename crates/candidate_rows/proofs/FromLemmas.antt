@@ -1,18 +1,18 @@
 -- The tables that a plan tests or selects of are FROM tables, and rows of the top table lead to a row of each.
-use Rattle.std.proofs.Common.{◌≡◌, ◌∙◌, ℕ, zero, suc, ◌-◌, ◌<◌, ◌≤◌, inl, inr, Bool, true, false, not, ◌&&◌, ◌||◌, nat_eq, nat_lt, List, [], ◌∷◌, ◌++◌, length, get_or, slice_get, slice_set, slice_index, take, filter, flat_map, replicate, Option, Some, None, option_and_then, if◌then◌else◌, sym, subst, refl, ap, ap₂, arith}
+use Rattle.std.proofs.Common.{◌≡◌, ◌∙◌, ℕ, zero, suc, ◌-◌, ◌<◌, ◌≤◌, inl, inr, Bool, true, false, not, ◌&&◌, ◌||◌, nat_eq, nat_lt, List, [], ◌∷◌, ◌++◌, length, get_or, slice_get, slice_set, slice_index, map, take, filter, flat_map, replicate, Option, Some, None, option_and_then, if◌then◌else◌, sym, subst, refl, ap, ap₂, arith}
 use Rattle.std.specs.List.{list_all, list_any}
 use Rattle.std.proofs.lemmas.Bool.{eqb-true, eqb-false}
 use Rattle.std.proofs.lemmas.Bool.Decides.{nat_tests}
 use Rattle.std.proofs.lemmas.List.{get_or-set_same, get_or-set_other, length-map, length-set}
 use Rattle.ghost_model.specs.core.Schema.{Schema, parent, ancestor, is_visible, first_of}
-use Rattle.ghost_model.specs.core.Values.{Row, Database}
+use Rattle.ghost_model.specs.core.Values.{Value, Row, Database}
 use Rattle.ghost_model.specs.core.Channel.{Catalog}
 use Rattle.ghost_model.specs.core.Database.{row_counts, row_of, rows_of, reference_column}
-use Rattle.ghost_model.specs.core.Query.{Query, Field, Member, Condition, OneOf, Join, is_among, top_of}
+use Rattle.ghost_model.specs.core.Query.{Query, Field, Member, GroupMember, members_of_group, members_in, Condition, OneOf, Join, is_among, top_of}
 use Rattle.ghost_model.specs.core.Groups.{each_of, some_of}
 use Rattle.ghost_model.specs.core.Meaning.{meets_test}
 use Rattle.ghost_model.specs.core.Replies.{Reply}
-use Rattle.ghost_model.specs.forms.Layout.{count_of, descendants_of}
+use Rattle.ghost_model.specs.forms.Layout.{descendants_of}
 use Rattle.ghost_model.specs.laws.LayoutLaws.{LevelsAreAncestors}
 use Rattle.ghost_model.specs.laws.SchemaTrees.{IsTree}
 use Rattle.ghost_model.specs.laws.QueryLaws.{OneReading}
@@ -20,9 +20,9 @@ use Rattle.ghost_model.specs.laws.MeaningLaws.{IsAtOrBelow, LeadsFollowKeys, Row
 use Rattle.ghost_model.proofs.MeaningLemmas.OneRow.{Among, among_is, from_filter, both_true, neither_true}
 use Rattle.ghost_model.proofs.MeaningLemmas.Leading.{first_step, no_step, way_is_short, table_with_parent, get_within, to_itself_within, told_place, first_some, not_to_false}
 use Rattle.ghost_model.proofs.FlashLemmas.Values.{count_there}
-use Rattle.ghost_model.proofs.SessionLemmas.Members.{each_true, true_of_each}
+use Rattle.ghost_model.proofs.SessionLemmas.Members.{each_true, true_of_each, some_true}
 use Rattle.ghost_laws.specs.Followed.{IsFollowed, AcceptedQueriesAreFollowed, is_column_from, is_condition_from}
-use Rattle.ghost_laws.specs.Scans.{known_along, stands_along, holds_or_asked_along, is_kept_row}
+use Rattle.ghost_laws.specs.Scans.{known_along, stands_along, holds_along, holds_or_asked_along, is_kept_row}
 use Rattle.ghost_laws.proofs.ScanLemmas.Accepted.{pass_each}
 use Rattle.edge_traits.specs.Devices.{Device}
 use Rattle.visible_spool.specs.declared.half.Half.{Half}
@@ -40,18 +40,45 @@ use Rattle.candidate_rows.specs.declared.next.Follow.{Follow}
 use Rattle.candidate_rows.specs.declared.work.RowWork.{RowWork}
 use Rattle.candidate_rows.specs.declared.plan.Known.{Known}
 use Rattle.candidate_rows.specs.Orders.{is_look_up, looks_up}
-use Rattle.ghost_laws.specs.Asking.{is_asked, is_tested, is_shown_of, is_compared_of}
+use Rattle.ghost_model.specs.forms.Left.{is_same_field, new_fields}
+use Rattle.ghost_laws.specs.Asking.{is_asked, is_tested, is_gathered, is_left, members_left, columns_left, without_left, is_shown_of, is_compared_of}
+use Rattle.ghost_laws.proofs.AskingLemmas.{tested_apart, tested_is_either, never_both, tested_is_not_visible}
 use Rattle.flash_layout.specs.Ranges.{IsRowOf, Suffices}
-use Rattle.candidate_rows.specs.Plans.{IsPlan, IsHop, IsHopOrNone, AreHops, HasWays, test_meets, check_meets, conditions_tested, has_below, is_below_top, needs_below}
+use Rattle.candidate_rows.specs.Plans.{IsPlan, IsHop, IsHopOrNone, AreHops, HasWays, test_meets, check_meets, conditions_tested, has_below, is_below_top, needs_below, columns_needed}
 use Rattle.candidate_rows.specs.Working.{Knows, StandsFor, IsWorking, IsLedTo, IsSifted, HasKeysBut, passes, told, look_of, reached_at, way_to, way_by, along_hop, from_row, go_on, spread_from, is_replied}
 use Rattle.candidate_rows.specs.Steps.{row_known}
-use Rattle.candidate_rows.specs.Laws.{TestsAreThoseOfAnswers, RowsSiftedOutAreNoAnswers, RowsThatStandNotAreNoAnswers}
+use Rattle.candidate_rows.specs.Laws.{TestsAreThoseOfAnswers, RowsSiftedOutAreNoAnswers, RowsThatStandNotAreNoAnswers, LeftGroupsAddNoRows}
 use Rattle.candidate_rows.proofs.StepLemmas.{IsNowhere, Wanted, tested, selected, known_at, sought_new, searching_new}
 use Rattle.candidate_rows.proofs.SubtreeLemmas.{below_there, has_descendant, some_among}
 use Rattle.candidate_rows.proofs.TellLemmas.{conditions_pass, holds_at_place}
 use Rattle.candidate_rows.proofs.ValueLemmas.{seen}
 
 -- ---- lists
+
+pub or_left : (a b : Bool) → a ≡ true → (a || b) ≡ true
+or_left true b e = refl
+or_left false b e = cc
+
+pub or_right : (a b : Bool) → b ≡ true → (a || b) ≡ true
+or_right true b e = refl
+or_right false b e = e
+
+pub of_either : (a b : Bool) → a ≡ false → (a || b) ≡ true → b ≡ true
+of_either true b e h = absurd (cc (e))
+of_either false b e h = h
+
+pub among_of : (x : ℕ) (xs : List ℕ) → is_among xs x ≡ true → Among x xs
+among_of x [] e = absurd (cc (e))
+among_of x (y ∷ xs) e = by (nat_eq y x) refl (λ h. among_of x xs h) e
+  where
+    by : (b : Bool) → nat_eq y x ≡ b → (is_among xs x ≡ true → Among x xs) → (nat_eq y x || is_among xs x) ≡ true → Among x (y ∷ xs)
+    by true same rest h = inl (eqb-true y x same)
+    by false same rest h = inr (rest (of_either (nat_eq y x) (is_among xs x) same h))
+
+pub any_among : {X : Type 0} (p : X → Bool) (xs : List X) (x : X) → Among x xs → p x ≡ true → list_any p xs ≡ true
+any_among p [] x among e = absurd among
+any_among p (y ∷ xs) x (inl same) e = ap (λ b. b || list_any p xs) (ap p same ∙ e)
+any_among p (y ∷ xs) x (inr later) e = or_right (p y) (list_any p xs) (any_among p xs x later e)
 
 pub all_each : {X : Type 0} (p : X → Bool) (xs : List X) → ((x : X) → Among x xs → p x ≡ true) → list_all p xs ≡ true
 all_each p [] each = refl
@@ -115,6 +142,78 @@ conditions_of schema asked text read top follows =
     (joins_pass (is_from read.meant.from) (λ one other. refl) schema read.meant.from read.meant.from)
     (members_from schema read.meant.from read.meant.conditions follows.conditions)
 
+-- the columns of each group are those of FROM tables
+abbrev pub is_group_from : Schema → List ℕ → Condition → Bool
+is_group_from schema from (OneOf first others) = each_of (λ one. is_column_from schema from one.field) first others
+is_group_from schema from (Join one other) = true
+
+groups_from : (schema : Schema) (from : List ℕ) (conditions : List Condition) → list_all (is_condition_from schema from) conditions ≡ true
+    → list_all (is_group_from schema from) (filter is_group conditions) ≡ true
+groups_from schema from [] all = refl
+groups_from schema from (OneOf first others ∷ conditions) all =
+    let both = both_true (is_condition_from schema from (OneOf first others)) (list_all (is_condition_from schema from) conditions) all in
+    ap₂ (λ c d. c && d) both.0 (groups_from schema from conditions both.1)
+groups_from schema from (Join one other ∷ conditions) all =
+    groups_from schema from conditions (both_true (is_condition_from schema from (Join one other)) (list_all (is_condition_from schema from) conditions) all).1
+
+pub group_columns : (schema : Schema) (asked : Query) (text : List ℕ) (read : IsMeant schema text asked) (top : ℕ) → IsFollowed schema read.meant top
+    → list_all (is_group_from schema asked.from) asked.conditions ≡ true
+group_columns schema asked text read top follows =
+    ap (λ (q : Query). list_all (is_group_from schema q.from) q.conditions) read.once
+    ∙ all_both (is_group_from schema read.meant.from) (joins_of schema read.meant.from) (filter is_group read.meant.conditions)
+    (joins_pass (is_group_from schema read.meant.from) (λ one other. refl) schema read.meant.from read.meant.from)
+    (groups_from schema read.meant.from read.meant.conditions follows.conditions)
+
+-- ---- the columns that are needed
+
+-- what each member of a group that is left passes, all of them do
+module _ (schema : Schema) (p : Member → Bool) where
+  abbrev EachLeft : List Condition → Type 0
+  EachLeft conditions =
+      (first : Member) (others : List Member) → Among (OneOf first others) conditions → is_left schema (OneOf first others) ≡ true
+      → (one : Member) → Among one (first ∷ others) → p one ≡ true
+
+  members_pass : (first : Member) (others : List Member) (rest : List GroupMember) → ((one : Member) → Among one (first ∷ others) → p one ≡ true)
+      → list_all (λ (one : GroupMember). p one.member) rest ≡ true → list_all (λ (one : GroupMember). p one.member) (members_of_group first others ++ rest) ≡ true
+  members_pass first [] rest each all = ap₂ (λ a b. a && b) (each first (inl refl)) all
+  members_pass first (next ∷ others) rest each all =
+      ap₂ (λ a b. a && b) (each first (inl refl)) (members_pass next others rest (λ one a. each one (inr a)) all)
+
+  pub left_pass : (conditions : List Condition) → EachLeft conditions → list_all (λ (one : GroupMember). p one.member) (members_in (filter (is_left schema) conditions)) ≡ true
+  left_pass [] each = refl
+  left_pass (OneOf first others ∷ conditions) each =
+      by (is_left schema (OneOf first others)) refl (left_pass conditions (λ f os a. each f os (inr a)))
+    where
+      by : (b : Bool) → is_left schema (OneOf first others) ≡ b → list_all (λ (one : GroupMember). p one.member) (members_in (filter (is_left schema) conditions)) ≡ true
+          → list_all (λ (one : GroupMember). p one.member) (members_in (if b then OneOf first others ∷ filter (is_left schema) conditions else filter (is_left schema) conditions)) ≡ true
+      by true e rest = members_pass first others (members_in (filter (is_left schema) conditions)) (each first others (inl refl) e) rest
+      by false e rest = rest
+  left_pass (Join one other ∷ conditions) each = left_pass conditions (λ f os a. each f os (inr a))
+
+new_pass : (p : Field → Bool) (before fields : List Field) → list_all p fields ≡ true → list_all p (new_fields before fields) ≡ true
+unfolding new_fields
+new_pass p before [] all = refl
+new_pass p before (one ∷ fields) all =
+    let both = both_true (p one) (list_all p fields) all in
+    elim (list_any (is_same_field one) before) as (λ b. list_all p (if b then new_fields before fields else one ∷ new_fields (one ∷ before) fields) ≡ true) [
+      | true ↦ new_pass p before fields both.1
+      | false ↦ ap₂ (λ a b. a && b) both.0 (new_pass p (one ∷ before) fields both.1)
+    ]
+
+mapped_pass : (p : Field → Bool) (members : List GroupMember) → list_all (λ (one : GroupMember). p one.member.field) members ≡ true
+    → list_all p (map (λ (one : GroupMember). one.member.field) members) ≡ true
+mapped_pass p [] all = refl
+mapped_pass p (one ∷ members) all =
+    let both = both_true (p one.member.field) (list_all (λ (one : GroupMember). p one.member.field) members) all in
+    ap₂ (λ a b. a && b) both.0 (mapped_pass p members both.1)
+
+pub needed_pass : (schema : Schema) (asked : Query) (p : Field → Bool) → list_all p asked.select ≡ true → EachLeft schema (λ one. p one.field) asked.conditions
+    → list_all p (columns_needed schema asked) ≡ true
+needed_pass schema asked p all each =
+    all_both p asked.select (columns_left schema asked) all
+    (new_pass p asked.select (map (λ (one : GroupMember). one.member.field) (members_left schema asked))
+    (mapped_pass p (members_left schema asked) (left_pass schema (λ one. p one.field) asked.conditions each)))
+
 -- ---- look-ups
 
 any_at : {X : Type 0} (p : X → Bool) (xs : List X) (i : ℕ) (x : X) → slice_get xs i ≡ Some x → p x ≡ true → list_any p xs ≡ true
@@ -161,6 +260,117 @@ unlooked_meet table (test ∷ tests) none =
         ∙ ap not (sym (ap (λ c. is_look_up c && nat_eq test.known.field.table table) e) ∙ h)
     by (Holds wanted) e h = ap (check_meets (λ t. not (nat_eq t table)) (λ _. true) test.known.field) e
 
+pub among_fails : (p : ℕ → Bool) (tables : List ℕ) (table : ℕ) → is_among tables table ≡ true → p table ≡ false → list_all p tables ≡ false
+among_fails p [] table e h = absurd (cc (e))
+among_fails p (first ∷ tables) table e h = by (nat_eq first table) refl (λ a. among_fails p tables table a h) e
+  where
+    later : (a b : Bool) → b ≡ false → (a && b) ≡ false
+    later true b e = e
+    later false b e = refl
+
+    by : (b : Bool) → nat_eq first table ≡ b → (is_among tables table ≡ true → list_all p tables ≡ false) → (b || is_among tables table) ≡ true
+        → (p first && list_all p tables) ≡ false
+    by true same rest a = ap (λ b. b && list_all p tables) (ap p (eqb-true first table same) ∙ h)
+    by false same rest a = later (p first) (list_all p tables) (rest a)
+
+-- the row of the top table
+pub row_of_top : (cat : Catalog) (page : ℕ → List ℕ) (asked : Query) (database : Database) (half : Half) (given : List Reply) → Knows page cat asked database half given
+    → (top identifier : ℕ) → IsRowOf cat top identifier → (r : Row) × (row_of database top identifier ≡ Some r)
+row_of_top cat page asked database half given knows top identifier row =
+    let some = row.some in
+    let within = row.within in
+    let size = ap (λ (ns : List ℕ). slice_index ns top) (sym knows.counts) ∙ count_there database top in
+    let same : suc (identifier - 1) ≡ identifier = omega (arith, some) in
+    let r = get_within (rows_of database top) (identifier - 1) (omega (arith, size, some, within)) in
+    (r.0, ap (row_of database top) (sym same) ∙ r.1)
+
+-- what all FROM tables pass
+pub each_from : (p : ℕ → Bool) (from : List ℕ) (table : ℕ) → list_all p from ≡ true → is_among from table ≡ true → p table ≡ true
+each_from p from table all among = by (p table) refl
+  where
+    clash : {b : Bool} → b ≡ true → b ≡ false → ⊥
+    clash t f = cc
+
+    by : (b : Bool) → p table ≡ b → b ≡ true
+    by true e = refl
+    by false e = absurd (clash all (among_fails p from table among e))
+
+-- ---- conditions that the indexes have the rows of, and groups that are left
+
+untested_holds : (schema : Schema) (value : Field → Option Value) (condition : Condition) → is_tested schema condition ≡ false → holds_or_asked_along schema value condition ≡ true
+untested_holds schema value (OneOf first others) e =
+    ap (λ b. if b then true else some_of (λ one. meets_test one.test (value one.field)) first others)
+    (shown (each_of (λ one. is_visible schema one.field.table one.field.column) first others) (sym (tested_is_not_visible schema first others) ∙ e))
+  where
+    shown : (b : Bool) → not b ≡ false → b ≡ true
+    shown true e = refl
+    shown false e = cc
+untested_holds schema value (Join one other) e = refl
+
+pub left_is_tested : (schema : Schema) (condition : Condition) → is_left schema condition ≡ true → is_tested schema condition ≡ true
+left_is_tested schema condition e = tested_is_either schema condition ∙ or_right (is_gathered schema condition) (is_left schema condition) e
+
+left_holds_along : (schema : Schema) (value : Field → Option Value) (condition : Condition) → is_left schema condition ≡ true
+    → holds_or_asked_along schema value condition ≡ holds_along value condition
+left_holds_along schema value (OneOf first others) e =
+    ap (λ b. if b then true else some_of (λ one. meets_test one.test (value one.field)) first others)
+    (not_shown (each_of (λ one. is_visible schema one.field.table one.field.column) first others)
+    (sym (tested_is_not_visible schema first others) ∙ left_is_tested schema (OneOf first others) e))
+  where
+    not_shown : (b : Bool) → not b ≡ true → b ≡ false
+    not_shown true e = cc
+    not_shown false e = refl
+left_holds_along schema value (Join one other) e = absurd (cc (e))
+
+left_along : (schema : Schema) (value : Field → Option Value) (conditions : List Condition)
+    → list_all (holds_or_asked_along schema value) (filter (is_left schema) conditions) ≡ list_all (holds_along value) (filter (is_left schema) conditions)
+left_along schema value [] = refl
+left_along schema value (condition ∷ conditions) = by (is_left schema condition) refl (left_along schema value conditions)
+  where
+    by : (b : Bool) → is_left schema condition ≡ b
+        → list_all (holds_or_asked_along schema value) (filter (is_left schema) conditions) ≡ list_all (holds_along value) (filter (is_left schema) conditions)
+        → list_all (holds_or_asked_along schema value) (if b then condition ∷ filter (is_left schema) conditions else filter (is_left schema) conditions)
+        ≡ list_all (holds_along value) (if b then condition ∷ filter (is_left schema) conditions else filter (is_left schema) conditions)
+    by true e rest = ap₂ (λ a b. a && b) (left_holds_along schema value condition e) rest
+    by false e rest = rest
+
+pub conditions_apart : (schema : Schema) (value : Field → Option Value) (conditions : List Condition)
+    → list_all (holds_or_asked_along schema value) conditions
+    ≡ (list_all (holds_or_asked_along schema value) (filter (is_gathered schema) conditions) && list_all (holds_along value) (filter (is_left schema) conditions))
+conditions_apart schema value conditions =
+    sym (all_filtered (holds_or_asked_along schema value) (is_tested schema) conditions (λ c a e. untested_holds schema value c e))
+    ∙ tested_apart schema (holds_or_asked_along schema value) conditions
+    ∙ ap (λ b. list_all (holds_or_asked_along schema value) (filter (is_gathered schema) conditions) && b) (left_along schema value conditions)
+
+-- a query without its groups that are left has all conditions that the indexes have the rows of
+pub gathered_stay : (schema : Schema) (conditions : List Condition)
+    → filter (is_gathered schema) (filter (λ condition. not (is_left schema condition)) conditions) ≡ filter (is_gathered schema) conditions
+gathered_stay schema [] = refl
+gathered_stay schema (condition ∷ conditions) = by (is_left schema condition) refl (gathered_stay schema conditions)
+  where
+    never : (a b : Bool) → (a && b) ≡ false → b ≡ true → a ≡ false
+    never true b both e = sym e ∙ both
+    never false b both e = refl
+
+    by : (b : Bool) → is_left schema condition ≡ b
+        → filter (is_gathered schema) (filter (λ c. not (is_left schema c)) conditions) ≡ filter (is_gathered schema) conditions
+        → filter (is_gathered schema) (if not b then condition ∷ filter (λ c. not (is_left schema c)) conditions else filter (λ c. not (is_left schema c)) conditions)
+        ≡ (if is_gathered schema condition then condition ∷ filter (is_gathered schema) conditions else filter (is_gathered schema) conditions)
+    by true e rest =
+        rest ∙ sym (ap (λ b. if b then condition ∷ filter (is_gathered schema) conditions else filter (is_gathered schema) conditions)
+        (never (is_gathered schema condition) (is_left schema condition) (never_both schema condition) e))
+    by false e rest = ap (λ (held : List Condition). if is_gathered schema condition then condition ∷ held else held) rest
+
+pub none_left : (schema : Schema) (conditions : List Condition) → filter (is_left schema) (filter (λ condition. not (is_left schema condition)) conditions) ≡ []
+none_left schema [] = refl
+none_left schema (condition ∷ conditions) = by (is_left schema condition) refl (none_left schema conditions)
+  where
+    by : (b : Bool) → is_left schema condition ≡ b → filter (is_left schema) (filter (λ c. not (is_left schema c)) conditions) ≡ []
+        → filter (is_left schema) (if not b then condition ∷ filter (λ c. not (is_left schema c)) conditions else filter (λ c. not (is_left schema c)) conditions) ≡ []
+    by true e rest = rest
+    by false e rest =
+        ap (λ b. if b then condition ∷ filter (is_left schema) (filter (λ c. not (is_left schema c)) conditions) else filter (is_left schema) (filter (λ c. not (is_left schema c)) conditions)) e ∙ rest
+
 module _ (cat : Catalog) (asked : Query) (plan : RowPlan) (plan_is : IsPlan cat asked plan) (text : List ℕ) (read : IsMeant cat.schema text asked)
     (tree : IsTree cat.schema) (one : OneReading) (accepted : AcceptedQueriesAreFollowed) where
   pub follows : IsFollowed cat.schema read.meant plan.top
@@ -184,8 +394,8 @@ module _ (cat : Catalog) (asked : Query) (plan : RowPlan) (plan_is : IsPlan cat 
       (all_each (is_among asked.from) (filter (is_asked cat.schema asked) asked.from)
       (λ x a. among_is x asked.from (from_filter (is_asked cat.schema asked) x asked.from a).0))
       (conditions_pass cat.schema asked (is_from asked.from) plan.sifted
-      (all_each (is_from asked.from) (filter (is_tested cat.schema) asked.conditions)
-      (λ c a. pass_each (is_from asked.from) asked.conditions conditions_from c (from_filter (is_tested cat.schema) c asked.conditions a).0)))
+      (all_each (is_from asked.from) (filter (is_gathered cat.schema) asked.conditions)
+      (λ c a. pass_each (is_from asked.from) asked.conditions conditions_from c (from_filter (is_gathered cat.schema) c asked.conditions a).0)))
 
   test_from : (test : Test) → test_meets (is_among asked.from) (is_from asked.from) test ≡ true → is_among asked.from test.known.field.table ≡ true
   test_from test met = by test.check refl
@@ -194,25 +404,68 @@ module _ (cat : Catalog) (asked : Query) (plan : RowPlan) (plan_is : IsPlan cat 
       by (Stands number) e = sym (ap (check_meets (is_among asked.from) (is_from asked.from) test.known.field) e) ∙ met
       by (Holds wanted) e = sym (ap (check_meets (is_among asked.from) (is_from asked.from) test.known.field) e) ∙ met
 
-  selected_from : (i : ℕ) (field : Field) → slice_get asked.select i ≡ Some field → is_among asked.from field.table ≡ true
-  selected_from i field there =
+  -- the columns of a group are columns of FROM tables, and where a visible one stands in it, its table is asked for
+  pub member_from : (first : Member) (others : List Member) → Among (OneOf first others) asked.conditions → (one : Member) → Among one (first ∷ others)
+      → is_column_from cat.schema asked.from one.field ≡ true
+  member_from first others among one a =
+      each_true (λ other. is_column_from cat.schema asked.from other.field) one first others
+      (pass_each (is_group_from cat.schema asked.from) asked.conditions (group_columns cat.schema asked text read plan.top follows) (OneOf first others) among) a
+
+  pub member_asked : (first : Member) (others : List Member) → Among (OneOf first others) asked.conditions → (one : Member) → Among one (first ∷ others)
+      → is_visible cat.schema one.field.table one.field.column ≡ true → is_asked cat.schema asked one.field.table ≡ true
+  member_asked first others among one a visible =
+      or_right (list_any (is_shown_of cat.schema one.field.table) asked.select) (list_any (is_compared_of cat.schema one.field.table) asked.conditions)
+      (any_among (is_compared_of cat.schema one.field.table) asked.conditions (OneOf first others) among
+      (some_true (λ other. is_shown_of cat.schema one.field.table other.field) one first others a
+      (ap₂ (λ b c. b && c) (itself_equal one.field.table) visible)))
+
+  needed_from : (i : ℕ) (field : Field) → slice_get (columns_needed cat.schema asked) i ≡ Some field → is_among asked.from field.table ≡ true
+  needed_from i field there =
       let all : list_all (is_column_from cat.schema asked.from) asked.select ≡ true =
       ap (λ (q : Query). list_all (is_column_from cat.schema q.from) q.select) read.once ∙ follows.selected in
-      (both_true (is_among asked.from field.table) _ (holds_at_place (is_column_from cat.schema asked.from) asked.select i field all there)).0
+      (both_true (is_among asked.from field.table) _
+      (holds_at_place (is_column_from cat.schema asked.from) (columns_needed cat.schema asked) i field
+      (needed_pass cat.schema asked (is_column_from cat.schema asked.from) all (λ first others among left one a. member_from first others among one a)) there)).0
 
-  -- the row of a table of which a visible column is selected is looked up
-  pub selected_looked_up : (place : ℕ) (known : Known) → slice_get plan.select.items place ≡ Some known → is_replied known.source ≡ true
+  abbrev asked_if_shown : Field → Bool
+  asked_if_shown field = not (is_visible cat.schema field.table field.column) || is_asked cat.schema asked field.table
+
+  if_shown : (field : Field) → (is_visible cat.schema field.table field.column ≡ true → is_asked cat.schema asked field.table ≡ true) → asked_if_shown field ≡ true
+  if_shown field is = by (is_visible cat.schema field.table field.column) is
+    where
+      by : (b : Bool) → (b ≡ true → is_asked cat.schema asked field.table ≡ true) → (not b || is_asked cat.schema asked field.table) ≡ true
+      by true h = h refl
+      by false h = refl
+
+  selected_asked : (field : Field) → Among field asked.select → is_visible cat.schema field.table field.column ≡ true → is_asked cat.schema asked field.table ≡ true
+  selected_asked field among visible =
+      ap (λ b. b || list_any (is_compared_of cat.schema field.table) asked.conditions)
+      (any_among (is_shown_of cat.schema field.table) asked.select field among (ap₂ (λ b c. b && c) (itself_equal field.table) visible))
+
+  needed_asked : (i : ℕ) (field : Field) → slice_get (columns_needed cat.schema asked) i ≡ Some field → is_visible cat.schema field.table field.column ≡ true
+      → is_asked cat.schema asked field.table ≡ true
+  needed_asked i field there visible =
+      by (is_visible cat.schema field.table field.column) visible
+      (holds_at_place asked_if_shown (columns_needed cat.schema asked) i field
+      (needed_pass cat.schema asked asked_if_shown (all_each asked_if_shown asked.select (λ one a. if_shown one (selected_asked one a)))
+      (λ first others among left one a. if_shown one.field (member_asked first others among one a))) there)
+    where
+      by : (b : Bool) → b ≡ true → (not b || is_asked cat.schema asked field.table) ≡ true → is_asked cat.schema asked field.table ≡ true
+      by true e h = h
+      by false e h = absurd (cc (e))
+
+  -- the row of a table of which the value of a visible column is put is looked up
+  pub selected_looked_up : (place : ℕ) (known : Known) → slice_get plan.columns.items place ≡ Some known → is_replied known.source ≡ true
       → list_any (looks_up known.field.table) plan.tests.items ≡ true
   selected_looked_up place known held replied =
-      let at = known_at cat asked.select plan.select.items place known plan_is.select held in
+      let at = known_at cat (columns_needed cat.schema asked) plan.columns.items place known plan_is.columns held in
       let table = known.field.table in
       let same : at.field.table ≡ table = ap (λ (f : Field). f.table) (sym at.is.field_is) in
       let visible = seen cat table known.field.column known.source at.is.source_is ∙ replied in
-      let shown : is_shown_of cat.schema table at.field ≡ true =
-      ap (is_shown_of cat.schema table) (sym at.is.field_is) ∙ ap₂ (λ a b. a && b) (itself_equal table) visible in
       let is : is_asked cat.schema asked table ≡ true =
-      ap (λ b. b || list_any (is_compared_of cat.schema table) asked.conditions) (any_at (is_shown_of cat.schema table) asked.select place at.field at.there shown) in
-      let among : is_among asked.from table ≡ true = ap (is_among asked.from) (sym same) ∙ selected_from place at.field at.there in
+      ap (is_asked cat.schema asked) (sym same)
+      ∙ needed_asked place at.field at.there (ap (λ (f : Field). is_visible cat.schema f.table f.column) (sym at.is.field_is) ∙ visible) in
+      let among : is_among asked.from table ≡ true = ap (is_among asked.from) (sym same) ∙ needed_from place at.field at.there in
       let missed = plan_is.tests (λ t. not (nat_eq t table)) (λ _. true)
       ∙ ap (λ b. b && list_all (λ _. true) (conditions_tested cat.schema asked plan.sifted)) (unmet_among (is_asked cat.schema asked) table asked.from among is) in
       by table (list_any (looks_up table) plan.tests.items) refl missed
@@ -229,70 +482,60 @@ module _ (cat : Catalog) (asked : Query) (plan : RowPlan) (plan_is : IsPlan cat 
       subst (IsAtOrBelow cat.schema plan.top) e
       (below_top test.known.field.table (test_from test (holds_at_place (test_meets (is_among asked.from) (is_from asked.from)) plan.tests.items work.at test tests_from there)))
   wanted_below work table (selected known there e) =
-      let at = known_at cat asked.select plan.select.items work.put known plan_is.select there in
+      let at = known_at cat (columns_needed cat.schema asked) plan.columns.items work.put known plan_is.columns there in
       let same : at.field.table ≡ table = ap (λ (f : Field). f.table) (sym at.is.field_is) ∙ e in
-      subst (IsAtOrBelow cat.schema plan.top) same (below_top at.field.table (selected_from work.put at.field at.there))
+      subst (IsAtOrBelow cat.schema plan.top) same (below_top at.field.table (needed_from work.put at.field at.there))
 
   -- ---- the tests are those of the answer
 
   module _ (page : ℕ → List ℕ) (database : Database) (half : Half) (given : List Reply) (identifier : ℕ) (knows : Knows page cat asked database half given)
       (row : IsRowOf cat plan.top identifier) (sifted : IsSifted cat asked database given identifier plan) (keys : LeadsFollowKeys cat.schema database) where
-    row_there : (place : ℕ) → place < count_of cat plan.top → (r : Row) × (row_of database plan.top (suc place) ≡ Some r)
-    row_there place low =
-        let size = ap (λ (ns : List ℕ). slice_index ns plan.top) (sym knows.counts) ∙ count_there database plan.top in
-        get_within (rows_of database plan.top) place (omega (arith, size, low))
-
     top_row : (r : Row) × (row_of database plan.top identifier ≡ Some r)
-    top_row =
-        let some = row.some in
-        let within = row.within in
-        let r = row_there (identifier - 1) (omega (arith, some, within)) in
-        let same : suc (identifier - 1) ≡ identifier = omega (arith, some) in
-        (r.0, ap (row_of database plan.top) (sym same) ∙ r.1)
+    top_row = row_of_top cat page asked database half given knows plan.top identifier row
 
-    unasked_stands : (table : ℕ) → Among table asked.from → is_asked cat.schema asked table ≡ false → stands_along cat.schema database given plan.top identifier table ≡ true
+    pub unasked_stands : (table : ℕ) → Among table asked.from → is_asked cat.schema asked table ≡ false → stands_along cat.schema database given plan.top identifier table ≡ true
     unasked_stands table among none =
         let below = below_top table (among_is table asked.from among) in
         let lands = keys.lands plan.top table identifier top_row.0 below top_row.1 in
         ap₂ is_kept_row lands.led (knows.of_asked table none)
 
-    shown : (b : Bool) → not b ≡ false → b ≡ true
-    shown true e = refl
-    shown false e = cc
-
-    all_shown : (first : Member) (others : List Member) → some_of (λ one. not (is_visible cat.schema one.field.table one.field.column)) first others ≡ false
-        → each_of (λ one. is_visible cat.schema one.field.table one.field.column) first others ≡ true
-    all_shown first [] e = shown (is_visible cat.schema first.field.table first.field.column) e
-    all_shown first (next ∷ others) e =
-        let both = neither_true (not (is_visible cat.schema first.field.table first.field.column)) (some_of (λ one. not (is_visible cat.schema one.field.table one.field.column)) next others) e in
-        ap₂ (λ a b. a && b) (shown (is_visible cat.schema first.field.table first.field.column) both.0) (all_shown next others both.1)
-
-    untested_holds : (condition : Condition) → is_tested cat.schema condition ≡ false
-        → holds_or_asked_along cat.schema (known_along cat.schema database given plan.top identifier) condition ≡ true
-    untested_holds (OneOf first others) e =
-        ap (λ b. if b then true else some_of (λ one. meets_test one.test (known_along cat.schema database given plan.top identifier one.field)) first others)
-        (all_shown first others e)
-    untested_holds (Join one other) e = refl
-
-    -- the conditions of which there are tests hold exactly where all of the key's do
+    -- the conditions of which there are tests hold exactly where all of these do
     conditions_along : (b : Bool)
-        → (b ≡ true → list_all (holds_or_asked_along cat.schema (known_along cat.schema database given plan.top identifier)) (filter (is_tested cat.schema) asked.conditions) ≡ true)
+        → (b ≡ true → list_all (holds_or_asked_along cat.schema (known_along cat.schema database given plan.top identifier)) (filter (is_gathered cat.schema) asked.conditions) ≡ true)
         → list_all (holds_or_asked_along cat.schema (known_along cat.schema database given plan.top identifier)) (conditions_tested cat.schema asked b)
-        ≡ list_all (holds_or_asked_along cat.schema (known_along cat.schema database given plan.top identifier)) (filter (is_tested cat.schema) asked.conditions)
+        ≡ list_all (holds_or_asked_along cat.schema (known_along cat.schema database given plan.top identifier)) (filter (is_gathered cat.schema) asked.conditions)
     conditions_along true held = sym (held refl)
     conditions_along false held = refl
 
+    tests_same : list_all (passes cat.schema database given plan.top identifier) plan.tests.items
+        ≡ (list_all (stands_along cat.schema database given plan.top identifier) asked.from
+        && list_all (holds_or_asked_along cat.schema (known_along cat.schema database given plan.top identifier)) (filter (is_gathered cat.schema) asked.conditions))
+    tests_same =
+        plan_is.tests (stands_along cat.schema database given plan.top identifier) (holds_or_asked_along cat.schema (known_along cat.schema database given plan.top identifier))
+        ∙ ap₂ (λ a b. a && b) (all_filtered (stands_along cat.schema database given plan.top identifier) (is_asked cat.schema asked) asked.from unasked_stands) (conditions_along plan.sifted sifted)
+
+    -- a row that meets all tests stands in all replies
+    pub all_stand : list_all (passes cat.schema database given plan.top identifier) plan.tests.items ≡ true
+        → list_all (stands_along cat.schema database given plan.top identifier) asked.from ≡ true
+    all_stand met = (both_true (list_all (stands_along cat.schema database given plan.top identifier) asked.from) _ (sym tests_same ∙ met)).0
+
     pub same_row : row_known cat asked database given identifier plan
         ≡ (if list_all (passes cat.schema database given plan.top identifier) plan.tests.items
+        && list_all (holds_along (known_along cat.schema database given plan.top identifier)) (filter (is_left cat.schema) asked.conditions)
         then told (known_along cat.schema database given plan.top identifier) asked.select ∷ [] else [])
     same_row =
-        let stands = stands_along cat.schema database given plan.top identifier in
-        let holds = holds_or_asked_along cat.schema (known_along cat.schema database given plan.top identifier) in
-        sym (ap (λ b. if b then told (known_along cat.schema database given plan.top identifier) asked.select ∷ [] else [])
-        (plan_is.tests stands holds
-        ∙ ap₂ (λ a b. a && b) (all_filtered stands (is_asked cat.schema asked) asked.from unasked_stands)
-        (conditions_along plan.sifted sifted
-        ∙ all_filtered holds (is_tested cat.schema) asked.conditions (λ c a e. untested_holds c e))))
+        let value = known_along cat.schema database given plan.top identifier in
+        let stands = list_all (stands_along cat.schema database given plan.top identifier) asked.from in
+        let gathered = list_all (holds_or_asked_along cat.schema value) (filter (is_gathered cat.schema) asked.conditions) in
+        let left = list_all (holds_along value) (filter (is_left cat.schema) asked.conditions) in
+        ap (λ b. if b then told value asked.select ∷ [] else [])
+        (ap (λ b. stands && b) (conditions_apart cat.schema value asked.conditions)
+        ∙ in_turn stands gathered left
+        ∙ ap (λ b. b && left) (sym tests_same))
+      where
+        in_turn : (a b c : Bool) → (a && (b && c)) ≡ ((a && b) && c)
+        in_turn true b c = refl
+        in_turn false b c = refl
 
 pub tests_are : OneReading → AcceptedQueriesAreFollowed → RowsLeadToRows → TestsAreThoseOfAnswers
 tests_are one accepted rows page cat asked database half given identifier plan knows plan_is row sifted =
@@ -318,31 +561,30 @@ filter_fails p q (x ∷ xs) e = by (q x) (filter_fails p q xs) e
     by true rest h = here (p x) (list_all p (filter q xs)) (list_all p xs) rest h
     by false rest h = later (p x) (list_all p xs) (rest h)
 
-pub among_fails : (p : ℕ → Bool) (tables : List ℕ) (table : ℕ) → is_among tables table ≡ true → p table ≡ false → list_all p tables ≡ false
-among_fails p [] table e h = absurd (cc (e))
-among_fails p (first ∷ tables) table e h = by (nat_eq first table) refl (λ a. among_fails p tables table a h) e
-  where
-    later : (a b : Bool) → b ≡ false → (a && b) ≡ false
-    later true b e = e
-    later false b e = refl
-
-    by : (b : Bool) → nat_eq first table ≡ b → (is_among tables table ≡ true → list_all p tables ≡ false) → (b || is_among tables table) ≡ true
-        → (p first && list_all p tables) ≡ false
-    by true same rest a = ap (λ b. b && list_all p tables) (ap p (eqb-true first table same) ∙ h)
-    by false same rest a = later (p first) (list_all p tables) (rest a)
-
 pub sifted_out : RowsSiftedOutAreNoAnswers
 sifted_out cat asked database given identifier plan fails =
     let holds = holds_or_asked_along cat.schema (known_along cat.schema database given plan.top identifier) in
     ap (λ b. if list_all (stands_along cat.schema database given plan.top identifier) asked.from && b
     then told (known_along cat.schema database given plan.top identifier) asked.select ∷ [] else [])
-    (filter_fails holds (is_tested cat.schema) asked.conditions fails)
+    (filter_fails holds (is_gathered cat.schema) (without_left cat.schema asked).conditions (ap (list_all holds) (gathered_stay cat.schema asked.conditions) ∙ fails))
     ∙ ap (λ b. if b then told (known_along cat.schema database given plan.top identifier) asked.select ∷ [] else [])
     (none (list_all (stands_along cat.schema database given plan.top identifier) asked.from))
   where
     none : (b : Bool) → (b && false) ≡ false
     none true = refl
     none false = refl
+
+pub left_add_none : LeftGroupsAddNoRows
+left_add_none cat asked database given identifier plan none =
+    let holds = holds_or_asked_along cat.schema (known_along cat.schema database given plan.top identifier) in
+    by (list_all (stands_along cat.schema database given plan.top identifier) asked.from) (list_all holds (filter (λ c. not (is_left cat.schema c)) asked.conditions))
+    (list_all holds asked.conditions) (told (known_along cat.schema database given plan.top identifier) asked.select) none
+    (filter_fails holds (λ c. not (is_left cat.schema c)) asked.conditions)
+  where
+    by : (a b c : Bool) (row : Row) → (if a && b then row ∷ [] else []) ≡ [] → (b ≡ false → c ≡ false) → (if a && c then row ∷ [] else []) ≡ []
+    by true true c row e fails = absurd (cc (e))
+    by true false c row e fails = ap (λ d. if d then row ∷ [] else []) (fails refl)
+    by false b c row e fails = refl
 
 pub stands_not : RowsThatStandNotAreNoAnswers
 stands_not cat asked database given identifier table plan among fails =
@@ -418,22 +660,14 @@ apart_from_top table top apart = by (nat_eq table top) refl
     by true e = absurd (apart (eqb-true table top e))
     by false e = refl
 
-or_left : (a b : Bool) → a ≡ true → (a || b) ≡ true
-or_left true b e = refl
-or_left false b e = cc
-
-or_right : (a b : Bool) → b ≡ true → (a || b) ≡ true
-or_right true b e = refl
-or_right false b e = e
-
 wanted_needs : (plan : RowPlan) (work : RowWork) (table : ℕ) → Wanted plan work table → (table ≡ plan.top → ⊥)
-    → needs_below plan.top plan.tests.items plan.select.items ≡ true
+    → needs_below plan.top plan.tests.items plan.columns.items ≡ true
 wanted_needs plan work table (tested test there e) apart =
-    or_left (list_any (λ one. is_below_top plan.top one.known) plan.tests.items) (list_any (is_below_top plan.top) plan.select.items)
+    or_left (list_any (λ one. is_below_top plan.top one.known) plan.tests.items) (list_any (is_below_top plan.top) plan.columns.items)
     (any_at (λ one. is_below_top plan.top one.known) plan.tests.items work.at test there (ap (λ t. not (nat_eq t plan.top)) e ∙ apart_from_top table plan.top apart))
 wanted_needs plan work table (selected known there e) apart =
-    or_right (list_any (λ one. is_below_top plan.top one.known) plan.tests.items) (list_any (is_below_top plan.top) plan.select.items)
-    (any_at (is_below_top plan.top) plan.select.items work.put known there (ap (λ t. not (nat_eq t plan.top)) e ∙ apart_from_top table plan.top apart))
+    or_right (list_any (λ one. is_below_top plan.top one.known) plan.tests.items) (list_any (is_below_top plan.top) plan.columns.items)
+    (any_at (is_below_top plan.top) plan.columns.items work.put known there (ap (λ t. not (nat_eq t plan.top)) e ∙ apart_from_top table plan.top apart))
 
 pub nowhere_never : OneReading → AcceptedQueriesAreFollowed → LevelsAreAncestors → (page : ℕ → List ℕ) (cat : Catalog) (asked : Query) (database : Database) (half : Half) (given : List Reply) (identifier : ℕ) (plan : RowPlan) (work : RowWork)
     → Knows page cat asked database half given → IsPlan cat asked plan → StandsFor page cat asked database half given identifier plan work → IsNowhere plan work → ⊥
@@ -605,7 +839,7 @@ set_is_below cat reached top identifier none table one false e there =
 
 pub begin_working : (cat : Catalog) (asked : Query) (device : Device) (half : Half) (identifier : ℕ) (plan : RowPlan) (work : RowWork)
     → IsPlan cat asked plan → Suffices cat device → AreReadable device half → IsRowOf cat plan.top identifier → work.at ≡ 0 → work.put ≡ 0
-    → work.reached ≡ slice_set (replicate 12 None) plan.top (Some identifier) → work.search ≡ New → length work.values.items ≡ length plan.select.items
+    → work.reached ≡ slice_set (replicate 12 None) plan.top (Some identifier) → work.search ≡ New → length work.values.items ≡ length plan.columns.items
     → IsWorking cat asked device half plan work
 begin_working cat asked device half identifier plan work plan_is enough readable row at_is put_is reached_are search_is size =
     let low = index_within cat.counts plan.top identifier row.some row.within in

@@ -10,20 +10,20 @@ use Rattle.ghost_model.specs.core.Schema.{Schema, is_visible, places_of}
 use Rattle.ghost_model.specs.core.Values.{Value, Row, Database}
 use Rattle.ghost_model.specs.core.Channel.{Catalog, Ask}
 use Rattle.ghost_model.specs.core.Database.{leads, row_count, row_of, rows_of}
-use Rattle.ghost_model.specs.core.Query.{Query, Field, Member, Condition, OneOf, Join, is_among, top_of}
-use Rattle.ghost_model.specs.core.Groups.{each_group}
+use Rattle.ghost_model.specs.core.Query.{Query, Field, Member, GroupMember, members_of_group, members_in, Condition, OneOf, Join, is_among, top_of}
+use Rattle.ghost_model.specs.core.Groups.{some_of, each_group}
 use Rattle.ghost_model.specs.laws.ShortWords as short
 use Rattle.ghost_model.specs.core.Asks as asks
 use Rattle.ghost_model.specs.core.Asks.{ask_for, asks_of, is_needed}
 use Rattle.ghost_model.specs.core.Meaning.{answer, no_value}
-use Rattle.ghost_model.specs.core.Replies.{Reply, reply_about, row_replied, hidden_value, known_value, stands_in, answer_from}
+use Rattle.ghost_model.specs.core.Replies.{Reply, reply_about, row_replied, hidden_value, known_value, stands_in}
 use Rattle.ghost_model.specs.core.Split.{RowValues, Hidden, public_of, hidden_of, value_at}
 use Rattle.ghost_model.specs.forms.Layout.{is_hidden}
 use Rattle.ghost_model.specs.forms.QueryWork.{bits, honest_rows, row_work}
 use Rattle.ghost_model.specs.laws.MeaningLaws.{LeadsFollowKeys, RowsLeadToRows}
 use Rattle.ghost_model.specs.laws.QueryLaws.{OneReading}
 use Rattle.ghost_model.specs.laws.SchemaTrees.{IsTree}
-use Rattle.ghost_model.specs.laws.SessionLaws.{whole_reply, whole_replies, WholeRepliesAnswer}
+use Rattle.ghost_model.specs.laws.SessionLaws.{whole_reply, whole_replies}
 use Rattle.ghost_model.specs.refusals.QueryMeaning.{has_repeat}
 use Rattle.ghost_model.proofs.GroupLemmas.{each_is_all, some_is_any}
 use Rattle.ghost_model.proofs.MeaningLemmas.OneRow.{Among, among-filter, among_is, from_filter, from_map, both_true, neither_true}
@@ -31,8 +31,8 @@ use Rattle.ghost_model.proofs.MeaningLemmas.Leading.{get_within}
 use Rattle.ghost_model.proofs.FlashLemmas.Values.{count_there}
 use Rattle.ghost_model.proofs.SessionLemmas.Members.{no_group_fails, says_more}
 use Rattle.ghost_model.proofs.SessionLemmas.Whole.{holds_in, stands_in_is}
-use Rattle.ghost_laws.specs.Followed.{IsFollowed, AcceptedQueriesAreFollowed, is_column_from}
-use Rattle.ghost_laws.specs.Scans.{known_along, stands_along, holds_or_asked_along, is_kept_row, known_row, KnownAnswersFollowKeys}
+use Rattle.ghost_laws.specs.Followed.{IsFollowed, AcceptedQueriesAreFollowed, WithoutLeftIsFollowed, is_column_from}
+use Rattle.ghost_laws.specs.Scans.{known_along, stands_along, holds_or_asked_along, is_kept_row, holds_along, led_value, row_along, known_row, FollowedAnswersFollowKeys}
 use Rattle.ghost_laws.proofs.ScanLemmas.Accepted.{pass_each}
 use Rattle.spj_parse.specs.Laws.{JoinsCountOnce}
 use Rattle.spj_parse.specs.Resolved.{IsMeant, is_group, joins_of, linked}
@@ -49,17 +49,20 @@ use Rattle.candidate_rows.specs.declared.plan.Test.{Test}
 use Rattle.candidate_rows.specs.declared.plan.RowPlan.{RowPlan}
 use Rattle.candidate_rows.specs.declared.plan.SubtreeFile.{SubtreeFile}
 use Rattle.candidate_rows.specs.Orders.{is_look_up, looks_up}
-use Rattle.ghost_laws.specs.Asking.{is_asked, is_tested, is_shown_of, is_compared_of}
-use Rattle.candidate_rows.specs.Plans.{IsPlan, IsPlanOfCandidates, IsSource, AreKnowns, test_meets, check_meets, conditions_tested, needs_below, needs_ways, has_below, is_below_top}
+use Rattle.ghost_model.specs.forms.Left.{is_same_field, new_fields}
+use Rattle.ghost_laws.specs.Asking.{is_asked, is_gathered, is_left, members_left, columns_left, without_left, is_shown_of, is_compared_of}
+use Rattle.candidate_rows.specs.Plans.{IsPlan, IsPlanOfCandidates, IsSource, AreKnowns, test_meets, check_meets, conditions_tested, needs_below, needs_ways, has_below, is_below_top, columns_needed}
 use Rattle.candidate_rows.specs.Rows.{HoldsReplies}
 use Rattle.flash_layout.specs.Ranges.{IsRowOf}
-use Rattle.candidate_rows.specs.Working.{Knows, told, passes}
+use Rattle.candidate_rows.specs.Working.{Knows, told}
 use Rattle.candidate_rows.specs.Steps.{row_known}
-use Rattle.candidate_rows.specs.Laws.{TestsAreThoseOfAnswers, RecordsAreWanted, is_of_other, compares_other, wants_below}
+use Rattle.candidate_rows.specs.Laws.{RecordsAreWanted, is_of_other, compares_other, wants_below}
 use Rattle.candidate_rows.specs.Costs.{look_calls, value_calls, source_calls, check_calls, test_calls, most_ways, row_calls}
 use Rattle.candidate_rows.specs.CostLaws.{is_visible_group, AreAllRows, RowsCostTheirWork, RowsThatMeetAllAreAnswers, HonestAnswersAreWhole}
 use Rattle.candidate_rows.proofs.AskLemmas.{none_about, mapped, asked_by, ask_stands, no_tests}
-use Rattle.candidate_rows.proofs.FromLemmas.{all_each, is_from, conditions_of, follows, from_same, below_top, joins_pass}
+use Rattle.candidate_rows.proofs.FromLemmas.{all_each, is_from, conditions_of, follows, from_same, below_top, joins_pass, or_left, or_right, of_either, among_of, any_among, unasked_stands, conditions_apart, gathered_stay, none_left}
+use Rattle.candidate_rows.proofs.WholeLemmas.{row_same as whole_row}
+use Rattle.ghost_laws.proofs.ScanLemmas.Rows.{same_for_identifiers}
 use Rattle.candidate_rows.proofs.TestLemmas.{count_cons}
 
 -- ---- lists
@@ -77,27 +80,6 @@ clash t f = cc
 
 itself : (n : ℕ) → nat_eq n n ≡ true
 itself n = eq-eqb n n refl
-
-of_either : (a b : Bool) → a ≡ false → (a || b) ≡ true → b ≡ true
-of_either true b e h = absurd (clash refl e)
-of_either false b e h = h
-
-among_of : (x : ℕ) (xs : List ℕ) → is_among xs x ≡ true → Among x xs
-among_of x [] e = absurd (cc (e))
-among_of x (y ∷ xs) e = by (nat_eq y x) refl (λ h. among_of x xs h) e
-  where
-    by : (b : Bool) → nat_eq y x ≡ b → (is_among xs x ≡ true → Among x xs) → (nat_eq y x || is_among xs x) ≡ true → Among x (y ∷ xs)
-    by true same rest h = inl (eqb-true y x same)
-    by false same rest h = inr (rest (of_either (nat_eq y x) (is_among xs x) same h))
-
-any_among : {X : Type 0} (p : X → Bool) (xs : List X) (x : X) → Among x xs → p x ≡ true → list_any p xs ≡ true
-any_among p [] x among e = absurd among
-any_among p (y ∷ xs) x (inl same) e = ap (λ b. b || list_any p xs) (ap p same ∙ e)
-any_among p (y ∷ xs) x (inr later) e = ap (λ b. p y || b) (any_among p xs x later e) ∙ by (p y)
-  where
-    by : (b : Bool) → (b || true) ≡ true
-    by true = refl
-    by false = refl
 
 -- one that passes a test, where all pass another
 module _ {X : Type 0} (p q : X → Bool) where
@@ -341,7 +323,7 @@ module _ (cat : Catalog) (asked : Query) (plan : RowPlan) (is : IsPlanOfCandidat
       row_costs =
           sums (tests_within half (asks_of cat.schema asked) plan.tests.items all_look looked_once)
           (sum_same (λ (ask : Ask). look_calls half ask.table) (λ ask. bits (length (honest_rows cat.schema database ask)) + 3) (asks_of cat.schema asked) look_costs)
-          (values_within cat asked.select plan.select.items is.is.select) (few_ways plan.keys plan.hops.items is.no_hops)
+          (values_within cat (columns_needed cat.schema asked) plan.columns.items is.is.columns) (few_ways plan.keys plan.hops.items is.no_hops)
         where
           sums : {t l h v s w : ℕ} → t ≤ l → l ≡ h → v ≤ s → w ≤ 1 → t + v + w + 1 ≤ 2 + (s + h)
           sums tests looks values ways = omega (arith, tests, looks, values, ways)
@@ -380,13 +362,90 @@ shown_other schema top table other field shown =
 compared_other : (schema : Schema) (top table : ℕ) → not (nat_eq table top) ≡ true → (condition : Condition) → is_compared_of schema table condition ≡ true
     → compares_other schema top condition ≡ true
 compared_other schema top table other (OneOf first others) compared =
-    some_is_any (λ one. is_of_other top one.field && is_visible schema one.field.table one.field.column) first others
-    ∙ any_mapped (λ (one : Member). is_shown_of schema table one.field) (λ one. is_of_other top one.field && is_visible schema one.field.table one.field.column) (first ∷ others)
+    some_is_any (λ one. is_of_other top one.field && (is_visible schema one.field.table one.field.column || is_left schema (OneOf first others))) first others
+    ∙ any_mapped (λ (one : Member). is_shown_of schema table one.field)
+    (λ one. is_of_other top one.field && (is_visible schema one.field.table one.field.column || is_left schema (OneOf first others))) (first ∷ others)
     (λ one shown.
     let at = both_true (nat_eq one.field.table table) (is_visible schema one.field.table one.field.column) shown in
-    ap₂ (λ a b. a && b) (shown_other schema top table other one.field shown) at.1)
+    ap₂ (λ a b. a && (b || is_left schema (OneOf first others))) (shown_other schema top table other one.field shown) at.1)
     (sym (some_is_any (λ one. is_shown_of schema table one.field) first others) ∙ compared)
 compared_other schema top table other (Join left right) compared = absurd (cc (compared))
+
+-- a column of another table in a group that is left
+any_either : {X : Type 0} (p : X → Bool) (xs ys : List X) → list_any p (xs ++ ys) ≡ (list_any p xs || list_any p ys)
+any_either p [] ys = refl
+any_either p (x ∷ xs) ys = ap (λ b. p x || b) (any_either p xs ys) ∙ by (p x) (list_any p xs) (list_any p ys)
+  where
+    by : (a b c : Bool) → (a || (b || c)) ≡ ((a || b) || c)
+    by true b c = refl
+    by false b c = refl
+
+new_any : (p : Field → Bool) (before fields : List Field) → list_any p (new_fields before fields) ≡ true → list_any p fields ≡ true
+unfolding new_fields
+new_any p before [] e = e
+new_any p before (one ∷ fields) e = by (list_any (is_same_field one) before) (new_any p before fields) (new_any p (one ∷ before) fields) e
+  where
+    by : (b : Bool) → (list_any p (new_fields before fields) ≡ true → list_any p fields ≡ true)
+        → (list_any p (new_fields (one ∷ before) fields) ≡ true → list_any p fields ≡ true)
+        → list_any p (if b then new_fields before fields else one ∷ new_fields (one ∷ before) fields) ≡ true → (p one || list_any p fields) ≡ true
+    by true rest other h = or_right (p one) (list_any p fields) (rest h)
+    by false rest other h = here (p one) h
+      where
+        here : (b : Bool) → (b || list_any p (new_fields (one ∷ before) fields)) ≡ true → (b || list_any p fields) ≡ true
+        here true h = refl
+        here false h = other h
+
+members_any : (p : Field → Bool) (first : Member) (others : List Member) (rest : List GroupMember)
+    → list_any p (map (λ (one : GroupMember). one.member.field) (members_of_group first others ++ rest))
+    ≡ (some_of (λ one. p one.field) first others || list_any p (map (λ (one : GroupMember). one.member.field) rest))
+members_any p first [] rest = refl
+members_any p first (next ∷ others) rest =
+    ap (λ b. p first.field || b) (members_any p next others rest)
+    ∙ by (p first.field) (some_of (λ one. p one.field) next others) (list_any p (map (λ (one : GroupMember). one.member.field) rest))
+  where
+    by : (a b c : Bool) → (a || (b || c)) ≡ ((a || b) || c)
+    by true b c = refl
+    by false b c = refl
+
+left_other : (schema : Schema) (top : ℕ) (conditions : List Condition)
+    → list_any (is_of_other top) (map (λ (one : GroupMember). one.member.field) (members_in (filter (is_left schema) conditions))) ≡ true
+    → list_any (compares_other schema top) conditions ≡ true
+left_other schema top [] e = e
+left_other schema top (OneOf first others ∷ conditions) e = by (is_left schema (OneOf first others)) refl (left_other schema top conditions) e
+  where
+    here : is_left schema (OneOf first others) ≡ true → some_of (λ one. is_of_other top one.field) first others ≡ true → compares_other schema top (OneOf first others) ≡ true
+    here left some =
+        some_is_any (λ one. is_of_other top one.field && (is_visible schema one.field.table one.field.column || is_left schema (OneOf first others))) first others
+        ∙ any_mapped (λ (one : Member). is_of_other top one.field)
+        (λ one. is_of_other top one.field && (is_visible schema one.field.table one.field.column || is_left schema (OneOf first others))) (first ∷ others)
+        (λ one other. ap₂ (λ a b. a && b) other (or_right (is_visible schema one.field.table one.field.column) (is_left schema (OneOf first others)) left))
+        (sym (some_is_any (λ one. is_of_other top one.field) first others) ∙ some)
+
+    either : (a : Bool) → some_of (λ one. is_of_other top one.field) first others ≡ a → is_left schema (OneOf first others) ≡ true
+        → (list_any (is_of_other top) (map (λ (one : GroupMember). one.member.field) (members_in (filter (is_left schema) conditions))) ≡ true → list_any (compares_other schema top) conditions ≡ true)
+        → (a || list_any (is_of_other top) (map (λ (one : GroupMember). one.member.field) (members_in (filter (is_left schema) conditions)))) ≡ true
+        → (compares_other schema top (OneOf first others) || list_any (compares_other schema top) conditions) ≡ true
+    either true some left rest h = or_left (compares_other schema top (OneOf first others)) (list_any (compares_other schema top) conditions) (here left some)
+    either false some left rest h = or_right (compares_other schema top (OneOf first others)) (list_any (compares_other schema top) conditions) (rest h)
+
+    by : (b : Bool) → is_left schema (OneOf first others) ≡ b
+        → (list_any (is_of_other top) (map (λ (one : GroupMember). one.member.field) (members_in (filter (is_left schema) conditions))) ≡ true → list_any (compares_other schema top) conditions ≡ true)
+        → list_any (is_of_other top) (map (λ (one : GroupMember). one.member.field) (members_in (if b then OneOf first others ∷ filter (is_left schema) conditions else filter (is_left schema) conditions))) ≡ true
+        → (compares_other schema top (OneOf first others) || list_any (compares_other schema top) conditions) ≡ true
+    by true left rest h =
+        either (some_of (λ one. is_of_other top one.field) first others) refl left rest (sym (members_any (is_of_other top) first others (members_in (filter (is_left schema) conditions))) ∙ h)
+    by false left rest h = or_right (compares_other schema top (OneOf first others)) (list_any (compares_other schema top) conditions) (rest h)
+left_other schema top (Join one other ∷ conditions) e = left_other schema top conditions e
+
+needed_other : (schema : Schema) (asked : Query) (top : ℕ) → list_any (is_of_other top) (columns_needed schema asked) ≡ true → wants_below schema asked top ≡ true
+needed_other schema asked top e =
+    by (list_any (is_of_other top) asked.select) (sym (any_either (is_of_other top) asked.select (columns_left schema asked)) ∙ e)
+  where
+    by : (b : Bool) → (b || list_any (is_of_other top) (columns_left schema asked)) ≡ true → (b || list_any (compares_other schema top) asked.conditions) ≡ true
+    by true h = refl
+    by false h =
+        left_other schema top asked.conditions
+        (new_any (is_of_other top) asked.select (map (λ (one : GroupMember). one.member.field) (members_left schema asked)) h)
 
 asked_other : (schema : Schema) (asked : Query) (top table : ℕ) → not (nat_eq table top) ≡ true → is_asked schema asked table ≡ true → wants_below schema asked top ≡ true
 asked_other schema asked top table other e = by (list_any (is_shown_of schema table) asked.select) refl e
@@ -407,7 +466,7 @@ asked_other schema asked top table other e = by (list_any (is_shown_of schema ta
 pub records_wanted : RecordsAreWanted
 records_wanted cat asked plan file is there =
     let needed : needs_ways cat plan ≡ true = sym is.keys_are ∙ ap is_some there in
-    let below = (both_true (needs_below plan.top plan.tests.items plan.select.items) (has_below cat.schema plan.top) needed).0 in
+    let below = (both_true (needs_below plan.top plan.tests.items plan.columns.items) (has_below cat.schema plan.top) needed).0 in
     by (list_any (λ test. is_below_top plan.top test.known) plan.tests.items) refl below
   where
     one_wanted : (test : Test) → check_meets (is_among (filter (is_asked cat.schema asked) asked.from)) (λ _. false) test.known.field test.check ≡ true
@@ -422,15 +481,14 @@ records_wanted cat asked plan file is there =
             let found = from_filter (is_asked cat.schema asked) table asked.from (among_of table (filter (is_asked cat.schema asked) asked.from) h) in
             asked_other cat.schema asked plan.top table other found.1
 
-    by : (b : Bool) → list_any (λ test. is_below_top plan.top test.known) plan.tests.items ≡ b → (b || list_any (is_below_top plan.top) plan.select.items) ≡ true
+    by : (b : Bool) → list_any (λ test. is_below_top plan.top test.known) plan.tests.items ≡ b → (b || list_any (is_below_top plan.top) plan.columns.items) ≡ true
         → wants_below cat.schema asked plan.top ≡ true
     by true tested h =
         (let found = any_all (test_meets (is_among (filter (is_asked cat.schema asked) asked.from)) (λ _. false)) (λ test. is_below_top plan.top test.known) plan.tests.items
         (looks_met cat asked plan is) tested in
         one_wanted found.one found.first found.second)
     by false tested h =
-        ap (λ b. b || list_any (compares_other cat.schema plan.top) asked.conditions)
-        (sym (others_selected cat plan.top asked.select plan.select.items is.is.select) ∙ h)
+        needed_other cat.schema asked plan.top (sym (others_selected cat plan.top (columns_needed cat.schema asked) plan.columns.items is.is.columns) ∙ h)
 
 -- ---- replies by their tables
 
@@ -545,7 +603,7 @@ module _ (cat : Catalog) (asked : Query) (plan : RowPlan) (plan_is : IsPlan cat 
       let lands = keys.lands plan.top table identifier top_row.0 below top_row.1 in
       ap (λ o. is_kept_row o (reply_about table given)) lands.led ∙ whole_stands table lands.reached lands.row lands.stands among none
 
-  module _ (holds : list_all (holds_or_asked_along cat.schema (known_along cat.schema database given plan.top identifier)) (filter (is_tested cat.schema) asked.conditions) ≡ true)
+  module _ (holds : list_all (holds_or_asked_along cat.schema (known_along cat.schema database given plan.top identifier)) (filter (is_gathered cat.schema) asked.conditions) ≡ true)
       (stands : list_all (stands_along cat.schema database given plan.top identifier) (filter (λ table. list_any (is_visible_group cat.schema table) asked.conditions) asked.from) ≡ true) where
     each_stands : (table : ℕ) → Among table (filter (is_asked cat.schema asked) asked.from) → stands_along cat.schema database given plan.top identifier table ≡ true
     each_stands table among = by (list_any (is_visible_group cat.schema table) asked.conditions) refl (from_filter (is_asked cat.schema asked) table asked.from among).0
@@ -556,28 +614,28 @@ module _ (cat : Catalog) (asked : Query) (plan : RowPlan) (plan_is : IsPlan cat 
             (among-filter (λ t. list_any (is_visible_group cat.schema t) asked.conditions) table asked.from from e)
         by false e from = unlisted_stands table from e
 
-    tested_hold : (b : Bool) → list_all (holds_or_asked_along cat.schema (known_along cat.schema database given plan.top identifier)) (conditions_tested cat.schema asked b) ≡ true
-    tested_hold true = refl
-    tested_hold false = holds
+    all_from : list_all (stands_along cat.schema database given plan.top identifier) asked.from ≡ true
+    all_from = all_each (stands_along cat.schema database given plan.top identifier) asked.from (λ table among. by table among (is_asked cat.schema asked table) refl)
+      where
+        by : (table : ℕ) → Among table asked.from → (b : Bool) → is_asked cat.schema asked table ≡ b → stands_along cat.schema database given plan.top identifier table ≡ true
+        by table among true e = each_stands table (among-filter (is_asked cat.schema asked) table asked.from among e)
+        by table among false e =
+            unasked_stands cat asked plan plan_is knows.text knows.meant knows.tree one accepted page database half given identifier knows row (λ _. holds) keys table among e
 
-    all_passed : list_all (passes cat.schema database given plan.top identifier) plan.tests.items ≡ true
-    all_passed =
-        plan_is.tests (stands_along cat.schema database given plan.top identifier) (holds_or_asked_along cat.schema (known_along cat.schema database given plan.top identifier))
-        ∙ ap₂ (λ a b. a && b)
-        (all_each (stands_along cat.schema database given plan.top identifier) (filter (is_asked cat.schema asked) asked.from) each_stands)
-        (tested_hold plan.sifted)
+    kept_hold : list_all (holds_or_asked_along cat.schema (known_along cat.schema database given plan.top identifier)) (filter (λ condition. not (is_left cat.schema condition)) asked.conditions) ≡ true
+    kept_hold =
+        let value = known_along cat.schema database given plan.top identifier in
+        conditions_apart cat.schema value (filter (λ condition. not (is_left cat.schema condition)) asked.conditions)
+        ∙ ap₂ (λ a b. a && b) (ap (list_all (holds_or_asked_along cat.schema value)) (gathered_stay cat.schema asked.conditions) ∙ holds)
+        (ap (list_all (holds_along value)) (none_left cat.schema asked.conditions))
 
-    pub one_row : row_known cat asked database given identifier plan
-        ≡ (if list_all (passes cat.schema database given plan.top identifier) plan.tests.items
-        then told (known_along cat.schema database given plan.top identifier) asked.select ∷ [] else [])
-        → length (row_known cat asked database given identifier plan) ≡ 1
-    one_row same =
-        ap length (same ∙ ap (λ b. if b then told (known_along cat.schema database given plan.top identifier) asked.select ∷ [] else []) all_passed)
+    pub one_row : length (row_known cat (without_left cat.schema asked) database given identifier plan) ≡ 1
+    one_row =
+        ap length (ap₂ (λ a b. if a && b then told (known_along cat.schema database given plan.top identifier) asked.select ∷ [] else []) all_from kept_hold)
 
-pub all_answer : OneReading → AcceptedQueriesAreFollowed → RowsLeadToRows → TestsAreThoseOfAnswers → RowsThatMeetAllAreAnswers
-all_answer one accepted rows tests page cat asked database half given identifier plan knows plan_is row honest holds stands =
+pub all_answer : OneReading → AcceptedQueriesAreFollowed → RowsLeadToRows → RowsThatMeetAllAreAnswers
+all_answer one accepted rows page cat asked database half given identifier plan knows plan_is row honest holds stands =
     one_row cat asked plan plan_is page database half given knows honest one accepted (rows cat.schema database knows.tree knows.is) identifier row holds stands
-    (tests page cat asked database half given identifier plan knows plan_is row (λ _. holds))
 
 -- ---- the whole answer
 
@@ -602,12 +660,30 @@ module _ (schema : Schema) (database : Database) (asked : Query) (given other : 
       (λ i wanted. same_along top identifier wanted i)
 
 -- joins hold, however often each stands
+abbrev stay : Schema → List Condition → List Condition
+stay schema conditions = filter (λ condition. not (is_left schema condition)) conditions
+
 joins_aside : (schema : Schema) (value : Field → Option Value) (conditions : List Condition)
-    → list_all (holds_or_asked_along schema value) (filter is_group conditions) ≡ list_all (holds_or_asked_along schema value) conditions
+    → list_all (holds_or_asked_along schema value) (stay schema (filter is_group conditions)) ≡ list_all (holds_or_asked_along schema value) (stay schema conditions)
 joins_aside schema value [] = refl
 joins_aside schema value (OneOf first others ∷ conditions) =
-    ap (λ rest. holds_or_asked_along schema value (OneOf first others) && rest) (joins_aside schema value conditions)
+    ap (λ rest. list_all (holds_or_asked_along schema value) (if not (is_left schema (OneOf first others)) then OneOf first others ∷ rest else rest)) refl
+    ∙ by (is_left schema (OneOf first others)) (joins_aside schema value conditions)
+  where
+    by : (b : Bool) → list_all (holds_or_asked_along schema value) (stay schema (filter is_group conditions)) ≡ list_all (holds_or_asked_along schema value) (stay schema conditions)
+        → list_all (holds_or_asked_along schema value) (if not b then OneOf first others ∷ stay schema (filter is_group conditions) else stay schema (filter is_group conditions))
+        ≡ list_all (holds_or_asked_along schema value) (if not b then OneOf first others ∷ stay schema conditions else stay schema conditions)
+    by true rest = rest
+    by false rest = ap (λ b. holds_or_asked_along schema value (OneOf first others) && b) rest
 joins_aside schema value (Join left right ∷ conditions) = joins_aside schema value conditions
+
+filter_both : {X : Type 0} (q : X → Bool) (xs ys : List X) → filter q (xs ++ ys) ≡ filter q xs ++ filter q ys
+filter_both q [] ys = refl
+filter_both q (x ∷ xs) ys =
+    elim (q x) as (λ b. (if b then x ∷ filter q (xs ++ ys) else filter q (xs ++ ys)) ≡ (if b then x ∷ filter q xs else filter q xs) ++ filter q ys) [
+      | true ↦ ap (λ zs. x ∷ zs) (filter_both q xs ys)
+      | false ↦ filter_both q xs ys
+    ]
 
 all_behind : {X : Type 0} (p : X → Bool) (xs ys : List X) → list_all p xs ≡ true → list_all p (xs ++ ys) ≡ list_all p ys
 all_behind p [] ys all = refl
@@ -615,18 +691,23 @@ all_behind p (x ∷ xs) ys all =
     let both = both_true (p x) (list_all p xs) all in
     ap₂ (λ a b. a && b) both.0 (all_behind p xs ys both.1)
 
+filter_passes : {X : Type 0} (p q : X → Bool) (xs : List X) → list_all p xs ≡ true → list_all p (filter q xs) ≡ true
+filter_passes p q xs all = all_each p (filter q xs) (λ x among. pass_each p xs all x (from_filter q x xs among).0)
+
 linked_row : (schema : Schema) (database : Database) (asked meant : Query) (given : List Reply) (top identifier : ℕ) → asked ≡ linked schema meant
-    → known_row schema database asked given top identifier ≡ known_row schema database meant given top identifier
+    → known_row schema database (without_left schema asked) given top identifier ≡ known_row schema database (without_left schema meant) given top identifier
 linked_row schema database asked meant given top identifier once =
     let value = known_along schema database given top identifier in
-    ap (λ (q : Query). known_row schema database q given top identifier) once
+    ap (λ (q : Query). known_row schema database (without_left schema q) given top identifier) once
     ∙ ap (λ held. if list_all (stands_along schema database given top identifier) meant.from && held then told value meant.select ∷ [] else [])
-    (all_behind (holds_or_asked_along schema value) (joins_of schema meant.from) (filter is_group meant.conditions)
-    (joins_pass (holds_or_asked_along schema value) (λ left right. refl) schema meant.from meant.from)
+    (ap (list_all (holds_or_asked_along schema value)) (filter_both (λ condition. not (is_left schema condition)) (joins_of schema meant.from) (filter is_group meant.conditions))
+    ∙ all_behind (holds_or_asked_along schema value) (stay schema (joins_of schema meant.from)) (stay schema (filter is_group meant.conditions))
+    (filter_passes (holds_or_asked_along schema value) (λ condition. not (is_left schema condition)) (joins_of schema meant.from)
+    (joins_pass (holds_or_asked_along schema value) (λ left right. refl) schema meant.from meant.from))
     ∙ joins_aside schema value meant.conditions)
 
-pub answers_are : OneReading → AcceptedQueriesAreFollowed → KnownAnswersFollowKeys → WholeRepliesAnswer → JoinsCountOnce → HonestAnswersAreWhole
-answers_are one accepted scans answers joins page cat asked database half given top knows top_is honest =
+pub answers_are : OneReading → AcceptedQueriesAreFollowed → WithoutLeftIsFollowed → FollowedAnswersFollowKeys → RowsLeadToRows → JoinsCountOnce → HonestAnswersAreWhole
+answers_are one accepted without scans rows joins page cat asked database half given top knows top_is honest =
     let schema = cat.schema in
     let public = public_of schema database in
     let read = knows.meant in
@@ -635,9 +716,19 @@ answers_are one accepted scans answers joins page cat asked database half given 
     let at : top_of schema meant ≡ Some top = ap (top_of schema) (sym read.once) ∙ top_is in
     let follow = accepted schema knows.tree knows.text meant means top at in
     let about = same_about schema asked knows.text read top follow database given honest knows.of_asked in
-    ap (λ (rows : ℕ → List Row). flat_map rows (range_with_len 1 (row_count database top)))
-    (λ i identifier. (same_row schema database asked given (whole_replies schema public asked) about top identifier ∙ linked_row schema database asked meant (whole_replies schema public asked) top identifier read.once) i)
-    ∙ sym (scans schema knows.tree database knows.is knows.text meant means (whole_replies schema public asked) top at)
-    ∙ ap (λ asks. answer_from schema (hidden_of schema database) meant (map (whole_reply schema public) asks)) (ap (asks_of schema) read.once ∙ joins.asks schema meant)
-    ∙ answers schema knows.tree database knows.is knows.text meant means
-    ∙ sym (ap (answer schema database) read.once ∙ joins.answers schema knows.tree database knows.text meant read.reads)
+    let replies : whole_replies schema public asked ≡ whole_replies schema public meant =
+    ap (λ asks. map (whole_reply schema public) asks) (ap (asks_of schema) read.once ∙ joins.asks schema meant) in
+    ap (λ (each : ℕ → List Row). flat_map each (range_with_len 1 (row_count database top)))
+    (λ i identifier.
+    (same_row schema database (without_left schema asked) given (whole_replies schema public asked) about top identifier
+    ∙ ap (λ (held : List Reply). known_row schema database (without_left schema asked) held top identifier) replies
+    ∙ linked_row schema database asked meant (whole_replies schema public meant) top identifier read.once) i)
+    ∙ same_for_identifiers (known_row schema database (without_left schema meant) (whole_replies schema public meant) top)
+    (λ identifier. row_along (led_value schema database top identifier) (without_left schema meant)) 1 (row_count database top)
+    (λ place low.
+    let there = get_within (rows_of database top) place low in
+    let same : suc place ≡ 1 + place = omega arith in
+    whole_row schema database knows.tree knows.is meant top follow (rows schema database knows.tree knows.is) (1 + place) there.0
+    (ap (row_of database top) (sym same) ∙ there.1))
+    ∙ sym (scans schema knows.tree database knows.is (without_left schema meant) top at (without schema meant top follow))
+    ∙ sym (ap (λ (q : Query). answer schema database (without_left schema q)) read.once ∙ joins.left schema knows.tree database knows.text meant read.reads)

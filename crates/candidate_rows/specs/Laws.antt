@@ -8,7 +8,7 @@ use Rattle.ghost_model.specs.core.Query.{Query, Field, Condition, OneOf, Join, i
 use Rattle.ghost_model.specs.core.Groups.{some_of}
 use Rattle.ghost_model.specs.core.Asks.{ask_for}
 use Rattle.ghost_model.specs.core.Replies.{Reply, reply_about}
-use Rattle.ghost_laws.specs.Scans.{known_along, holds_or_asked_along, stands_along}
+use Rattle.ghost_laws.specs.Scans.{known_along, holds_along, holds_or_asked_along, stands_along}
 use Rattle.ghost_laws.specs.Selected.{AreWholeReplies}
 use Rattle.candidate_rows.specs.declared.plan.RowPlan.{RowPlan}
 use Rattle.candidate_rows.specs.declared.plan.SubtreeFile.{SubtreeFile}
@@ -16,15 +16,15 @@ use Rattle.edge_traits.specs.Devices.{Device}
 use Rattle.visible_spool.specs.declared.half.Half.{Half}
 use Rattle.visible_spool.specs.Sparing.{AreInHalf, SparesHalf}
 use Rattle.candidate_rows.specs.declared.work.RowWork.{RowWork}
-use Rattle.ghost_laws.specs.Asking.{is_asked, is_tested}
+use Rattle.ghost_laws.specs.Asking.{is_asked, is_gathered, is_left, without_left}
 use Rattle.candidate_rows.specs.Plans.{IsPlan, IsPlanOfCandidates}
 use Rattle.candidate_rows.specs.Rows.{AreAllAsked}
 use Rattle.flash_layout.specs.Ranges.{IsRowOf}
 use Rattle.candidate_rows.specs.Working.{Knows, StandsFor, IsWorking, IsSifted, passes, told, steps_left, most_left}
 use Rattle.candidate_rows.specs.Steps.{row_known}
 
--- The tests of a plan are exactly those of the answer: a row is in it where it meets them all, with the selected values. Where the
--- plan has no tests of the key's conditions, the row is one that meets these.
+-- The tests of a plan and the groups that are left are exactly those of the answer: a row is in it where it meets them all, with the
+-- selected values. Where the plan has no tests of the conditions that the indexes have the rows of, the row is one that meets these.
 abbrev pub TestsAreThoseOfAnswers : Type 0
 TestsAreThoseOfAnswers =
     (page : ℕ → List ℕ) (cat : Catalog) (asked : Query) (database : Database) (half : Half) (given : List Reply) (identifier : ℕ) (plan : RowPlan)
@@ -32,20 +32,28 @@ TestsAreThoseOfAnswers =
     → IsSifted cat asked database given identifier plan
     → row_known cat asked database given identifier plan
     ≡ (if list_all (passes cat.schema database given plan.top identifier) plan.tests.items
+    && list_all (holds_along (known_along cat.schema database given plan.top identifier)) (filter (is_left cat.schema) asked.conditions)
     then told (known_along cat.schema database given plan.top identifier) asked.select ∷ [] else [])
 
--- a row of the top table along which a condition of the key does not hold, or that does not stand along some table of FROM, is not
--- in the answer
+-- a row of the top table along which a condition that the indexes have the rows of does not hold, or that does not stand along some
+-- table of FROM, is not in the answer, whether or not it meets the groups that are left
 abbrev pub RowsSiftedOutAreNoAnswers : Type 0
 RowsSiftedOutAreNoAnswers =
     (cat : Catalog) (asked : Query) (database : Database) (given : List Reply) (identifier : ℕ) (plan : RowPlan)
-    → list_all (holds_or_asked_along cat.schema (known_along cat.schema database given plan.top identifier)) (filter (is_tested cat.schema) asked.conditions) ≡ false
-    → row_known cat asked database given identifier plan ≡ []
+    → list_all (holds_or_asked_along cat.schema (known_along cat.schema database given plan.top identifier)) (filter (is_gathered cat.schema) asked.conditions) ≡ false
+    → row_known cat (without_left cat.schema asked) database given identifier plan ≡ []
 
 abbrev pub RowsThatStandNotAreNoAnswers : Type 0
 RowsThatStandNotAreNoAnswers =
     (cat : Catalog) (asked : Query) (database : Database) (given : List Reply) (identifier table : ℕ) (plan : RowPlan)
     → is_among asked.from table ≡ true → stands_along cat.schema database given plan.top identifier table ≡ false
+    → row_known cat asked database given identifier plan ≡ []
+
+-- no row is in the answer that is not in it without the groups that are left
+abbrev pub LeftGroupsAddNoRows : Type 0
+LeftGroupsAddNoRows =
+    (cat : Catalog) (asked : Query) (database : Database) (given : List Reply) (identifier : ℕ) (plan : RowPlan)
+    → row_known cat (without_left cat.schema asked) database given identifier plan ≡ []
     → row_known cat asked database given identifier plan ≡ []
 
 -- one reply to each ask of a query is about asked tables alone
@@ -64,13 +72,13 @@ WholeRepliesAreToAsks =
     (schema : Schema) (asked : Query) (given : List Reply) → AreWholeReplies schema asked given
     → (table : ℕ) (reply : Reply) → reply_about table given ≡ Some reply → reply.ask ≡ ask_for schema asked table
 
--- whether a query selects a column of another table than the top one, or has a visible one in a group
+-- whether a query selects a column of another table than the top one, or has a visible one in a group or any in a group that is left
 abbrev pub is_of_other : (top : ℕ) → Field → Bool
 is_of_other top field = not (nat_eq field.table top)
 
 abbrev pub compares_other : Schema → (top : ℕ) → Condition → Bool
 compares_other schema top (OneOf first others) =
-    some_of (λ one. is_of_other top one.field && is_visible schema one.field.table one.field.column) first others
+    some_of (λ one. is_of_other top one.field && (is_visible schema one.field.table one.field.column || is_left schema (OneOf first others))) first others
 compares_other schema top (Join one other) = false
 
 abbrev pub wants_below : Schema → Query → (top : ℕ) → Bool

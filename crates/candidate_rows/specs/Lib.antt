@@ -1,6 +1,7 @@
 pub mod Numbered
 pub mod Orders
 pub mod Plans
+pub mod Leaving
 pub mod Rows
 pub mod Working
 pub mod Steps

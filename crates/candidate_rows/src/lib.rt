@@ -2,9 +2,9 @@
 //! call on the flash at most.
 //!
 //! A plan says what each row is judged by; it is made once a query, for all rows of the top table or for those that are known to
-//! meet the conditions on hidden columns and identifiers. The work on a row makes a test, takes a value or goes on to the rows
-//! below at each step: it reads each foreign key once at most or, for such rows, one record of the subtree key table. None of the
-//! calls takes memory.
+//! meet the conditions that the indexes have the rows of. The work on a row makes a test, takes a value or goes on to the rows below
+//! at each step: it reads each foreign key once at most or, for such rows, one record of the subtree key table. The groups that are
+//! left are tested last, on the values that were taken. None of the calls takes memory.
 #![tactic(auto)]
 
 mod cells;
@@ -13,6 +13,7 @@ mod hops;
 mod keys;
 mod known;
 pub mod laws;
+mod left;
 pub mod next;
 mod numbers;
 pub mod plan;

@@ -1,9 +1,11 @@
--- The slot of a column that the next step of work on a candidate needs is one that the query selects.
-use Rattle.std.proofs.Common.{◌≡◌, ◌∙◌, ℕ, ◌≤◌, Bool, true, false, ◌&&◌, List, slice_get, filter, Option, Some, None, refl, sym, ap, subst}
+-- The slot of a column that the next step of work on a candidate needs is one whose value the query needs.
+use Rattle.std.proofs.Common.{◌≡◌, ◌∙◌, inl, inr, ◌⊎◌, ℕ, ◌≤◌, Bool, true, false, ◌&&◌, List, slice_get, filter, Option, Some, None, refl, sym, ap, ap₂, subst}
 use Rattle.std.specs.Prelude.{⊤}
-use Rattle.std.specs.List.{list_all}
+use Rattle.std.specs.List.{list_all, list_any}
 use Rattle.ghost_model.specs.core.Channel.{Catalog}
-use Rattle.ghost_model.specs.core.Query.{Query, Condition}
+use Rattle.ghost_model.specs.core.Schema.{Schema}
+use Rattle.ghost_model.specs.core.Query.{Query, Condition, OneOf, Join}
+use Rattle.ghost_model.specs.forms.Left.{is_left}
 use Rattle.ghost_model.specs.forms.Layout.{count_of}
 use Rattle.edge_traits.specs.Devices.{Device}
 use Rattle.visible_spool.specs.declared.half.Half.{Half}
@@ -22,24 +24,45 @@ use Rattle.candidate_rows.specs.declared.next.Next.TheVariants as next
 use Rattle.candidate_rows.specs.declared.work.RowWork.{RowWork}
 use Rattle.candidate_rows.specs.Laws.{RecordsAreWanted, wants_below}
 use Rattle.ghost_laws.specs.Asking.{is_asked}
-use Rattle.candidate_rows.specs.Plans.{conditions_tested, IsPlanOfCandidates, IsFile, IsSource, test_meets, check_meets}
+use Rattle.candidate_rows.specs.Plans.{columns_needed, conditions_tested, IsPlanOfCandidates, IsFile, IsSource, test_meets, check_meets}
 use Rattle.flash_layout.specs.Ranges.{IsRowOf}
 use Rattle.candidate_rows.specs.Working.{IsWorking, Need, NoNeed, OfSlot, OfRow, OfRecord, need_by, need_of, next_slot, next_look, next_record, record_of, spread_from, way_by, way_for, way_to, go_on, next_test, next_value, with_row, reached_at, source_slot, check_slot, check_look}
-use Rattle.candidate_gathering.specs.known.Known.{selects}
-use Rattle.key_exec.proofs.ReadForLemmas.{clash, unmet, all_true, known_at}
+use Rattle.candidate_gathering.specs.known.Known.{is_at, is_left_of, is_member_of, needs_value, selects}
+use Rattle.key_exec.specs.ReadFor.{compares}
+use Rattle.key_exec.proofs.ReadForLemmas.{both, either, or_first, or_later, any_weaker, clash, unmet, all_true, known_at, needed_of}
 
--- the slot of a row in the file of a column that is selected
-pub record IsSelectedSlot (cat : Catalog) (asked : Query) (slot : Slot) : Type 0 where
+-- ---- a column that is needed
+
+member_of : (table column : ℕ) (condition : Condition) → compares (is_at table column) condition ≡ true → is_member_of table column condition ≡ true
+member_of table column (OneOf first others) h = h
+member_of table column (Join one other) h = h
+
+value_is_needed : (schema : Schema) (asked : Query) (table column : ℕ) → list_any (is_at table column) (columns_needed schema asked) ≡ true
+    → needs_value schema asked table column ≡ true
+value_is_needed schema asked table column h =
+    by (either (list_any (is_at table column) asked.select) (list_any (λ c. is_left schema c && compares (is_at table column) c) asked.conditions)
+    (needed_of schema asked (is_at table column) h))
+  where
+    by : (list_any (is_at table column) asked.select ≡ true) ⊎ (list_any (λ c. is_left schema c && compares (is_at table column) c) asked.conditions ≡ true)
+        → needs_value schema asked table column ≡ true
+    by (inl here) = or_first (selects asked table column) (list_any (is_left_of schema table column) asked.conditions) here
+    by (inr behind) =
+        or_later (selects asked table column) (list_any (is_left_of schema table column) asked.conditions)
+        (any_weaker (λ c. is_left schema c && compares (is_at table column) c) (is_left_of schema table column)
+        (λ c g. let it = both (is_left schema c) (compares (is_at table column) c) g in ap₂ (λ a b. a && b) it.0 (member_of table column c it.1)) asked.conditions behind)
+
+-- the slot of a row in the file of a column whose value is needed
+pub record IsNeededSlot (cat : Catalog) (asked : Query) (slot : Slot) : Type 0 where
   pub table : ℕ
   pub column : ℕ
-  pub selected : selects asked table column ≡ true
+  pub needed : needs_value cat.schema asked table column ≡ true
   pub file : IsFile cat table column slot.file
   pub some : 1 ≤ slot.identifier
   pub within : slot.identifier ≤ count_of cat table
 
 abbrev pub IsChosen : Catalog → Query → (top : ℕ) → Need → Type 0
 IsChosen cat asked top NoNeed = ⊤
-IsChosen cat asked top (OfSlot slot) = IsSelectedSlot cat asked slot
+IsChosen cat asked top (OfSlot slot) = IsNeededSlot cat asked slot
 IsChosen cat asked top (OfRow look) = ⊤
 IsChosen cat asked top (OfRecord file identifier) = wants_below cat.schema asked top ≡ true
 
@@ -88,29 +111,30 @@ module _ (wanted : RecordsAreWanted) (cat : Catalog) (asked : Query) (device : D
       by (Stands number) is = tt
       by (Holds wanted) is = absurd (never_tested test there (ap (check_meets (λ _. true) (λ _. false) test.known.field) is))
 
-  -- ---- selected columns
+  -- ---- columns whose values are needed
 
-  from_source : (table column identifier : ℕ) (from : Source) → IsSource cat table column from → IsRowOf cat table identifier → selects asked table column ≡ true
+  from_source : (table column identifier : ℕ) (from : Source) → IsSource cat table column from → IsRowOf cat table identifier → needs_value cat.schema asked table column ≡ true
       → IsChosen cat asked plan.top (need_by (source_slot from identifier) None NoNeed)
-  from_source table column identifier source.Absent is row selected = tt
-  from_source table column identifier source.Identifier is row selected = tt
-  from_source table column identifier source.Reply is row selected = tt
-  from_source table column identifier (source.File file number) is row selected =
-      record { table = table; column = column; selected = selected; file = is; some = row.some; within = row.within }
+  from_source table column identifier source.Absent is row needed = tt
+  from_source table column identifier source.Identifier is row needed = tt
+  from_source table column identifier source.Reply is row needed = tt
+  from_source table column identifier (source.File file number) is row needed =
+      record { table = table; column = column; needed = needed; file = is; some = row.some; within = row.within }
 
-  at_value : (known : Known) → slice_get plan.select.items work.put ≡ Some known → (row : Option ℕ) → reached_at work known.field.table ≡ row
+  at_value : (known : Known) → slice_get plan.columns.items work.put ≡ Some known → (row : Option ℕ) → reached_at work known.field.table ≡ row
       → IsChosenNext (with_row row (next.Put known) (way_for plan work known.field.table))
   at_value known there None reached = any_way known.field.table plan.keys
   at_value known there (Some identifier) reached =
-      let is = known_at cat asked.select plan.select.items work.put known plan_is.is.select there in
-      from_source known.field.table known.field.column identifier known.source is.0 (w.rows known.field.table identifier reached) is.1
+      let is = known_at cat (columns_needed cat.schema asked) plan.columns.items work.put known plan_is.is.columns there in
+      from_source known.field.table known.field.column identifier known.source is.0 (w.rows known.field.table identifier reached)
+      (value_is_needed cat.schema asked known.field.table known.field.column is.1)
 
-  any_value : (found : Option Known) → slice_get plan.select.items work.put ≡ found → IsChosenNext (next_value plan work found)
+  any_value : (found : Option Known) → slice_get plan.columns.items work.put ≡ found → IsChosenNext (next_value plan work found)
   any_value None is = tt
   any_value (Some known) is = at_value known is (reached_at work known.field.table) refl
 
   any_test : (found : Option Test) → slice_get plan.tests.items work.at ≡ found → IsChosenNext (next_test plan work found)
-  any_test None is = any_value (slice_get plan.select.items work.put) refl
+  any_test None is = any_value (slice_get plan.columns.items work.put) refl
   any_test (Some test) is = at_test test is (reached_at work test.known.field.table)
 
   pub need_is_chosen : IsChosen cat asked plan.top (need_of plan work)

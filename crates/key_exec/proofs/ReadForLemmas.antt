@@ -1,13 +1,16 @@
 -- What the next step of work on a row needs is what is read for the query.
-use Rattle.std.proofs.Common.{◌≡◌, ◌∙◌, inl, inr, ◌⊎◌, ℕ, zero, suc, ◌<◌, ◌≤◌, Bool, true, false, not, ◌&&◌, ◌||◌, nat_eq, List, [], ◌∷◌, length, get_or, slice_get, filter, Option, Some, None, option_and_then, refl, sym, ap, ap₂, subst, arith}
+use Rattle.std.proofs.Common.{◌≡◌, ◌∙◌, inl, inr, ◌⊎◌, ℕ, zero, suc, ◌<◌, ◌≤◌, Bool, true, false, not, ◌&&◌, ◌||◌, nat_eq, List, [], ◌∷◌, length, get_or, slice_get, ◌++◌, map, filter, Option, Some, None, option_and_then, refl, sym, ap, ap₂, subst, arith}
 use Rattle.std.specs.Prelude.{⊤, if◌then◌else◌}
 use Rattle.std.specs.List.{list_all, list_any}
 use Rattle.std.proofs.lemmas.Bool.{eqb-true}
+use Rattle.std.proofs.lemmas.List.{map-append}
+use Rattle.std.proofs.lemmas.List.Folds.{list_any-append}
 use Rattle.std.proofs.lemmas.Bool.Decides.{nat_tests}
 use Rattle.ghost_model.specs.core.Schema.{Schema, parent, ancestor}
 use Rattle.ghost_model.specs.core.Channel.{Catalog}
 use Rattle.ghost_model.specs.core.Groups.{some_of}
-use Rattle.ghost_model.specs.core.Query.{Query, Field, Condition, OneOf, Join}
+use Rattle.ghost_model.specs.core.Query.{Query, Field, Member, GroupMember, Condition, OneOf, Join, members_of_group, members_of, members_in}
+use Rattle.ghost_model.specs.forms.Left.{is_left, is_same_field, new_fields, members_left, columns_left}
 use Rattle.ghost_model.specs.forms.Layout.{count_of}
 use Rattle.ghost_model.specs.laws.MeaningLaws.{IsAtOrBelow}
 use Rattle.edge_traits.specs.Devices.{Device}
@@ -26,27 +29,27 @@ use Rattle.candidate_rows.specs.declared.next.Slot.{Slot}
 use Rattle.candidate_rows.specs.declared.next.Next.{Next}
 use Rattle.candidate_rows.specs.declared.next.Next.TheVariants as next
 use Rattle.candidate_rows.specs.declared.work.RowWork.{RowWork}
-use Rattle.ghost_laws.specs.Asking.{is_asked, is_shown_of, is_compared_of, is_tested}
-use Rattle.candidate_rows.specs.Plans.{conditions_tested, IsPlanOf, IsFile, IsHop, IsHopOrNone, AreHops, IsSource, HaveSources, IsKnown, AreKnowns, test_meets, check_meets}
+use Rattle.ghost_laws.specs.Asking.{is_asked, is_shown_of, is_compared_of, is_gathered}
+use Rattle.candidate_rows.specs.Plans.{columns_needed, conditions_tested, IsPlanOf, IsFile, IsHop, IsHopOrNone, AreHops, IsSource, HaveSources, IsKnown, AreKnowns, test_meets, check_meets}
 use Rattle.flash_layout.specs.Ranges.{IsRowOf}
 use Rattle.candidate_rows.specs.Working.{IsWorking, Need, NoNeed, OfSlot, OfRow, OfRecord, need_by, need_of, next_slot, next_look, next_record, way_by, way_for, next_test, next_value, with_row, go_on, way_to, along_hop, from_row, reached_at, source_slot, check_slot, check_look}
 use Rattle.key_exec.specs.ReadFor.{IsReadFor, AsColumn, AsKey, uses, compares, is_at, is_of}
 
 -- ---- lists
 
-either : (a b : Bool) → (a || b) ≡ true → (a ≡ true) ⊎ (b ≡ true)
+pub either : (a b : Bool) → (a || b) ≡ true → (a ≡ true) ⊎ (b ≡ true)
 either true b h = inl refl
 either false b h = inr h
 
-or_later : (a b : Bool) → b ≡ true → (a || b) ≡ true
+pub or_later : (a b : Bool) → b ≡ true → (a || b) ≡ true
 or_later true b h = refl
 or_later false b h = h
 
-or_first : (a b : Bool) → a ≡ true → (a || b) ≡ true
+pub or_first : (a b : Bool) → a ≡ true → (a || b) ≡ true
 or_first true b h = refl
 or_first false b h = cc
 
-both : (a b : Bool) → (a && b) ≡ true → (a ≡ true) × (b ≡ true)
+pub both : (a b : Bool) → (a && b) ≡ true → (a ≡ true) × (b ≡ true)
 both true true h = (refl, refl)
 both true false h = cc
 both false b h = cc
@@ -65,7 +68,7 @@ any_weaker p q weaker (x ∷ xs) h = by (any_weaker p q weaker xs) (either (p x)
     by rest (inl here) = or_first (q x) (list_any q xs) (weaker x here)
     by rest (inr later) = or_later (q x) (list_any q xs) (rest later)
 
-some_weaker : {X : Type 0} (p q : X → Bool) → ((x : X) → p x ≡ true → q x ≡ true) → (first : X) (others : List X) → some_of p first others ≡ true → some_of q first others ≡ true
+pub some_weaker : {X : Type 0} (p q : X → Bool) → ((x : X) → p x ≡ true → q x ≡ true) → (first : X) (others : List X) → some_of p first others ≡ true → some_of q first others ≡ true
 some_weaker p q weaker first [] h = weaker first h
 some_weaker p q weaker first (next ∷ others) h = by (some_weaker p q weaker next others) (either (p first) (some_of p next others) h)
   where
@@ -91,7 +94,7 @@ pub all_true : {X : Type 0} (xs : List X) → list_all (λ _. true) xs ≡ true
 all_true [] = refl
 all_true (x ∷ xs) = all_true xs
 
--- ---- what a query uses
+-- ---- what a query uses, the columns of groups that are left among it
 
 uses_weaker : (asked : Query) (p q : Field → Bool) → ((field : Field) → p field ≡ true → q field ≡ true) → uses asked p ≡ true → uses asked q ≡ true
 uses_weaker asked p q weaker h = by (either (list_any p asked.select) (list_any (compares p) asked.conditions) h)
@@ -103,6 +106,98 @@ uses_weaker asked p q weaker h = by (either (list_any p asked.select) (list_any 
     by : (list_any p asked.select ≡ true) ⊎ (list_any (compares p) asked.conditions ≡ true) → uses asked q ≡ true
     by (inl here) = or_first (list_any q asked.select) (list_any (compares q) asked.conditions) (any_weaker p q weaker asked.select here)
     by (inr here) = or_later (list_any q asked.select) (list_any (compares q) asked.conditions) (any_weaker (compares p) (compares q) of_condition asked.conditions here)
+
+-- columns of groups
+new_are_some : (p : Field → Bool) (before xs : List Field) → list_any p (new_fields before xs) ≡ true → list_any p xs ≡ true
+unfolding new_fields
+new_are_some p before [] h = h
+new_are_some p before (one ∷ later) h =
+    by (new_are_some p before later) (new_are_some p (one ∷ before) later) (list_any (is_same_field one) before) h
+  where
+    of : (list_any p (new_fields (one ∷ before) later) ≡ true → list_any p later ≡ true)
+        → (p one ≡ true) ⊎ (list_any p (new_fields (one ∷ before) later) ≡ true) → list_any p (one ∷ later) ≡ true
+    of rest (inl here) = or_first (p one) (list_any p later) here
+    of rest (inr behind) = or_later (p one) (list_any p later) (rest behind)
+
+    by : (list_any p (new_fields before later) ≡ true → list_any p later ≡ true) → (list_any p (new_fields (one ∷ before) later) ≡ true → list_any p later ≡ true)
+        → (b : Bool) → list_any p (if b then new_fields before later else one ∷ new_fields (one ∷ before) later) ≡ true → list_any p (one ∷ later) ≡ true
+    by known rest true g = or_later (p one) (list_any p later) (known g)
+    by known rest false g = of rest (either (p one) (list_any p (new_fields (one ∷ before) later)) g)
+
+abbrev field_in : GroupMember → Field
+field_in one = one.member.field
+
+some_in_group : (p : Field → Bool) (first : Member) (others : List Member) → list_any p (map field_in (members_of_group first others)) ≡ true
+    → some_of (λ one. p one.field) first others ≡ true
+some_in_group p first [] h = by (either (p first.field) false h)
+  where
+    by : (p first.field ≡ true) ⊎ (false ≡ true) → p first.field ≡ true
+    by (inl here) = here
+    by (inr never) = absurd (cc never)
+some_in_group p first (next ∷ others) h = by (some_in_group p next others) (either (p first.field) (list_any p (map field_in (members_of_group next others))) h)
+  where
+    by : (list_any p (map field_in (members_of_group next others)) ≡ true → some_of (λ one. p one.field) next others ≡ true)
+        → (p first.field ≡ true) ⊎ (list_any p (map field_in (members_of_group next others)) ≡ true) → some_of (λ one. p one.field) first (next ∷ others) ≡ true
+    by rest (inl here) = or_first (p first.field) (some_of (λ one. p one.field) next others) here
+    by rest (inr behind) = or_later (p first.field) (some_of (λ one. p one.field) next others) (rest behind)
+
+compared_in : (p : Field → Bool) (condition : Condition) → list_any p (map field_in (members_of condition)) ≡ true → compares p condition ≡ true
+compared_in p (OneOf first others) h = some_in_group p first others h
+compared_in p (Join one other) h = h
+
+-- some column of filtered groups is one of a group that passes the filter
+pub some_left : (p : Field → Bool) (left : Condition → Bool) (conditions : List Condition)
+    → list_any p (map field_in (members_in (filter left conditions))) ≡ true → list_any (λ c. left c && compares p c) conditions ≡ true
+some_left p left [] h = h
+some_left p left (c ∷ conditions) h = by (some_left p left conditions) (left c) refl h
+  where
+    of : (list_any p (map field_in (members_in (filter left conditions))) ≡ true → list_any (λ c. left c && compares p c) conditions ≡ true)
+        → left c ≡ true → (list_any p (map field_in (members_of c)) ≡ true) ⊎ (list_any p (map field_in (members_in (filter left conditions))) ≡ true)
+        → (left c && compares p c || list_any (λ c. left c && compares p c) conditions) ≡ true
+    of rest is (inl here) = or_first (left c && compares p c) (list_any (λ c. left c && compares p c) conditions) (ap₂ (λ a b. a && b) is (compared_in p c here))
+    of rest is (inr behind) = or_later (left c && compares p c) (list_any (λ c. left c && compares p c) conditions) (rest behind)
+
+    with_it : (list_any p (map field_in (members_in (filter left conditions))) ≡ true → list_any (λ c. left c && compares p c) conditions ≡ true)
+        → left c ≡ true → list_any p (map field_in (members_of c ++ members_in (filter left conditions))) ≡ true
+        → (left c && compares p c || list_any (λ c. left c && compares p c) conditions) ≡ true
+    with_it rest is g =
+        of rest is
+        (either (list_any p (map field_in (members_of c))) (list_any p (map field_in (members_in (filter left conditions))))
+        (sym (list_any-append p (map field_in (members_of c)) (map field_in (members_in (filter left conditions))))
+        ∙ ap (list_any p) (sym (map-append field_in (members_of c) (members_in (filter left conditions)))) ∙ g))
+
+    by : (list_any p (map field_in (members_in (filter left conditions))) ≡ true → list_any (λ c. left c && compares p c) conditions ≡ true)
+        → (b : Bool) → left c ≡ b → list_any p (map field_in (members_in (if b then c ∷ filter left conditions else filter left conditions))) ≡ true
+        → (left c && compares p c || list_any (λ c. left c && compares p c) conditions) ≡ true
+    by rest true is g = with_it rest is g
+    by rest false is g = or_later (left c && compares p c) (list_any (λ c. left c && compares p c) conditions) (rest g)
+
+-- a column that is needed is selected, or stands in a group that is left
+pub needed_of : (schema : Schema) (asked : Query) (p : Field → Bool) → list_any p (columns_needed schema asked) ≡ true
+    → (list_any p asked.select || list_any (λ c. is_left schema c && compares p c) asked.conditions) ≡ true
+needed_of schema asked p h =
+    by (either (list_any p asked.select) (list_any p (columns_left schema asked)) (sym (list_any-append p asked.select (columns_left schema asked)) ∙ h))
+  where
+    by : (list_any p asked.select ≡ true) ⊎ (list_any p (columns_left schema asked) ≡ true)
+        → (list_any p asked.select || list_any (λ c. is_left schema c && compares p c) asked.conditions) ≡ true
+    by (inl here) = or_first (list_any p asked.select) (list_any (λ c. is_left schema c && compares p c) asked.conditions) here
+    by (inr behind) =
+        or_later (list_any p asked.select) (list_any (λ c. is_left schema c && compares p c) asked.conditions)
+        (some_left p (is_left schema) asked.conditions (new_are_some p asked.select (map field_in (members_left schema asked)) behind))
+
+needed_is_used : (schema : Schema) (asked : Query) (table column : ℕ) → list_any (is_at table column) (columns_needed schema asked) ≡ true
+    → uses asked (is_at table column) ≡ true
+needed_is_used schema asked table column h =
+    by (either (list_any (is_at table column) asked.select) (list_any (λ c. is_left schema c && compares (is_at table column) c) asked.conditions)
+    (needed_of schema asked (is_at table column) h))
+  where
+    by : (list_any (is_at table column) asked.select ≡ true) ⊎ (list_any (λ c. is_left schema c && compares (is_at table column) c) asked.conditions ≡ true)
+        → uses asked (is_at table column) ≡ true
+    by (inl here) = or_first (list_any (is_at table column) asked.select) (list_any (compares (is_at table column)) asked.conditions) here
+    by (inr behind) =
+        or_later (list_any (is_at table column) asked.select) (list_any (compares (is_at table column)) asked.conditions)
+        (any_weaker (λ c. is_left schema c && compares (is_at table column) c) (compares (is_at table column))
+        (λ c g. (both (is_left schema c) (compares (is_at table column) c) g).1) asked.conditions behind)
 
 -- a column of a table
 of_column : (asked : Query) (table column : ℕ) → uses asked (is_at table column) ≡ true → uses asked (is_of table) ≡ true
@@ -251,7 +346,7 @@ module _ (cat : Catalog) (asked : Query) (device : Device) (half : Half) (plan :
     (w : IsWorking cat asked device half plan work) where
   tests_are : (stands : ℕ → Bool) (holds : Condition → Bool)
       → list_all (test_meets stands holds) plan.tests.items
-      ≡ (list_all stands (filter (is_asked cat.schema asked) asked.from) && list_all holds (filter (is_tested cat.schema) asked.conditions))
+      ≡ (list_all stands (filter (is_asked cat.schema asked) asked.from) && list_all holds (filter (is_gathered cat.schema) asked.conditions))
   tests_are stands holds =
       plan_is.is.tests stands holds
       ∙ ap (λ (sifted : Bool). list_all stands (filter (is_asked cat.schema asked) asked.from) && list_all holds (conditions_tested cat.schema asked sifted)) plan_is.not_sifted
@@ -259,8 +354,8 @@ module _ (cat : Catalog) (asked : Query) (device : Device) (half : Half) (plan :
   sources_are : HaveSources cat plan.tests.items
   sources_are = plan_is.is.sources
 
-  select_are : AreKnowns cat asked.select plan.select.items
-  select_are = plan_is.is.select
+  columns_are : AreKnowns cat (columns_needed cat.schema asked) plan.columns.items
+  columns_are = plan_is.is.columns
 
   abbrev IsReadNext : Next → Type 0
   IsReadNext n = IsReadNeed cat asked plan.top (need_by (next_slot n) (next_look n) (next_record plan.keys n))
@@ -315,7 +410,7 @@ module _ (cat : Catalog) (asked : Query) (device : Device) (half : Half) (plan :
       let misses : test_meets stands (λ _. true) test ≡ false = ap (check_meets stands (λ _. true) test.known.field) check ∙ ap not (itself_equal table) in
       kept_table (is_asked cat.schema asked) table asked.from
       (left_false _ _ (sym (tests_are stands (λ _. true)) ∙ unmet (test_meets stands (λ _. true)) plan.tests.items work.at test there misses)
-      (all_true (filter (is_tested cat.schema) asked.conditions)))
+      (all_true (filter (is_gathered cat.schema) asked.conditions)))
 
   -- a column that is tested is compared
   tested : (test : Test) → slice_get plan.tests.items work.at ≡ Some test → (check : Check) → test.check ≡ check
@@ -328,7 +423,7 @@ module _ (cat : Catalog) (asked : Query) (device : Device) (half : Half) (plan :
       ap (check_meets (λ _. true) holds test.known.field) e
       ∙ ap not (ap₂ (λ a b. a && b) (itself_equal test.known.field.table) (itself_equal test.known.field.column)) in
       or_later (list_any is asked.select) (list_any (compares is) asked.conditions)
-      (kept_condition (is_tested cat.schema) is asked.conditions
+      (kept_condition (is_gathered cat.schema) is asked.conditions
       (right_false _ _ (sym (tests_are (λ _. true) holds) ∙ unmet (test_meets (λ _. true) holds) plan.tests.items work.at test there misses)
       (all_true (filter (is_asked cat.schema asked) asked.from))))
 
@@ -349,21 +444,22 @@ module _ (cat : Catalog) (asked : Query) (device : Device) (half : Half) (plan :
           from_source test.known.field.table test.known.field.column identifier test.known.source (source_at cat plan.tests.items work.at test sources_are there)
           (w.rows test.known.field.table identifier e) (tested test there (Holds wanted) c)
 
-  at_value : (known : Known) → slice_get plan.select.items work.put ≡ Some known → (row : Option ℕ) → reached_at work known.field.table ≡ row
+  at_value : (known : Known) → slice_get plan.columns.items work.put ≡ Some known → (row : Option ℕ) → reached_at work known.field.table ≡ row
       → IsReadNext (with_row row (next.Put known) (way_for plan work known.field.table))
   at_value known there None e =
-      let is = known_at cat asked.select plan.select.items work.put known select_are there in
-      way_read known.field.table (of_column asked known.field.table known.field.column (or_first _ _ is.1))
+      let is = known_at cat (columns_needed cat.schema asked) plan.columns.items work.put known columns_are there in
+      way_read known.field.table (of_column asked known.field.table known.field.column (needed_is_used cat.schema asked known.field.table known.field.column is.1))
   at_value known there (Some identifier) e =
-      let is = known_at cat asked.select plan.select.items work.put known select_are there in
-      from_source known.field.table known.field.column identifier known.source is.0 (w.rows known.field.table identifier e) (or_first _ _ is.1)
+      let is = known_at cat (columns_needed cat.schema asked) plan.columns.items work.put known columns_are there in
+      from_source known.field.table known.field.column identifier known.source is.0 (w.rows known.field.table identifier e)
+      (needed_is_used cat.schema asked known.field.table known.field.column is.1)
 
-  any_value : (found : Option Known) → slice_get plan.select.items work.put ≡ found → IsReadNext (next_value plan work found)
+  any_value : (found : Option Known) → slice_get plan.columns.items work.put ≡ found → IsReadNext (next_value plan work found)
   any_value None e = tt
   any_value (Some known) e = at_value known e (reached_at work known.field.table) refl
 
   any_test : (found : Option Test) → slice_get plan.tests.items work.at ≡ found → IsReadNext (next_test plan work found)
-  any_test None e = any_value (slice_get plan.select.items work.put) refl
+  any_test None e = any_value (slice_get plan.columns.items work.put) refl
   any_test (Some test) e = at_test test e (reached_at work test.known.field.table) refl
 
   pub need_is_read : IsReadNeed cat asked plan.top (need_of plan work)

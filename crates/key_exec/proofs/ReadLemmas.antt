@@ -74,7 +74,7 @@ module _ (told : Bool) (since : ℕ) (before now : Device) (forced : Option Form
       InFile (record {
         file = Cells chosen.table chosen.column;
         has = chosen.file.hidden;
-        read_for = chosen.selected;
+        read_for = chosen.needed;
         at = at_run since now (run_of at.file.run) (column_file cat chosen.table chosen.column) chosen.file.file_is.run_is place number slot found blames.bytes
             (omega (arith, chosen.some, chosen.within)) blames.page_is blames.slot_is blames.read blames.found_is;
       })

@@ -2,10 +2,11 @@
 //! on the flash; and the lines of one text of a session.
 //!
 //! A row of the top table leads along the foreign keys, which are hidden, to one row of each table below. It is printed
-//! where the row of each asked table stands in its reply and each condition on a hidden column or an identifier holds. By the plan
-//! that scans each row of the top table is looked at. By those that go by the indexes the rows that meet the key's conditions are
-//! gathered first, in scratch behind the spool, and linked there with the replies that conditions were sent for, by united lists or
-//! by filters (`forms`); those that are left alone are looked at. No call here takes memory. `docs/SESSION.md` states the rules.
+//! where the row of each asked table stands in its reply and each group with a hidden column or an identifier holds. By the plan
+//! that scans each row of the top table is looked at. By those that go by the indexes the rows that meet the groups whose rows these
+//! have are gathered first, in scratch behind the spool, and linked there with the replies that conditions were sent for, by united
+//! lists or by filters (`forms`); those that are left alone are looked at. The other groups are tested on each row that is looked at.
+//! No call here takes memory. `docs/SESSION.md` states the rules.
 //!
 //! A refused text has the line of its refusal, a text whose asks did not all come to their end the line of what ended them,
 //! a text whose replies could not be written that of the flash's fault, and every other text the rows of its answer and their

@@ -12,7 +12,6 @@ use Rattle.ghost_model.specs.core.Asks.{NumberedAsk, asked_of}
 use Rattle.ghost_model.specs.core.Lines.{was_refused, is_refused_by}
 use Rattle.ghost_model.specs.core.Moves.{taken}
 use Rattle.ghost_model.specs.core.NextMove.{EndedAsk, IsFinished}
-use Rattle.ghost_model.specs.core.Replies.{replies}
 use Rattle.channel_pump.specs.Progress.{Tells}
 use Rattle.channel_pump.specs.Sessions.{asked_in}
 use Rattle.page_pool.specs.Pools.{Pool}

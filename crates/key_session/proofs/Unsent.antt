@@ -5,12 +5,11 @@ use Rattle.std.specs.List.{list_all}
 use Rattle.std.proofs.lemmas.List.{length-append}
 use Rattle.std.proofs.lemmas.List.Sums.{sum_by-cons}
 use Rattle.std.proofs.lemmas.Bool.Decides.{nat_tests}
-use Rattle.ghost_model.specs.core.Schema.{Schema}
 use Rattle.ghost_model.specs.core.Channel.{Catalog, Frame, HelloFrame, AskFrame, MoreFrame, ByeFrame, WelcomeFrame, RowsFrame, DoneFrame, SorryFrame, Move, Dial, Listen, Accept, Send, Take, Close, Answer, Made, Port, Piece, End, Failed, Entry, Journal}
 use Rattle.ghost_model.specs.forms.Frames.{frame_in, frame_bytes}
 use Rattle.ghost_model.specs.core.Asks.{NumberedAsk, asked_of, ask_payload}
 use Rattle.ghost_model.specs.core.Moves.{sent, sent_by, piece_of}
-use Rattle.ghost_model.specs.core.NextMove.{Awaits, AwaitsCatalog, AwaitsReply, AwaitsNothing, Ending, Answered, Refused, EndedAsk, Heard, Standing, Verdict, Lacking, Complete, Invalid, GoesOn, after_frame, ask_next, still, of_later_texts, verdict, heard_as, hear, hear_all, heard, standing_after, take_or_close, send_or, move_from, next_with, is_close, is_stop}
+use Rattle.ghost_model.specs.core.NextMove.{Awaits, AwaitsCatalog, AwaitsReply, AwaitsNothing, EndedAsk, Heard, Standing, Verdict, Lacking, Complete, Invalid, GoesOn, after_frame, ask_next, still, of_later_texts, verdict, heard_as, hear, hear_all, standing_after, take_or_close, send_or, move_from, next_with, is_close, is_stop}
 use Rattle.ghost_model.proofs.ChannelLemmas.Tests.{both_hold, hold_both}
 use Rattle.channel_pump.specs.Progress.{Tells, IsUnbroken, ended_on}
 use Rattle.channel_pump.specs.Sessions.{asked_in, leads_on}

@@ -45,7 +45,7 @@ use Rattle.flash_layout.specs.Ranges.{IsRowOf}
 use Rattle.condition_lists.specs.Terms.{IsIndexAt, IsIdIndexAt}
 use Rattle.candidate_gathering.specs.searching.Begun.{AreListsAt, AreRepliesAt, EndsBy}
 use Rattle.candidate_gathering.proofs.searching_lemmas.Places.{indexed, indexed_above, some_above, within_above}
-use Rattle.candidate_gathering.specs.known.Known.{IsLevelOf, IsListFile, IsReadByIndexes, compares, seeks_ids, selects}
+use Rattle.candidate_gathering.specs.known.Known.{IsLevelOf, IsListFile, IsReadByIndexes, compares, needs_value, seeks_ids}
 
 -- a damaged slot of a file that is read
 pub record IsDamagedFor (page : ℕ → List ℕ) (cat : Catalog) (read : File → Type 0) (number slot found : ℕ) : Type 0 where
@@ -104,7 +104,7 @@ module _ (summed : FilesLieAsSummed) (broken : BrokenCodesAreDamaged) (page : �
   laid = summed cat
 
   -- ---- the index of a column
-  module _ (table column : ℕ) (index : ClimbingIndex) (level : ℕ) (at : IsIndexAt cat top table column index level) (compared : compares asked table column ≡ true) where
+  module _ (table column : ℕ) (index : ClimbingIndex) (level : ℕ) (at : IsIndexAt cat top table column index level) (compared : compares cat.schema asked table column ≡ true) where
     header_is : (number slot found : ℕ) → HasDamage page (run_of index.header) (header_stands (rows_of index)) 0 number slot found → IsDamagedFor page cat (IsListFile cat asked top) number slot found
     header_is number slot found bad =
         let is = at.index_is in
@@ -261,17 +261,17 @@ module _ (summed : FilesLieAsSummed) (broken : BrokenCodesAreDamaged) (page : �
         ]
 
 -- ---- the slot of a row
-pub cell_is : FilesAreOfColumns → (page : ℕ → List ℕ) (cat : Catalog) (asked : Query) (top table column : ℕ) (file : ColumnFile) → IsFile cat table column file → selects asked table column ≡ true
+pub cell_is : FilesAreOfColumns → (page : ℕ → List ℕ) (cat : Catalog) (asked : Query) (top table column : ℕ) (file : ColumnFile) → IsFile cat table column file → needs_value cat.schema asked table column ≡ true
     → (identifier : ℕ) → IsRowOf cat table identifier
     → (number slot found : ℕ) → number ≡ columns.slot_page file identifier → slot ≡ columns.slot_place file identifier
     → columns.FailsAt page file identifier (Damaged number slot found) → IsDamagedFor page cat (IsReadByIndexes cat asked top) number slot found
-cell_is same page cat asked top table column file is selected identifier row number slot found on_page in_place fails =
+cell_is same page cat asked top table column file is needed identifier row number slot found on_page in_place fails =
     let run = is.file_is.run_is in
     let place = identifier - 1 in
     record {
       file = Cells table column;
       place = place;
-      read_for = selected;
+      read_for = needed;
       damaged = record {
         has = is.hidden;
         within = omega (arith, row.some, row.within);

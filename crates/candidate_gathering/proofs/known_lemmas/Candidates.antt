@@ -10,7 +10,7 @@ use Rattle.ghost_laws.specs.Scans.{holds_or_asked_along, known_along, known_row}
 use Rattle.subtree_keys.specs.Laws.{IsTableBut}
 use Rattle.candidate_rows.specs.declared.plan.RowPlan.{RowPlan}
 use Rattle.candidate_rows.specs.declared.plan.SubtreeFile.{SubtreeFile}
-use Rattle.ghost_laws.specs.Asking.{is_tested}
+use Rattle.ghost_laws.specs.Asking.{is_gathered}
 use Rattle.candidate_rows.specs.Plans.{HasWays}
 use Rattle.candidate_rows.specs.Working.{IsSifted}
 use Rattle.candidate_gathering.specs.known.Known.{KnowsIndexes}
@@ -37,10 +37,10 @@ left_out cat database asked top given plan same rows next stop order most none =
     ∙ ap (λ n. flat_map (λ identifier. known_row cat.schema database asked given plan.top identifier) (range_with_len n (rows + 1 - n))) end
 
 holding : (cat : Catalog) (database : Database) (asked : Query) (top : ℕ) (given : List Reply) (identifier : ℕ)
-    → list_all (holds_or_asked_along cat.schema (known_along cat.schema database given top identifier)) (filter (is_tested cat.schema) asked.conditions) ≡ true
+    → list_all (holds_or_asked_along cat.schema (known_along cat.schema database given top identifier)) (filter (is_gathered cat.schema) asked.conditions) ≡ true
     → (plan : RowPlan) → plan.top ≡ top → IsSifted cat asked database given identifier plan
 holding cat database asked top given identifier met plan same of_plan =
-    subst (λ one. list_all (holds_or_asked_along cat.schema (known_along cat.schema database given one identifier)) (filter (is_tested cat.schema) asked.conditions) ≡ true) (sym same) met
+    subst (λ one. list_all (holds_or_asked_along cat.schema (known_along cat.schema database given one identifier)) (filter (is_gathered cat.schema) asked.conditions) ≡ true) (sym same) met
 
 keys_but : (page right : ℕ → List ℕ) (cat : Catalog) (database : Database) (plan : RowPlan) → KnowsIndexes page right cat database
     → (keys : Option SubtreeFile) → HasWays cat plan keys → is_some keys ≡ true → IsTableBut page cat (hidden_of cat.schema database) plan.top

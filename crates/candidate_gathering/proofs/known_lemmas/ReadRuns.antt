@@ -18,6 +18,7 @@ use Rattle.ghost_model.proofs.MeaningLemmas.OneRow.{Among, from_filter}
 use Rattle.ghost_base.specs.Runs.{run_of}
 use Rattle.edge_traits.specs.Devices.{Device}
 use Rattle.id_merge.specs.Since.{Since, MayBlame, Blamed, InOrder}
+use Rattle.ghost_laws.specs.Asking.{is_gathered}
 use Rattle.leakless_plan.specs.declared.form.Form.{Form}
 use Rattle.leakless_plan.specs.declared.form.Form.TheVariants.{Pre, Post, CrossPre, CrossPost}
 use Rattle.leakless_plan.specs.Choices.{crosses, form_of, form_with, forms_of, is_crossed, is_linked, may_cross, plain, unites}
@@ -39,12 +40,13 @@ use Rattle.entry_lists.proofs.ValueLists.{file_at}
 use Rattle.condition_lists.specs.declared.term.Term.{Term}
 use Rattle.condition_lists.specs.declared.term.Term.TheVariants.{Ranges, Entries, Identifiers, TopReply, Reply}
 use Rattle.condition_lists.specs.Terms.{AreTableTerms, AreTermsBy, IsIndexAt, IsIdIndexAt, IsReplyTermOf, IsIdentifiersTerm, IsTermOf, IsTermOfTest, has_level, is_compared, is_listed, is_replied, is_united, unites_whole}
+use Rattle.condition_lists.proofs.FilterLemmas.{term_is_gathered}
 use Rattle.condition_lists.proofs.PathLemmas.{joined}
 use Rattle.condition_lists.proofs.PlaceLemmas.{found}
 use Rattle.candidate_gathering.specs.searching.Begun.{rows_list}
 use Rattle.candidate_gathering.specs.searching.Given.{SearchMay}
 use Rattle.candidate_gathering.proofs.searching_lemmas.Places.{some_above, within_above}
-use Rattle.candidate_gathering.specs.known.Known.{compares, is_member_of}
+use Rattle.candidate_gathering.specs.known.Known.{compares, is_gathered_of}
 use Rattle.candidate_gathering.specs.known.Laws.{RunsMay}
 use Rattle.candidate_gathering.specs.known.May.{ReplyMay, TermMay, TermsMay, files_in, is_column, is_run_read, is_same_run, lies_in, may_blame, since_for}
 use Rattle.candidate_gathering.specs.known.Reading.{AreTaken, IsReadByForms, MayTake, crosses_at, has_ids, has_lists, has_set, is_read_by, may_unite, seeks_by}
@@ -181,7 +183,7 @@ module _ (orders : FilesLieInOrder) (levels : LevelsAreAncestors) (told : Bool) 
   may_file file run same has other read = ap since.may same ∙ files_may cat asked forced top side orders told file tree has other read
 
   -- the index of a hidden column, at a table at which lists are read
-  entries_may : (at table column : ℕ) (index : ClimbingIndex) (level : ℕ) → IsIndexAt cat at table column index level → compares asked table column ≡ true
+  entries_may : (at table column : ℕ) (index : ClimbingIndex) (level : ℕ) → IsIndexAt cat at table column index level → compares cat.schema asked table column ≡ true
       → has_lists cat.schema asked forced top at ≡ true → SearchMay since index × IndexMay since index.directory level
   entries_may at table column index level is compared lists =
       let low = slice_get_within (levels_of cat.schema table) level at is.level_is in
@@ -197,7 +199,7 @@ module _ (orders : FilesLieInOrder) (levels : LevelsAreAncestors) (told : Bool) 
               may_file (IndexLevel table column level) (run_of (level_run index.directory level))
               (file_at (index_level cat table column) (length (levels_of cat.schema table)) index.directory is.index_is.levels_are level low)
               (both (is_hidden cat.schema table column) (nat_lt level (length (levels_of cat.schema table))) is.hidden (lt-ltb level (length (levels_of cat.schema table)) low)) refl
-              (both (compares asked table column) (option_map_or (has_lists cat.schema asked forced top) (slice_get (levels_of cat.schema table) level) false) compared level_read);
+              (both (compares cat.schema asked table column) (option_map_or (has_lists cat.schema asked forced top) (slice_get (levels_of cat.schema table) level) false) compared level_read);
         },
       )
 
@@ -222,7 +224,7 @@ module _ (orders : FilesLieInOrder) (levels : LevelsAreAncestors) (told : Bool) 
   pub ids_may : (table : ℕ) (index : IdIndex) (level : ℕ) → IsIdIndexAt cat top table index level → seeks_by cat.schema asked forced table ≡ true → IndexMay since index.directory (level - 1)
   ids_may table index level is sought =
       ids_at_table top table index level is (above_first (levels_of cat.schema table) level top is.above is.level_is) sought
-      (before (nat_eq top top && seeks_by cat.schema asked forced table) (has_set cat.schema asked forced top top && compares asked table 0)
+      (before (nat_eq top top && seeks_by cat.schema asked forced table) (has_set cat.schema asked forced top top && compares cat.schema asked table 0)
       (both (nat_eq top top) (seeks_by cat.schema asked forced table) (eq-eqb top top refl) sought))
 
 -- ---- terms
@@ -239,11 +241,13 @@ any_some : {X : Type 0} (test : X → Bool) (xs : List X) → list_any test xs �
 any_some test [] any = absurd (cc any)
 any_some test (x ∷ xs) any = refl
 
-compared_by : (asked : Query) (member : Member) → Among (OneOf member []) asked.conditions → compares asked member.field.table member.field.column ≡ true
-compared_by asked member among =
+compared_by : (schema : Schema) (asked : Query) (member : Member) → Among (OneOf member []) asked.conditions → is_gathered schema (OneOf member []) ≡ true
+    → compares schema asked member.field.table member.field.column ≡ true
+compared_by schema asked member among gathered =
     let wanted = member.field in
-    any_among (is_member_of wanted.table wanted.column) asked.conditions (OneOf member []) among
-    (both (nat_eq wanted.table wanted.table) (nat_eq wanted.column wanted.column) (eq-eqb wanted.table wanted.table refl) (eq-eqb wanted.column wanted.column refl))
+    any_among (is_gathered_of schema wanted.table wanted.column) asked.conditions (OneOf member []) among
+    (both (is_gathered schema (OneOf member [])) (nat_eq wanted.table wanted.table && nat_eq wanted.column wanted.column) gathered
+    (both (nat_eq wanted.table wanted.table) (nat_eq wanted.column wanted.column) (eq-eqb wanted.table wanted.table refl) (eq-eqb wanted.column wanted.column refl)))
 
 level_there : (schema : Schema) (top table : ℕ) → has_level schema top table ≡ true → table < length schema
 level_there schema top table has = by (nat_lt table (length schema)) refl has
@@ -287,26 +291,26 @@ module _ (orders : FilesLieInOrder) (levels : LevelsAreAncestors) (told : Bool) 
               below_both levels cat.schema tree top at table level is.there is.above is.level_is inside below)
         ]
 
-    ids_here : (table level : ℕ) (index : IdIndex) → IsIdIndexAt cat at table index level → compares asked table 0 ≡ true → IndexMay S index.directory (level - 1)
+    ids_here : (table level : ℕ) (index : IdIndex) → IsIdIndexAt cat at table index level → compares cat.schema asked table 0 ≡ true → IndexMay S index.directory (level - 1)
     ids_here table level index is compared =
-        let sought = before (compares asked table 0) (is_compared cat.schema asked table && may_unite forced) compared in
+        let sought = before (compares cat.schema asked table 0) (is_compared cat.schema asked table && may_unite forced) compared in
         ids_at_table orders levels told calls cat asked forced top side tree at table index level is (below_here table level index is) sought
         (elim here [
-          | inl e ↦ before (nat_eq at top && seeks_by cat.schema asked forced table) (has_set cat.schema asked forced top at && compares asked table 0)
+          | inl e ↦ before (nat_eq at top && seeks_by cat.schema asked forced table) (has_set cat.schema asked forced top at && compares cat.schema asked table 0)
               (both (nat_eq at top) (seeks_by cat.schema asked forced table) (eq-eqb at top e) sought)
-          | inr set ↦ behind (nat_eq at top && seeks_by cat.schema asked forced table) (has_set cat.schema asked forced top at && compares asked table 0)
-              (both (has_set cat.schema asked forced top at) (compares asked table 0) set compared)
+          | inr set ↦ behind (nat_eq at top && seeks_by cat.schema asked forced table) (has_set cat.schema asked forced top at && compares cat.schema asked table 0)
+              (both (has_set cat.schema asked forced top at) (compares cat.schema asked table 0) set compared)
         ])
 
-    identifiers_may : (wanted : Field) (test : Test) (index : IdIndex) (level : ℕ) (first second : Group) → compares asked wanted.table wanted.column ≡ true
+    identifiers_may : (wanted : Field) (test : Test) (index : IdIndex) (level : ℕ) (first second : Group) → compares cat.schema asked wanted.table wanted.column ≡ true
         → IsIdentifiersTerm cat at wanted test index level first second → IndexMay S index.directory (level - 1)
     identifiers_may wanted IsNull index level first second compared is = absurd is
     identifiers_may wanted IsNotNull index level first second compared is = absurd is
     identifiers_may wanted (Compared operator literal) index level first second compared is =
-        let C : ℕ → Type 0 = λ c. compares asked wanted.table c ≡ true in
+        let C : ℕ → Type 0 = λ c. compares cat.schema asked wanted.table c ≡ true in
         ids_here wanted.table level index is.index_at (subst C is.column_is compared)
 
-    test_may : (wanted : Field) (test : Test) (term : Term) → compares asked wanted.table wanted.column ≡ true → IsTermOfTest cat at wanted test term
+    test_may : (wanted : Field) (test : Test) (term : Term) → compares cat.schema asked wanted.table wanted.column ≡ true → IsTermOfTest cat at wanted test term
         → TermMay S half device.page at (count_of cat at) term
     test_may wanted test (Ranges first second) compared is = tt
     test_may wanted test (Entries table column index level bounds) compared is =
@@ -315,10 +319,12 @@ module _ (orders : FilesLieInOrder) (levels : LevelsAreAncestors) (told : Bool) 
     test_may wanted test TopReply compared is = absurd is
     test_may wanted test (Reply table index level) compared is = absurd is
 
-    condition_may : (condition : Condition) (term : Term) → Among condition asked.conditions → IsTermOf cat at condition term → TermMay S half device.page at (count_of cat at) term
-    condition_may (Join one other) term among is = absurd is
-    condition_may (OneOf member []) term among is = test_may member.field member.test term (compared_by asked member among) is
-    condition_may (OneOf member (next ∷ others)) term among is = absurd is
+    condition_may : (condition : Condition) (term : Term) → Among condition asked.conditions → is_listed cat.schema at condition ≡ true → IsTermOf cat at condition term
+        → TermMay S half device.page at (count_of cat at) term
+    condition_may (Join one other) term among listed is = absurd is
+    condition_may (OneOf member []) term among listed is =
+        test_may member.field member.test term (compared_by cat.schema asked member among (term_is_gathered cat.schema at (OneOf member []) listed)) is
+    condition_may (OneOf member (next ∷ others)) term among listed is = absurd is
 
   -- the reply of the table itself
   own_reply_may : (at : ℕ) → at < length cat.schema → ReplyMay S half device.page (count_of cat at) at
@@ -341,7 +347,7 @@ module _ (orders : FilesLieInOrder) (levels : LevelsAreAncestors) (told : Bool) 
       let R : ℕ → Type 0 = λ n. ReplyMay S half device.page n table in
       let T : ℕ → Type 0 = λ t. ReplyMay S half device.page index.directory.run.count t in
       let reply = subst T (sym is.0) (subst R (sym rows) (own_reply_may table is.1.there)) in
-      let sought = behind (compares asked table 0) (is_compared cat.schema asked table && may_unite forced)
+      let sought = behind (compares cat.schema asked table 0) (is_compared cat.schema asked table && may_unite forced)
       (both (is_compared cat.schema asked table) (may_unite forced) compared (united (nat_eq table top) refl parts.1)) in
       (reply, ids_may orders levels told calls cat asked forced top side tree table index level is.1 sought)
     where
@@ -356,14 +362,16 @@ module _ (orders : FilesLieInOrder) (levels : LevelsAreAncestors) (told : Bool) 
   terms_may : (forms : List (Option Form)) (terms : List Term) → AreTaken cat.schema asked forced forms → AreTermsBy cat asked forms (Some top) terms → TermsMay S half device.page top (count_of cat top) terms
   terms_may forms terms taken are place term at =
       elim (found cat top (filter (is_listed cat.schema top) asked.conditions) (filter (is_replied cat.schema asked forms top) asked.from) terms are place term at) [
-        | inl one ↦ condition_may top (inl refl) one.condition term (from_filter (is_listed cat.schema top) one.condition asked.conditions one.among).0 one.is
+        | inl one ↦ condition_may top (inl refl) one.condition term (from_filter (is_listed cat.schema top) one.condition asked.conditions one.among).0
+            (from_filter (is_listed cat.schema top) one.condition asked.conditions one.among).1 one.is
         | inr other ↦ united_may forms taken other.table term (from_filter (is_replied cat.schema asked forms top) other.table asked.from other.among).1 other.is
       ]
 
   set_may : (table : ℕ) (terms : List Term) → has_set cat.schema asked forced top table ≡ true → AreTableTerms cat asked table terms → TermsMay S half device.page table (count_of cat table) terms
   set_may table terms set are place term at =
       elim (found cat table (filter (is_listed cat.schema table) asked.conditions) (table ∷ []) terms are place term at) [
-        | inl one ↦ condition_may table (inr set) one.condition term (from_filter (is_listed cat.schema table) one.condition asked.conditions one.among).0 one.is
+        | inl one ↦ condition_may table (inr set) one.condition term (from_filter (is_listed cat.schema table) one.condition asked.conditions one.among).0
+            (from_filter (is_listed cat.schema table) one.condition asked.conditions one.among).1 one.is
         | inr other ↦ (
             let own : table ≡ other.table = elim other.among [ inl e ↦ e | inr none ↦ absurd none ] in
             let I : ℕ → Type 0 = λ t. IsReplyTermOf cat table t term in

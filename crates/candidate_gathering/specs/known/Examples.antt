@@ -6,7 +6,7 @@ use Rattle.ghost_model.specs.forms.Layout.{File, Cells, Subtrees, IndexHeader, I
 use Rattle.ghost_model.specs.refusals.QueryMeaning.{Refusal, field}
 use Rattle.ghost_model.specs.readings.QueryReading.{reading}
 use Rattle.ghost_model.specs.examples.Clinic.{clinic_schema, clinic_catalog, clinic}
-use Rattle.ghost_model.specs.examples.Meaning.{cardio_on, visits_of_spain}
+use Rattle.ghost_model.specs.examples.Meaning.{cardio_on, doctors_where, visits_of_spain, visits_where}
 use Rattle.ghost_model.specs.examples.Slots.{clinic_files, directory_page}
 use Rattle.leakless_plan.specs.declared.form.Form.{Form}
 use Rattle.leakless_plan.specs.declared.form.Form.TheVariants.{Pre, Post}
@@ -42,6 +42,10 @@ pub record FilesReadOverTheClinic : Type 0 where
   pub not_crossed : files_read (Some Pre) cardio_in_spain
       ≡ IndexHeader 0 2 ∷ IndexDirectory 0 2 ∷ IndexLevel 0 2 1 ∷ IdDirectory 0 ∷ IdLevel 0 0 ∷ Subtrees 2 ∷ []
   pub selected_columns : files_read None names_of_visits ≡ Cells 1 2 ∷ Cells 2 2 ∷ Subtrees 2 ∷ []
+  -- the hidden column of a mixed group is read of each row that is left, and so is that of a list for now; the host tests a visible list
+  pub a_mixed_group : files_read None (visits_where (codes "(day = 9 OR purpose = 'check')")) ≡ Cells 2 2 ∷ []
+  pub a_hidden_list : files_read None (doctors_where (codes "country IN ('FR', 'DE')")) ≡ Cells 0 2 ∷ Subtrees 2 ∷ []
+  pub a_visible_list : files_read None (doctors_where (codes "specialty IN ('cardio', 'derma')")) ≡ IdDirectory 0 ∷ IdLevel 0 0 ∷ Subtrees 2 ∷ []
 
 -- SELECT visit.id FROM visit, doctor WHERE doc = doctor.id AND country = 'ES', and the same of purposes
 abbrev pub spanish : Query

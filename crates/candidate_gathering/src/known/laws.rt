@@ -54,7 +54,7 @@ pub fn damage_is_bad()
 }
 
 /// What is bad of the lists at the top table is bad for the query, and where cross forms may be taken, so is what is bad of the lists at
-/// a table below it with conditions on visible columns.
+/// a table below it with visible groups.
 pub fn lists_are_read()
     ensures { ListsAreRead }
 {}
@@ -93,8 +93,8 @@ pub fn rows_without_lines_are_left_out()
     ensures left_out { RowsWithoutLinesAreLeftOut }
 {}
 
-/// A row along which the key's conditions hold meets those that a plan for candidates does not test, and the plan's subtree key table
-/// is known.
+/// A row along which the groups hold whose rows the indexes have meets those that a plan for candidates does not test, and the plan's
+/// subtree key table is known.
 pub fn candidates_are_sifted()
     ensures { CandidatesAreSifted }
 {}

@@ -14,4 +14,7 @@ returns c = record {
   crossed = refl;
   not_crossed = refl;
   selected_columns = refl;
+  a_mixed_group = refl;
+  a_hidden_list = refl;
+  a_visible_list = refl;
 }
