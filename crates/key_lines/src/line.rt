@@ -107,5 +107,6 @@ pub fn put_refusal(line: &mut Line, refusal: &Refusal)
         Refusal::KindMismatch => put(line, b"kind"),
         Refusal::BadLiteral => put(line, b"literal"),
         Refusal::NotLinked => put(line, b"unlinked"),
+        Refusal::MixedTables => put(line, b"mixed"),
     }
 }

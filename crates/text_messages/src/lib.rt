@@ -5,6 +5,7 @@
 //! `docs/QUERIES.md` states the rules, `docs/SESSION.md` what the lines say.
 #![tactic(auto)]
 
+mod broken_groups;
 mod broken_links;
 mod broken_literals;
 mod broken_names;

@@ -59,7 +59,7 @@ impl Count {
                 self.conditions = self.conditions.saturating_add(1)
             }
             Part::Between(_, _, _) => self.conditions = self.conditions.saturating_add(2),
-            Part::Star(_) | Part::Joined(_, _) => {}
+            Part::Star(_) | Part::Joined(_, _) | Part::Opened(_) | Part::Closed => {}
         }
         if self.tables > MAX_TABLES {
             Some("FROM names more than 12 tables: write at most 12")
@@ -67,7 +67,7 @@ impl Count {
             Some("more than 32 columns are selected: write at most 32")
         } else if self.conditions > MAX_CONDITIONS {
             Some(
-                "there are more than 16 conditions, BETWEEN being two and a join none: write at most 16",
+                "there are more than 16 conditions, BETWEEN being two, IN one for each value, and a join none: write at most 16",
             )
         } else {
             None
@@ -78,9 +78,10 @@ impl Count {
 /// Where a part begins.
 fn at_of(part: &Part<'_>) -> usize {
     match part {
-        Part::Star(token) | Part::Table(token) => token.at,
+        Part::Star(token) | Part::Table(token) | Part::Opened(token) => token.at,
+        Part::Compared(column, literal) => column.at().max(literal.at()),
+        Part::Closed => 0,
         Part::Selected(column)
-        | Part::Compared(column, _)
         | Part::Tested(column)
         | Part::Between(column, _, _)
         | Part::Joined(column, _) => column.at(),

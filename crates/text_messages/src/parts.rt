@@ -86,13 +86,19 @@ pub(crate) enum Part<'a> {
 
     /// Two columns that are compared.
     Joined(Column<'a>, Column<'a>),
+
+    /// The beginning of a group, whose parts follow.
+    Opened(Token<'a>),
+
+    /// The end of a group.
+    Closed,
 }
 
 impl<'a> Part<'a> {
     /// The columns that it names, the left one first.
     pub(crate) fn columns(&self) -> [Option<Column<'a>>; 2] {
         match *self {
-            Part::Star(_) | Part::Table(_) => [None, None],
+            Part::Star(_) | Part::Table(_) | Part::Opened(_) | Part::Closed => [None, None],
             Part::Selected(column)
             | Part::Compared(column, _)
             | Part::Tested(column)
@@ -125,6 +131,9 @@ struct Reader<'a> {
     cursor: Cursor<'a>,
     token: Token<'a>,
     section: Section,
+
+    /// The column whose values behind IN are gone over.
+    listed: Option<Column<'a>>,
 }
 
 impl<'a> Reader<'a> {
@@ -134,6 +143,7 @@ impl<'a> Reader<'a> {
             cursor: Cursor::of(text),
             token: end_of(text),
             section: Section::Select,
+            listed: None,
         };
         let _first = reader.take();
         reader
@@ -184,6 +194,11 @@ impl<'a> Reader<'a> {
         let operator = self.take();
         match (operator.mark, self.token.mark) {
             (Mark::Is, _) => Part::Tested(column),
+            (Mark::In, _) => {
+                let _open = self.take();
+                self.listed = Some(column);
+                Part::Compared(column, self.literal())
+            }
             (Mark::Between, _) => {
                 let low = self.literal();
                 let _and = self.take();
@@ -203,9 +218,28 @@ impl<'a> Reader<'a> {
         }
     }
 
+    /// Goes over the token at hand behind the first value of an IN, or over the value that it begins.
+    fn next_listed(&mut self, column: Column<'a>) -> Option<Part<'a>> {
+        match self.token.mark {
+            Mark::Comma => {}
+            Mark::Closing => self.listed = None,
+            _ => return Some(Part::Compared(column, self.literal())),
+        }
+        let _gone = self.take();
+        None
+    }
+
     /// Goes over the token at hand, or over the part that it begins.
     fn next(&mut self) -> Option<Part<'a>> {
+        if let Some(column) = self.listed {
+            return self.next_listed(column);
+        }
         match self.token.mark {
+            Mark::Open => return Some(Part::Opened(self.take())),
+            Mark::Closing => {
+                let _closing = self.take();
+                return Some(Part::Closed);
+            }
             Mark::Name => return Some(self.named()),
             Mark::Star => return Some(Part::Star(self.take())),
             Mark::From => self.section = Section::From,

@@ -1,5 +1,6 @@
 //! The lines of a refused text.
 
+use crate::broken_groups::mixed;
 use crate::broken_links::unlinked;
 use crate::broken_literals::{LiteralRule, broken_literal};
 use crate::broken_names::{ambiguous, unknown_column, unknown_table};
@@ -115,6 +116,7 @@ fn found_in(
         Refusal::KindMismatch => broken_literal(&read, LiteralRule::Kind),
         Refusal::BadLiteral => broken_literal(&read, LiteralRule::Size),
         Refusal::NotLinked => unlinked(&read),
+        Refusal::MixedTables => mixed(&read),
     }
 }
 
@@ -134,7 +136,7 @@ fn remedy(refusal: &Refusal) -> &'static str {
     match refusal {
         Refusal::Syntax { .. } => "it is no text of the grammar",
         Refusal::Limit => {
-            "it is too large: write at most 4096 bytes, 12 tables, 32 columns, 16 conditions (BETWEEN is two, a join none), and 32 bytes a name"
+            "it is too large: write at most 4096 bytes, 12 tables, 32 columns, 16 conditions (BETWEEN is two, IN one for each value, a join none), and 32 bytes a name"
         }
         Refusal::UnknownTable => {
             "it names a table that is not there: write behind FROM, and before a point, the names of the schema's tables"
@@ -153,6 +155,9 @@ fn remedy(refusal: &Refusal) -> &'static str {
         }
         Refusal::NotLinked => {
             "it does not link its tables: write, for each table in FROM that another one there references, a condition as doc = doctor.id, and compare no other two columns"
+        }
+        Refusal::MixedTables => {
+            "between parentheses it tests columns of two tables: write there tests of one table, or a text for each table"
         }
     }
 }

@@ -11,7 +11,13 @@ const NO_COMMENTS: &str = "there are no comments: leave it out";
 
 const NO_QUOTES: &str = "a name stands without quotes, and a text between ' and '";
 
-const NO_BRACKETS: &str = "there are no brackets: write conditions with AND between them";
+const NO_BRACKETS: &str =
+    "parentheses stand in WHERE alone: behind IN round values, or round tests with OR between them";
+
+const ONE_TEST: &str =
+    "between parentheses stand two tests or more, with OR between them: leave the parentheses out";
+
+const A_VALUE: &str = "write a number, as 5, or a text, as 'flu'";
 
 const STAR_ALONE: &str = "* stands alone: write SELECT * FROM, or the columns by their names";
 
@@ -28,8 +34,8 @@ distinct unique|it is not in this language: take double ones out of the printed 
 having union intersect except exists case|it is not in this language
 like ilike glob similar regexp|it is not in this language: for a beginning write c >= 'Mue' AND c < 'Muf'
 as|there are no second names: leave it out
-or|it is not built yet: write a text for each side
-in|it is not built yet: write a text for each value
+or|it stands between parentheses: write (day = 1 OR day = 2)
+in|it stands behind a column: write day IN (1, 2)
 isnull notnull|write IS NULL or IS NOT NULL
 not|it stands behind IS alone: write <>, or the opposite comparison
 count min max sum group by|it is not built yet: count or sum up the printed lines";
@@ -49,6 +55,12 @@ pub struct Stop<'a> {
     /// The list that it stands in, which begins with this word.
     list: Mark,
 
+    /// How many parentheses are open before it.
+    open: usize,
+
+    /// Whether the innermost of these stands behind IN.
+    in_values: bool,
+
     /// The text from the token on.
     behind: &'a [u8],
 }
@@ -67,6 +79,8 @@ impl<'a> Stop<'a> {
             token: cursor.next().unwrap_or(end),
             next: cursor.next().unwrap_or(end),
             list: Mark::Bad,
+            open: 0,
+            in_values: false,
             behind: text.get(at..).unwrap_or(&[]),
         };
         for _ in 0..text.len() {
@@ -82,6 +96,17 @@ impl<'a> Stop<'a> {
     fn go_on(&mut self, next: Token<'a>) {
         if let Mark::Select | Mark::From | Mark::Where = self.token.mark {
             self.list = self.token.mark;
+        }
+        match self.token.mark {
+            Mark::Open => {
+                self.open = self.open.saturating_add(1);
+                self.in_values = self.mark_before() == Mark::In;
+            }
+            Mark::Closing => {
+                self.open = self.open.saturating_sub(1);
+                self.in_values = false;
+            }
+            _ => {}
         }
         self.before = Some(self.token);
         self.token = self.next;
@@ -99,7 +124,8 @@ impl<'a> Stop<'a> {
     /// Whether a name is to stand here.
     fn wants_name(&self) -> bool {
         match self.mark_before() {
-            Mark::Select | Mark::From | Mark::Where | Mark::And | Mark::Comma | Mark::Point => true,
+            Mark::Comma | Mark::Open => !self.in_values,
+            Mark::Select | Mark::From | Mark::Where | Mark::And | Mark::Or | Mark::Point => true,
             _ => false,
         }
     }
@@ -120,7 +146,16 @@ impl<'a> Stop<'a> {
         match self.mark_before() {
             Mark::Is => return "write NULL or NOT NULL behind IS; a value is compared by =",
             Mark::Not => return "write NULL behind IS NOT; a value is compared by <>",
+            Mark::In => return "write values between parentheses behind IN, as IN (1, 2)",
             _ => {}
+        }
+        if self.in_values {
+            return self.cure_in_values();
+        }
+        if self.open > 0
+            && let Some(cure) = self.cure_in_group()
+        {
+            return cure;
         }
         match self.token.mark {
             Mark::Name => self.cure_of_name(),
@@ -138,6 +173,41 @@ impl<'a> Stop<'a> {
         }
     }
 
+    /// What to write between the parentheses of IN.
+    fn cure_in_values(&self) -> &'static str {
+        match (self.token.mark, self.mark_before()) {
+            (Mark::Null, _) => "NULL is no value: write (c IN (1, 2) OR c IS NULL)",
+            (Mark::Select, _) => self.cure_of_bracket(),
+            (_, Mark::Open | Mark::Comma | Mark::Plus | Mark::Minus) => A_VALUE,
+            (Mark::Point, Mark::Digits) => self.cure_of_sign(),
+            (Mark::Digits | Mark::Quoted | Mark::Plus | Mark::Minus, _) =>
+                "put a comma between two values",
+            _ => "put a comma behind the value, or ) behind the last one",
+        }
+    }
+
+    /// What to write between the parentheses of a group of tests, where the token tells it.
+    fn cure_in_group(&self) -> Option<&'static str> {
+        match (self.token.mark, self.mark_before()) {
+            (Mark::And, _) => Some(
+                "between parentheses tests have OR between them: write AND outside of the parentheses",
+            ),
+            (Mark::Between, _) => Some(
+                "it stands outside of parentheses: write BETWEEN in a condition of its own",
+            ),
+            (Mark::Name, Mark::Equal) => Some(
+                "two columns are compared outside of parentheses: write the join as a condition of its own",
+            ),
+            (Mark::Closing, Mark::Open | Mark::Or) => Some("write a test here, as day = 5"),
+            (Mark::Closing, _) => Some(ONE_TEST),
+            (Mark::Open, Mark::Open | Mark::Or) => Some(
+                "parentheses stand in no others, but for those of IN: leave them out",
+            ),
+            (Mark::End, _) => Some("write OR and a test, and ) behind the last one"),
+            _ => None,
+        }
+    }
+
     /// What to write in place of a word that is no name here.
     fn cure_of_reserved(&self) -> &'static str {
         let in_where = self.list == Mark::Where;
@@ -148,6 +218,9 @@ impl<'a> Stop<'a> {
             }
             Mark::Is => return "it stands in WHERE behind a column: write column IS NULL",
             Mark::Not if in_where && self.next.mark == Mark::Null => return "write IS NOT NULL",
+            Mark::Not if in_where && self.next.mark == Mark::In => {
+                return "there is no NOT IN: write <> for each value, with AND between them";
+            }
             Mark::Null if in_where => return self.cure_of_null(),
             _ => {}
         }
@@ -181,7 +254,7 @@ impl<'a> Stop<'a> {
             (Mark::Unequal | Mark::Less | Mark::AtMost | Mark::More | Mark::AtLeast, _) => {
                 "two columns are compared by = alone, a foreign key with the id that it names; a text stands between ' and '"
             }
-            (Mark::Between | Mark::And, _) => "write a number, as 5, or a text, as 'flu'",
+            (Mark::Between | Mark::And, _) => A_VALUE,
             _ => FORM,
         }
     }
