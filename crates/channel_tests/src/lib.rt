@@ -15,3 +15,5 @@ mod host_sessions;
 mod key_sessions;
 #[cfg(test)]
 mod one_process;
+#[cfg(test)]
+mod public_parts;

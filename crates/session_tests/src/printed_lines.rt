@@ -14,7 +14,7 @@ const FAULTS: [Fault; 5] = [
     Fault::Damaged,
 ];
 
-const REFUSALS: [Refusal; 8] = [
+const REFUSALS: [Refusal; 9] = [
     Refusal::Syntax { at: 4_096 },
     Refusal::Limit,
     Refusal::UnknownTable,
@@ -23,10 +23,11 @@ const REFUSALS: [Refusal; 8] = [
     Refusal::KindMismatch,
     Refusal::BadLiteral,
     Refusal::NotLinked,
+    Refusal::MixedTables,
 ];
 
 const LINES: &str =
-    "> cardio\t-9223372036854775808\t\n> 9223372036854775807\n= 64 2\n! 2 link\n! 2 protocol\n! 2 host\n! 2 flash\n! 2 damaged\n! 1 syntax 4096\n! 1 limit\n! 1 table\n! 1 column\n! 1 ambiguous\n! 1 kind\n! 1 literal\n! 1 unlinked\n";
+    "> cardio\t-9223372036854775808\t\n> 9223372036854775807\n= 64 2\n! 2 link\n! 2 protocol\n! 2 host\n! 2 flash\n! 2 damaged\n! 1 syntax 4096\n! 1 limit\n! 1 table\n! 1 column\n! 1 ambiguous\n! 1 kind\n! 1 literal\n! 1 unlinked\n! 1 mixed\n";
 
 #[test]
 fn lines_go_whole_through_short_writes(rt: HostRuntime) -> Result<(), AllocError> {

@@ -10,8 +10,8 @@ use csv_split::{Hidden, Tables, read_tables, split};
 use edge_traits::flash::Flash;
 use edge_traits::mem_flash::MemFlash;
 use flash_build::catalogs::counts_of;
-use flash_build::load_flash;
-use flash_layout::{is_hidden, need};
+use flash_build::{ReadFault, load_flash, read_hidden};
+use flash_layout::{Layout, is_hidden, need};
 use flash_pages::fault::PageFault;
 use ghost_base::Value;
 use hidden_columns::ColumnFile;
@@ -281,4 +281,76 @@ fn each_slot_has_the_value_of_its_row(rt: HostRuntime) {
             assert!(rt; has_values(&mut loaded, table, column, words), "{words}");
         }
     }
+}
+
+/// The hidden part that is read back from a device, where it has the catalog's static part.
+fn read_back(alloc: Global, loaded: &mut Loaded) -> Option<Result<Hidden, ReadFault>> {
+    if Layout::of(&loaded.cat).static_end() > loaded.flash.pages() {
+        return None;
+    }
+    let lease = loaded.pool.lease()?;
+    let read = read_hidden(
+        alloc,
+        &loaded.cat,
+        &mut loaded.flash,
+        &mut loaded.pool,
+        &lease,
+    );
+    loaded.pool.give(lease);
+    Some(read)
+}
+
+/// Whether the rows of a table have the values of these words in a hidden column, one after another, and no more.
+fn are_hidden(hidden: &Hidden, table: usize, column: usize, words: &str) -> bool {
+    let mut identifier = 0u32;
+    for word in words.split(' ') {
+        identifier = identifier.saturating_add(1);
+        match hidden.value(table, identifier, column) {
+            Some(found) if is_spelled(&found, word) => {}
+            _ => return false,
+        }
+    }
+    hidden.rows(table) == identifier
+}
+
+/// Five column files have a page each, and no other page is read.
+#[test]
+fn the_hidden_part_is_read_back(rt: HostRuntime) {
+    for version in [Version::Two, Version::One] {
+        let mut loaded = load(rt.alloc(), version, 1).expect(&rt, "the clinic");
+        let calls = loaded.flash.script.calls;
+        let Some(Ok(hidden)) = read_back(rt.alloc(), &mut loaded) else {
+            assert!(rt; false);
+            return;
+        };
+        assert!(rt; loaded.flash.script.calls == calls.saturating_add(5));
+        for (table, column, words) in [
+            (0usize, 0usize, "FR ES ES"),
+            (1, 0, "Ann Bob"),
+            (2, 0, "flu check flu flu"),
+            (2, 1, "1 3 3 2"),
+            (2, 2, "1 2 1 2"),
+        ] {
+            assert!(rt; are_hidden(&hidden, table, column, words), "{words}");
+        }
+    }
+}
+
+/// The first slot of the first file is told where all files are blank.
+#[test]
+fn what_is_not_read_back_is_told(rt: HostRuntime) {
+    let mut loaded = load(rt.alloc(), Version::Two, 1).expect(&rt, "the clinic");
+    if loaded.flash.pages() > 256 {
+        assert!(rt; loaded.flash.erase_block(4).is_ok());
+    }
+    assert!(rt;
+        matches!(
+            read_back(rt.alloc(), &mut loaded),
+            Some(Err(ReadFault::Damaged {
+                page: 256,
+                slot: 0,
+                found: 0xFFFF_0000_0000_0000
+            }))
+        )
+    );
 }

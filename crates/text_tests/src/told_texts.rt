@@ -37,12 +37,14 @@ SELECT day FROM visit, doctor WHERE day = 5|24: text 1: doctor has no join: writ
 SELECT day FROM visit, doctor WHERE day IS NULL|24: text 1: doctor has no join: write AND doc = doctor.id
 SELECT age FROM patient, doctor|26: text 1: patient and doctor are not linked in FROM: write FROM patient, doctor, visit WHERE pat = patient.id AND doc = doctor.id
 SELECT day FROM visit, doctor WHERE visit.id = doctor.id|37: text 1: visit.id = doctor.id is no foreign key and the id that it names: write FROM visit, doctor WHERE doc = doctor.id
-SELECT day FROM visit WHERE doc = pat|29: text 1: two columns of one table are not compared: leave out doc = pat";
+SELECT day FROM visit WHERE doc = pat|29: text 1: two columns of one table are not compared: leave out doc = pat
+SELECT day FROM visit, doctor WHERE doc = doctor.id AND (day = 1 OR specialty = 'x')|69: text 1: between these parentheses stand columns of visit, and specialty is one of doctor: write there tests of one table, or a text for each table
+SELECT day FROM visit WHERE day IN (1, 'x')|40: text 1: day is INTEGER, and 'x' a text: write a whole number without quotes";
 
 const LIMITS: &str =
     "SELECT aaaaaaaaaaaaaaaaaaaaaaaaaaaaaaaaa FROM visit|8: text 1: the name aaaaaaaaaaaaaaaaaaaaaaaaaaaaaaaaa has 33 bytes: write at most 32
 SELECT * FROM visit, visit, visit, visit, visit, visit, visit|8: text 1: * stands for 35 columns here: write at most 32 by their names
-SELECT day FROM visit WHERE id IS NULL AND id IS NULL AND id IS NULL AND id IS NULL AND id IS NULL AND id IS NULL AND id IS NULL AND id IS NULL AND id IS NULL AND id IS NULL AND id IS NULL AND id IS NULL AND id IS NULL AND id IS NULL AND id IS NULL AND day IS NOT NULL AND pat IS NULL|274: text 1: there are more than 16 conditions, BETWEEN being two and a join none: write at most 16";
+SELECT day FROM visit WHERE id IS NULL AND id IS NULL AND id IS NULL AND id IS NULL AND id IS NULL AND id IS NULL AND id IS NULL AND id IS NULL AND id IS NULL AND id IS NULL AND id IS NULL AND id IS NULL AND id IS NULL AND id IS NULL AND id IS NULL AND day IS NOT NULL AND pat IS NULL|274: text 1: there are more than 16 conditions, BETWEEN being two, IN one for each value, and a join none: write at most 16";
 
 /// Texts, and behind `|` the column of the place, the word with which the text cannot go on, and what to write.
 const WORDS: &str =
@@ -58,8 +60,19 @@ SELECT day FROM group|17: text 1 cannot go on with group: the word is reserved, 
 SELECT key FROM visit|8: text 1 cannot go on with key: the word is reserved, and no table or column has it as its name
 SELECT day AS d FROM visit|12: text 1 cannot go on with AS: there are no second names: leave it out
 SELECT day doc FROM visit|12: text 1 cannot go on with doc: put a comma between two columns, or FROM before a table; there are no second names
-SELECT day FROM visit WHERE day = 1 OR day = 2|37: text 1 cannot go on with OR: it is not built yet: write a text for each side
-SELECT day FROM visit WHERE day IN (1, 2)|33: text 1 cannot go on with IN: it is not built yet: write a text for each value
+SELECT day FROM visit WHERE day = 1 OR day = 2|37: text 1 cannot go on with OR: it stands between parentheses: write (day = 1 OR day = 2)
+SELECT day FROM visit WHERE day IN ()|37: text 1 cannot go on with ): write a number, as 5, or a text, as 'flu'
+SELECT day FROM visit WHERE day IN (1, NULL)|40: text 1 cannot go on with NULL: NULL is no value: write (c IN (1, 2) OR c IS NULL)
+SELECT day FROM visit WHERE day IN (1 2)|39: text 1 cannot go on with 2: put a comma between two values
+SELECT day FROM visit WHERE day IN 5|36: text 1 cannot go on with 5: write values between parentheses behind IN, as IN (1, 2)
+SELECT day FROM visit WHERE day IN (1, 2|41: text 1 cannot end here: put a comma behind the value, or ) behind the last one
+SELECT day FROM visit WHERE day NOT IN (1, 2)|33: text 1 cannot go on with NOT: there is no NOT IN: write <> for each value, with AND between them
+SELECT day FROM visit WHERE (day = 1 AND day = 2)|38: text 1 cannot go on with AND: between parentheses tests have OR between them: write AND outside of the parentheses
+SELECT day FROM visit WHERE (day BETWEEN 1 AND 2 OR day = 3)|34: text 1 cannot go on with BETWEEN: it stands outside of parentheses: write BETWEEN in a condition of its own
+SELECT day FROM visit WHERE (doc = doctor.id OR day = 3)|36: text 1 cannot go on with doctor: two columns are compared outside of parentheses: write the join as a condition of its own
+SELECT day FROM visit WHERE ((day = 1 OR day = 2))|30: text 1 cannot go on with (: parentheses stand in no others, but for those of IN: leave them out
+SELECT day FROM visit WHERE (day = 1 OR )|41: text 1 cannot go on with ): write a test here, as day = 5
+SELECT day FROM visit WHERE (day = 1 OR day = 2|48: text 1 cannot end here: write OR and a test, and ) behind the last one
 SELECT day FROM visit WHERE day = NULL|35: text 1 cannot go on with NULL: write IS NULL
 SELECT day FROM visit WHERE day NULL|33: text 1 cannot go on with NULL: write IS NULL
 SELECT day FROM visit WHERE day <> null|36: text 1 cannot go on with null: write IS NOT NULL
@@ -75,7 +88,7 @@ SELECT day FROM visit WHERE purpose IS NOT 'flu'|44: text 1 cannot go on with 'f
 SELECT day IS NULL FROM visit|12: text 1 cannot go on with IS: it stands in WHERE behind a column: write column IS NULL
 SELECT null FROM visit|8: text 1 cannot go on with null: the word is reserved, and no table or column has it as its name
 SELECT day FROM visit WHERE purpose LIKE 'f'|37: text 1 cannot go on with LIKE: it is not in this language: for a beginning write c >= 'Mue' AND c < 'Muf'
-SELECT day FROM visit WHERE (day = 1)|29: text 1 cannot go on with (: there are no brackets: write conditions with AND between them
+SELECT day FROM visit WHERE (day = 1)|37: text 1 cannot go on with ): between parentheses stand two tests or more, with OR between them: leave the parentheses out
 SELECT day FROM visit WHERE day != 5|33: text 1 cannot go on with !: write <> for unequal
 SELECT day FROM visit WHERE day == 5|34: text 1 cannot go on with =: write one =
 SELECT day FROM visit WHERE day = 1.5|36: text 1 cannot go on with .: there are whole numbers alone: keep tenths, as 142 for 14.2
