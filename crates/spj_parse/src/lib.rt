@@ -23,6 +23,7 @@ pub mod texts;
 mod walk;
 
 pub use groups::{GroupSplit, split_group};
+pub use names::{column_named, table_named};
 pub use query::{Field, Join, Member, Query};
 pub use reading::read_query;
 pub use refusal::Refusal;

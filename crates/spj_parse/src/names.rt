@@ -56,7 +56,7 @@ fn is_column_called(schema: &Schema, table: usize, column: usize, name: &[u8]) -
 }
 
 /// The table of this name.
-pub(crate) fn table_named(schema: &Schema, name: &[u8]) -> Option<usize>
+pub fn table_named(schema: &Schema, name: &[u8]) -> Option<usize>
     ensures place { result ≡ meaning.table_named schema.now (in_lower_case name.now) }
     ensures few { IfSome result (λ table. table < MAX_TABLES) }
 {
@@ -69,7 +69,7 @@ pub(crate) fn table_named(schema: &Schema, name: &[u8]) -> Option<usize>
 }
 
 /// The column of this name in a table.
-fn column_named(schema: &Schema, table: usize, name: &[u8]) -> Option<usize>
+pub fn column_named(schema: &Schema, table: usize, name: &[u8]) -> Option<usize>
     ensures place { result ≡ short.column_named schema.now table (in_lower_case name.now) }
     ensures few { IfSome result (λ column. column < MAX_COLUMNS) }
 {
