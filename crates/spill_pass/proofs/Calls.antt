@@ -219,7 +219,7 @@ fewer_passes {later = later} source rest areas old new begun placed fan calls le
     }
 
 -- at the beginning
-pub begins_with : (size l : ℕ) → 5 * size + l / 512 + (0 + 2 * (l / 512) + 2 * ((size + 1) / 512)) + 4 ≤ 8 * size + l / 64 + 8
+pub begins_with : (size l : ℕ) → 5 * size + l / 512 + (0 + 2 * (l / 512) + 2 * ((size + 1) / 512)) + 4 ≤ 8 * size + 3 * (l / 512) + 8
 begins_with size l = omega arith
 
 pub less_power : (k size : ℕ) → size < 2 ^ k → size ≤ 2 ^ suc k

@@ -10,9 +10,10 @@ use Rattle.spill_pass.specs.declared.reduce.Areas.{Areas}
 use Rattle.spill_pass.specs.Grouping.{ids_at_hand}
 use Rattle.spill_pass.specs.Sources.{Source}
 
--- a pass over so many lists, of so many identifiers in all
+-- a pass over so many lists, of so many identifiers in all: three calls for 512 identifiers, as many as fill a page (one reads it, two
+-- write it), eight a list, and eight more
 abbrev pub pass_calls : (lists ids : ℕ) → ℕ
-pass_calls lists ids = 8 * lists + ids / 64 + 8
+pass_calls lists ids = 8 * lists + 3 * (ids / 512) + 8
 
 -- how many identifiers a pass has written, has at hand, or has still to take
 abbrev pub ids_in_pass : Source → Groups → ℕ

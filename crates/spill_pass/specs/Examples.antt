@@ -1,10 +1,12 @@
--- A spill: three lists, the two that the first pass writes with their places, and the one that the last pass leaves.
+-- A spill: three lists, the two that the first pass writes with their places, and the one that the last pass leaves; and how many
+-- calls passes make at most.
 use Rattle.std.specs.Prelude.{◌≡◌, ℕ, ◌==◌, List, [], ◌∷◌, ◌++◌, map, if◌then◌else◌}
 use Rattle.std.specs.List.{concat}
 use Rattle.ghost_model.specs.forms.Runs.{number_cell}
 use Rattle.ghost_model.specs.examples.Flash.{filled}
 use Rattle.ghost_base.specs.declared.runs.Run.{Run}
 use Rattle.spill_pass.specs.declared.groups.PlacedLists.{PlacedLists}
+use Rattle.spill_pass.specs.Calls.{pass_calls}
 use Rattle.spill_pass.specs.Grouping.{places_of}
 use Rattle.spill_pass.specs.PassContents.{StandsAll}
 use Rattle.spill_pass.specs.ReduceContents.{IsUnion}
@@ -42,3 +44,9 @@ pub record SpillOfThreeLists : Type 0 where
   pub last_pass : IsUnion spilled_page three_lists united
   pub a_place_is_left_out : StandsAll spilled_page 5 three_lists (record placed { places = run 576 1 8 }) → ⊥
   pub an_identifier_is_left_out : IsUnion spilled_page three_lists (run 640 3 4) → ⊥
+
+pub record CallsOfPasses : Type 0 where
+  pub no_list : pass_calls 0 0 ≡ 8
+  pub one_page : pass_calls 1 512 ≡ 19
+  pub one_identifier_less : pass_calls 1 511 ≡ 16
+  pub a_hundred_lists : pass_calls 100 6400 ≡ 844

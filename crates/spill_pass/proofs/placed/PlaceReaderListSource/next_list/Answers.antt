@@ -1,4 +1,4 @@
-use Rattle.std.proofs.Common.{◌∙◌, ap, refl, subst, sym, arith}
+use Rattle.std.proofs.Common.{◌∙◌, ap, refl, sym, arith}
 use Rattle.ghost_base.specs.declared.runs.Run.{Run}
 use Rattle.spill_pass.specs.Places.{DamagesReader}
 use Rattle.spill_pass.proofs.PlaceGiving.{gives_inside, gives_list, gives_sound}
