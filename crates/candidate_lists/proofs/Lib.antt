@@ -1,4 +1,5 @@
 pub mod Unions
+pub mod Unites
 pub mod Lists
 pub mod Frames
 pub mod Giving

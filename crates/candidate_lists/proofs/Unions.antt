@@ -24,7 +24,7 @@ start_before unions n j within = ap (λ us. sum us) (take-append-le j unions (n 
 start_all : (unions : List ℕ) → start_of unions (length unions) ≡ sum unions
 start_all unions = ap (λ us. sum us) (take_all (length unions) unions (omega arith))
 
-start_end : (unions : List ℕ) (n : ℕ) → start_of (unions ++ n ∷ []) (length unions + 1) ≡ sum unions + n
+pub start_end : (unions : List ℕ) (n : ℕ) → start_of (unions ++ n ∷ []) (length unions + 1) ≡ sum unions + n
 start_end unions n =
     ap (λ us. sum us) (take_all (length unions + 1) (unions ++ n ∷ []) (omega (arith, length-append unions (n ∷ [])))) ∙ sum_more unions n
 

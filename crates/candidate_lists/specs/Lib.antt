@@ -15,3 +15,4 @@ pub mod Given
 pub mod JoiningWork
 pub mod ReducingWork
 pub mod Steps
+pub mod Unites

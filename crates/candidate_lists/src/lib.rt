@@ -5,6 +5,11 @@
 //! too few buffers, the candidates are written to the flash as one list, which takes one buffer, or none until it is opened again.
 //! Candidates that hold no list, unions of ranges alone, take no buffer and need not be written: they stay in hand while lists that
 //! do not fit the buffers are merged into one.
+//!
+//! The lists of several sources are taken in as one union too. Where all fit the buffers, they are opened behind the cursors in hand one
+//! source after another, before the union is one of those (`Uniting`). Otherwise the union is gathered as candidates of its own, which
+//! begin as no row (`Candidates::none`) and are united with the lists of one source after another (`unite` in place of `end`): these are
+//! opened or merged as beside any candidates, and what is united so far is written as one list where it takes too many buffers.
 #![tactic(auto)]
 
 pub mod candidates;
@@ -16,6 +21,7 @@ pub mod reduced;
 pub mod reducing;
 pub mod scratch;
 pub mod spared;
+pub mod uniting;
 
 pub use candidates::Candidates;
 pub use closing::{Closed, Closing};
@@ -23,3 +29,4 @@ pub use joining::Joining;
 pub use opening::Opening;
 pub use reducing::Reducing;
 pub use scratch::Scratch;
+pub use uniting::Uniting;

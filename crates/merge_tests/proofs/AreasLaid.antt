@@ -142,18 +142,40 @@ behind_lists first rows size at areas lies is =
 behind_places : (first rows size at : ℕ) (areas : Areas) → LiesFrom first rows size areas → IsForPlaces areas at → first ≤ at
 behind_places first rows size at areas lies is = elim is [ inl e ↦ omega (arith, e, lies.places) | inr e ↦ omega (arith, e, lies.other_places) ]
 
+pub uses_in_front :
+    (first at high : ℕ) (reader : PlaceReader) → IsBefore first reader.lists 4 → IsBefore first reader.places 8 → first ≤ at
+    → UsesOutside at high (source_of reader)
+uses_in_front first at high reader lists places behind =
+    λ page is. elim (or_true (is_of reader.places 8 page) (is_of reader.lists 4 page) is) [
+      | inl of_places ↦ inl (omega (arith, before_end reader.places 8 page of_places, places.pages, behind))
+      | inr of_lists ↦ inl (omega (arith, before_end reader.lists 4 page of_lists, lists.pages, behind))
+    ]
+
 uses_before :
     (first at high : ℕ) (placed : PlacedLists) (reader : PlaceReader) → ReadsPlaced placed reader → IsBefore first placed.lists 4 → IsBefore first placed.places 8
     → first ≤ at → UsesOutside at high (source_of reader)
 uses_before first at high placed reader reads lists places behind =
-    λ page is. elim (or_true (is_of reader.places 8 page) (is_of reader.lists 4 page) is) [
-      | inl of_places ↦
-          let P : Run → Type 0 = λ r. is_of r 8 page ≡ true in
-          inl (omega (arith, before_end placed.places 8 page (subst P reads.places of_places), places.pages, behind))
-      | inr of_lists ↦
-          let P : Run → Type 0 = λ r. is_of r 4 page ≡ true in
-          inl (omega (arith, before_end placed.lists 4 page (subst P reads.lists of_lists), lists.pages, behind))
-    ]
+    let L : Run → Type 0 = λ run. IsBefore first run 4 in
+    let P : Run → Type 0 = λ run. IsBefore first run 8 in
+    uses_in_front first at high reader (subst L (sym reads.lists) lists) (subst P (sym reads.places) places) behind
+
+-- the first of lists one behind another
+pub fewer_before : (first count width : ℕ) (run : Run) → (count ≤ run.count → pages_of count width ≤ pages_of run.count width) → count ≤ run.count → IsBefore first run width → IsBefore first (record run { count = count }) width
+fewer_before first count width run less few is = record { width_is = is.width_is; pages = omega (arith, is.pages, less few) }
+
+pub fewer_fours : (few many : ℕ) → few ≤ many → pages_of few 4 ≤ pages_of many 4
+fewer_fours few many less = omega (arith, less)
+
+pub fewer_eights : (few many : ℕ) → few ≤ many → pages_of few 8 ≤ pages_of many 8
+fewer_eights few many less = omega (arith, less)
+
+pub fewer_there : {device : Device} (run : Run) (count : ℕ) → count ≤ run.count → HasRun device (run_of run) → HasRun device (run_of (record run { count = count }))
+fewer_there run count few is = record {
+  some = is.some;
+  fits = is.fits;
+  pages = λ i within. is.pages i (omega (arith, within, few));
+  small = is.small;
+}
 
 pub can_reduce :
     {device : Device} {pool : Pool} (first rows room lists_lease places_lease : ℕ) (areas : Areas) (placed : PlacedLists) (reader : PlaceReader)

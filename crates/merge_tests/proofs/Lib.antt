@@ -1,3 +1,4 @@
 pub mod Putting
 pub mod AreasLaid
 pub mod Sifted
+pub mod Counted

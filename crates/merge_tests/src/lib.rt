@@ -15,3 +15,6 @@ pub mod reductions;
 pub mod rows;
 #[cfg(test)]
 mod sifting;
+#[cfg(test)]
+mod uniting;
+pub mod unions;
