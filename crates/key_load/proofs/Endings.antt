@@ -24,18 +24,18 @@ use Rattle.key_load.specs.declared.failures.LoadFailure.TheVariants as failure
 use Rattle.key_load.specs.declared.preparing.Prepared.{Prepared}
 
 -- where the catalog was written too, what was prepared stands at both ends
-pub made : {T E : Type 0} (result : Result T E) (told : Bool) (prepared : Prepared) (words : Load) (before after : Option Files) (device : Device)
+pub made : {T E : Type 0} (result : Result T E) (told : Bool) (prepared : Prepared) (flash visible : List ℕ) (before after : Option Files) (device : Device)
     → OnOk result (told ≡ true → HoldsCatalog device.page prepared.cat)
     → OnOk result (told ≡ true → prepared.cat.version ≡ current_version → HoldsFresh device.page prepared.cat) → (told ≡ true → HoldsFiles device.page prepared.cat prepared.hidden)
-    → device.name ≡ Some words.flash → device.page_count ≡ 64 * prepared.blocks → OnOk result (HasImage prepared words before after)
-    → OnOk result (IsMade told prepared words before after device)
-made (Ok value) told prepared words before after device catalog fresh files name pages file = record {
+    → device.name ≡ Some flash → device.page_count ≡ 64 * prepared.blocks → OnOk result (HasImage prepared visible before after)
+    → OnOk result (IsMade told prepared flash visible before after device)
+made (Ok value) told prepared flash visible before after device catalog fresh files name pages file = record {
   name = name;
   holds = λ t. record { catalog = catalog t; fresh = fresh t; files = files t };
   pages = pages;
   file = file;
 }
-made (Err fault) told prepared words before after device catalog fresh files name pages file = tt
+made (Err fault) told prepared flash visible before after device catalog fresh files name pages file = tt
 
 -- the pages under any other name stay where only pages of the device that is open changed
 pub others_stay : {low high : ℕ} {a b : Device} (name other : List ℕ) → ChangesOnly low high a b → a.name ≡ Some name → bytes_eq name other ≡ false
@@ -204,7 +204,7 @@ module _ (schema : Schema) (database : Database) (words : Load) (prepared : Prep
 
   -- how a loading of it ended: `held` are the files before the making
   pub loaded : (told : Bool) → IsPrepared schema database words.blocks prepared → need prepared.cat ≤ 64 * prepared.blocks → (before after : Outside) (held : Option Files)
-      → held ≡ before.files → IsMade told prepared words held after.files after.device
+      → held ≡ before.files → IsMade told prepared words.flash words.visible held after.files after.device
       → after.written ≡ grown before.written (loaded_line prepared.cat (64 * prepared.blocks))
       → EndsLoading {T = Unit {0}} told (loading schema database words) (Ok tt) before after
   loaded told are enough before after held same made line = record {
@@ -213,7 +213,7 @@ module _ (schema : Schema) (database : Database) (words : Load) (prepared : Prep
   }
 
   pub unprinted : (told : Bool) → IsPrepared schema database words.blocks prepared → need prepared.cat ≤ 64 * prepared.blocks → (before after : Outside) (held : Option Files)
-      → held ≡ before.files → IsMade told prepared words held after.files after.device
+      → held ≡ before.files → IsMade told prepared words.flash words.visible held after.files after.device
       → GrowsByFront before.written (loaded_line prepared.cat (64 * prepared.blocks)) after.written
       → EndsLoading {T = Unit {0}} told (loading schema database words) (Err failure.Sink) before after
   unprinted told are enough before after held same made front = record {
@@ -223,10 +223,10 @@ module _ (schema : Schema) (database : Database) (words : Load) (prepared : Prep
 
   pub unmade : (told : Bool) → IsPrepared schema database words.blocks prepared → need prepared.cat ≤ 64 * prepared.blocks → (before after : Outside) (held : Option Files)
       → held ≡ before.files → (fault : LoadFailure) → IsOfMaking {T = Unit {0}} (Err fault)
-      → IsMadeInOrder {T = Unit {0}} told prepared words (Err fault) held after.files after.device
+      → IsMadeInOrder {T = Unit {0}} told prepared words.flash words.visible (Err fault) held after.files after.device
       → EndsLoading {T = Unit {0}} told (loading schema database words) (Err fault) before after
   unmade told are enough before after held same fault of made =
-      let order = subst (λ (files : Option Files). IsMadeInOrder {T = Unit {0}} told prepared words (Err fault) files after.files after.device) same made in
+      let order = subst (λ (files : Option Files). IsMadeInOrder {T = Unit {0}} told prepared words.flash words.visible (Err fault) files after.files after.device) same made in
       failed {T = Unit {0}} (Err fault) told (loading schema database words) before after fault of
       (large_enough are enough)
       (λ of_depot. built told are enough after (order.depot_last (ap Err of_depot)))

@@ -66,7 +66,7 @@ pub fn load<D: Depot, F: Flash, O: Sink>(
         Err(fault) => return Err(failure_of(fault)),
     };
     let prepared = prepare(alloc, input, words.blocks)?;
-    make_both(alloc, &prepared, words, depot, flash)?;
+    make_both(alloc, &prepared, words.flash, words.visible, depot, flash)?;
     match print_line(&prepared.cat, BLOCK_PAGES * prepared.blocks, out) {
         Ok(()) => Ok(()),
         Err(_) => Err(LoadFailure::Sink),

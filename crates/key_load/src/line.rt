@@ -14,7 +14,7 @@ use key_lines::line::{Line, put, put_number};
 use tree_schema::Catalog;
 
 /// The number of all rows of a catalog.
-fn rows_of(cat: &Catalog) -> u64
+pub fn rows_of(cat: &Catalog) -> u64
     ensures value { result ≡ sum cat.now.counts }
 {
     a_catalog_has_a_layout(cat);

@@ -20,15 +20,23 @@ use tree_schema::Catalog;
 
 /// What is to be written: the catalog and the hidden part to a flash of so many blocks, and the bytes of the host's file.
 #[derive(Drop)]
-pub(crate) struct Prepared {
-    pub(crate) cat: Catalog,
-    pub(crate) hidden: Hidden,
-    pub(crate) image: Vec<u8>,
-    pub(crate) blocks: u32,
+pub struct Prepared {
+    /// The catalog.
+    pub cat: Catalog,
+
+    /// The hidden part, which is one of the catalog.
+    pub hidden: Hidden,
+
+    /// The bytes of the host's file.
+    pub image: Vec<u8>,
+
+    /// How many blocks the flash is to have.
+    pub blocks: u32,
 }
 
-/// The number of blocks of the flash: as many as are asked for, else as many as are needed.
-fn blocks_of(cat: &Catalog, asked: Option<u32>) -> Result<u32, LoadFailure>
+/// The number of blocks of a flash for a catalog: as many as are asked for, else as many as are needed. The one error is `TooSmall`, with
+/// the pages that are needed and those that the flash would have.
+pub fn blocks_of(cat: &Catalog, asked: Option<u32>) -> Result<u32, LoadFailure>
     requires within { IsFew asked }
     ensures blocks { IfOk result (λ blocks. blocks ≡ blocks_for cat.now asked) }
     ensures enough { IfOk result (λ blocks. layout.need cat.now ≤ 64 * blocks) }

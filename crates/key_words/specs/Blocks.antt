@@ -1,6 +1,6 @@
 -- How many blocks a flash may have: where a number is given, it is not above the most. How many page buffers a key may have,
--- how many numbers of slices a pace, and how large the numbers of a generated clinic are.
-use Rattle.std.specs.Prelude.{ℕ, ◌≤◌, Option, IfSome}
+-- how many numbers of slices a pace, how large the numbers of a generated clinic are, and how many columns a migration may name.
+use Rattle.std.specs.Prelude.{ℕ, ◌≢◌, ◌≤◌, List, Option, IfSome}
 
 abbrev pub most_blocks : ℕ
 most_blocks = 60000000
@@ -37,6 +37,14 @@ pub record IsDrawn (seed rows texts : ℕ) : Type 0 where
   pub few_rows : rows ≤ most_rows
   pub some_texts : 1 ≤ texts
   pub few_texts : texts ≤ most_texts
+
+-- the files that a migration makes have other names than those that it reads
+pub record AreApart (flash visible to_flash to_visible : List ℕ) : Type 0 where
+  pub flashes : flash ≢ to_flash
+  pub visibles : visible ≢ to_visible
+
+abbrev pub most_items : ℕ
+most_items = 32
 
 abbrev pub least_slices : ℕ
 least_slices = 0

@@ -46,6 +46,12 @@ gen_app =
     (needed (codes "rows"))) (needed (codes "flash"))) (optional (codes "texts"))) (optional (codes "plan"))) (optional (codes "pace")))
     (optional (codes "buffers"))
 
+abbrev pub migrate_app : App
+migrate_app =
+    with_rule (with_rule (with_rule (with_rule (with_rule (with_rule (new_app (codes "migrate")) (needed (codes "flash")))
+    (needed (codes "visible"))) (needed (codes "to-flash"))) (needed (codes "to-visible"))) (optional (codes "null")))
+    (optional (codes "blocks"))
+
 abbrev pub bare_app : App
 bare_app =
     on_top (λ shape. record shape { disable_help_flag = true; disable_help_subcommand = true; subcommand_required = true })
@@ -55,8 +61,12 @@ bare_app =
 abbrev pub app_alone : App
 app_alone = with_subcommand (with_subcommand (with_subcommand bare_app local_app.top) plain_app.top) load_app.top
 
+-- and with those of a key that stands
+abbrev pub app_of_keys : App
+app_of_keys = with_subcommand (with_subcommand app_alone query_app.top) audit_app.top
+
 abbrev pub key_app : App
-key_app = with_subcommand (with_subcommand (with_subcommand app_alone query_app.top) audit_app.top) gen_app.top
+key_app = with_subcommand (with_subcommand app_of_keys gen_app.top) migrate_app.top
 
 -- where a command was made, it is this one, and none of its options is global
 abbrev pub IsMade : {E : Type 0} → App → Result Command E → Type 0

@@ -7,7 +7,7 @@ use Rattle.clap.specs.Walk.{Row, Text, first_of}
 use Rattle.clap.specs.declared.error.kind.ErrorKind.{ErrorKind}
 use Rattle.clap.specs.declared.error.kind.ErrorKind.TheVariants as kind
 use Rattle.key_words.specs.KeyApp.{key_app}
-use Rattle.key_words.specs.Words.{found, plan_said, pace_said, buffers_said, blocks_said, seed_said, rows_said, texts_said}
+use Rattle.key_words.specs.Words.{found, plan_said, pace_said, buffers_said, blocks_said, seed_said, rows_said, texts_said, are_same, items_said}
 use Rattle.key_words.specs.declared.words.UsageFault.{UsageFault}
 use Rattle.key_words.specs.declared.words.UsageFault.TheVariants as fault
 
@@ -44,6 +44,9 @@ BreaksRule fault.Blocks rows = blocks_said (first_of (codes "blocks") rows) ≡ 
 BreaksRule fault.Seed rows = seed_said (first_of (codes "seed") rows) ≡ None
 BreaksRule fault.Rows rows = rows_said (first_of (codes "rows") rows) ≡ None
 BreaksRule fault.Texts rows = texts_said (first_of (codes "texts") rows) ≡ None
+BreaksRule fault.ToFlash rows = are_same (first_of (codes "flash") rows) (first_of (codes "to-flash") rows) ≡ true
+BreaksRule fault.ToVisible rows = are_same (first_of (codes "visible") rows) (first_of (codes "to-visible") rows) ≡ true
+BreaksRule fault.Null rows = items_said (first_of (codes "null") rows) ≡ None
 BreaksRule _ rows = ⊥
 
 -- it is an option of the command that `clap` reads

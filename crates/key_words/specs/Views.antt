@@ -1,5 +1,5 @@
 -- What the read words stand for.
-use Rattle.std.specs.Prelude.{option_map}
+use Rattle.std.specs.Prelude.{map, option_map}
 use Rattle.key_words.specs.Words as words
 use Rattle.key_words.specs.declared.words.AuditWords.{AuditWords}
 use Rattle.key_words.specs.declared.words.GenWords.{GenWords}
@@ -7,6 +7,7 @@ use Rattle.key_words.specs.declared.words.KeyWords.{KeyWords}
 use Rattle.key_words.specs.declared.words.KeyWords.TheVariants as key
 use Rattle.key_words.specs.declared.words.LocalWords.{LocalWords}
 use Rattle.key_words.specs.declared.words.LoadWords.{LoadWords}
+use Rattle.key_words.specs.declared.words.MigrateWords.{MigrateWords}
 use Rattle.key_words.specs.declared.words.PlainWords.{PlainWords}
 use Rattle.key_words.specs.declared.words.QueryWords.{QueryWords}
 
@@ -58,6 +59,16 @@ gen_view gen = record {
   buffers = gen.buffers;
 }
 
+abbrev pub migrate_view : MigrateWords → words.Migrate
+migrate_view migrate = record {
+  flash = migrate.flash.now;
+  visible = migrate.visible.now;
+  to_flash = migrate.to_flash.now;
+  to_visible = migrate.to_visible.now;
+  null = map (λ item. item.now) migrate.null.items;
+  blocks = migrate.blocks;
+}
+
 abbrev pub words_view : KeyWords → words.Command
 words_view (key.Local local) = words.LocalCommand (local_view local)
 words_view (key.Plain plain) = words.PlainCommand (plain_view plain)
@@ -65,3 +76,4 @@ words_view (key.Load load) = words.LoadCommand (load_view load)
 words_view (key.Query query) = words.QueryCommand (query_view query)
 words_view (key.Audit audit) = words.AuditCommand (audit_view audit)
 words_view (key.Gen gen) = words.GenCommand (gen_view gen)
+words_view (key.Migrate migrate) = words.MigrateCommand (migrate_view migrate)

@@ -2,8 +2,10 @@
 -- plan, and stands for `auto` where it is left out; `--pace` takes 1 to 16 numbers from 0 to 1000 with commas between them,
 -- and is 1 where it is left out. `--buffers` takes a number from 8 to 64, which is 32 where it is left out, and `--blocks` one
 -- from 1 to 60,000,000, which may be left out. `--seed` takes any number, `--rows` one from 1 to 1,000,000, and `--texts` one from
--- 1 to 40, which is 40 where it is left out. A number is one to nine decimal digits.
-use Rattle.std.specs.Prelude.{ℕ, Bool, ◌&&◌, ◌==◌, nat_le, List, [], ◌∷◌, length, Option, Some, None, codes, bytes_eq, option_map, option_and_then, if◌then◌else◌}
+-- 1 to 40, which is 40 where it is left out. A number is one to nine decimal digits. `--null` takes 1 to 32 items of any text with
+-- commas between them, and stands for none where it is left out; `--to-flash` and `--to-visible` take other names than `--flash`
+-- and `--visible` have.
+use Rattle.std.specs.Prelude.{ℕ, Bool, true, false, ◌&&◌, ◌==◌, nat_le, List, [], ◌∷◌, length, Option, Some, None, codes, bytes_eq, option_map, option_and_then, if◌then◌else◌}
 use Rattle.std.specs.List.{list_all, slice_split}
 use Rattle.leakless_plan.specs.declared.plan.Plan.{Plan}
 use Rattle.leakless_plan.specs.declared.plan.Plan.TheVariants as plan
@@ -13,7 +15,7 @@ use Rattle.clap.specs.Simple.{subcommand_of}
 use Rattle.clap.specs.Faults.{fault_of}
 use Rattle.key_words.specs.KeyApp.{key_app}
 use Rattle.key_words.specs.Plans.{plan_named}
-use Rattle.key_words.specs.Blocks.{most_blocks, least_buffers, most_buffers, most_numbers, least_slices, most_slices, most_seed, most_rows, most_texts}
+use Rattle.key_words.specs.Blocks.{most_blocks, least_buffers, most_buffers, most_numbers, least_slices, most_slices, most_seed, most_rows, most_texts, most_items}
 
 pub record Plain : Type 0 where
   pub schema : List ℕ
@@ -59,6 +61,14 @@ pub record Gen : Type 0 where
   pub pace : List ℕ
   pub buffers : ℕ
 
+pub record Migrate : Type 0 where
+  pub flash : List ℕ
+  pub visible : List ℕ
+  pub to_flash : List ℕ
+  pub to_visible : List ℕ
+  pub null : List (List ℕ)
+  pub blocks : Option ℕ
+
 pub data Command : Type 0 where
   LocalCommand : Local → Command
   PlainCommand : Plain → Command
@@ -66,6 +76,7 @@ pub data Command : Type 0 where
   QueryCommand : Query → Command
   AuditCommand : Audit → Command
   GenCommand : Gen → Command
+  MigrateCommand : Migrate → Command
 
 -- what `clap` reads; none where it refuses the words
 abbrev pub found : List Text → Option (Text × List Row)
@@ -201,6 +212,42 @@ gen_of rows =
       buffers = buffers;
     }))))
 
+-- both of these values are there, and they are the same text
+abbrev pub are_same : Option Text → Option Text → Bool
+are_same (Some one) (Some other) = bytes_eq one other
+are_same _ _ = false
+
+-- the items that the option `--null` says
+abbrev pub items_said : Option Text → Option (List Text)
+items_said None = Some []
+items_said (Some text) = if nat_le (length (parts_of text)) most_items then Some (parts_of text) else None
+
+-- the command that is made of the items and the number of blocks
+abbrev pub with_items : List Row → Option (List Text) → (List Text → Option ℕ → Command) → Option Command
+with_items rows said made =
+    option_and_then (λ items. option_map (made items) (blocks_said (first_of (codes "blocks") rows))) said
+
+abbrev pub with_names : List Row → (flash visible to_flash to_visible : Text) → Option Command
+with_names rows flash visible to_flash to_visible =
+    if bytes_eq flash to_flash
+    then None
+    else if bytes_eq visible to_visible
+    then None
+    else with_items rows (items_said (first_of (codes "null") rows)) (λ items blocks.
+    MigrateCommand (record {
+      flash = flash;
+      visible = visible;
+      to_flash = to_flash;
+      to_visible = to_visible;
+      null = items;
+      blocks = blocks;
+    }))
+
+abbrev pub migrate_of : List Row → Option Command
+migrate_of rows =
+    needs rows (codes "flash") (λ flash. needs rows (codes "visible") (λ visible. needs rows (codes "to-flash") (λ to_flash.
+    needs rows (codes "to-visible") (λ to_visible. with_names rows flash visible to_flash to_visible))))
+
 abbrev pub command_of : Text → List Row → Option Command
 command_of name rows =
     if bytes_eq name (codes "local")
@@ -209,7 +256,9 @@ command_of name rows =
     else if bytes_eq name (codes "load") then load_of rows
     else if bytes_eq name (codes "query") then query_of rows
     else if bytes_eq name (codes "audit") then audit_of rows
-    else if bytes_eq name (codes "gen") then gen_of rows else None
+    else if bytes_eq name (codes "gen")
+    then gen_of rows
+    else if bytes_eq name (codes "migrate") then migrate_of rows else None
 
 -- the command that was found
 abbrev pub said : Option (Text × List Row) → Option Command

@@ -109,6 +109,18 @@ fn gen_command<'a>(alloc: Global) -> Result<Command<'a>, AllocError>
     with_optional(alloc, command, "buffers")
 }
 
+/// The command `migrate`.
+fn migrate_command<'a>(alloc: Global) -> Result<Command<'a>, AllocError>
+    ensures made { app.IsMade app.migrate_app result }
+{
+    let command = with_needed(alloc, Ok(Command::new(alloc, "migrate")), "flash");
+    let command = with_needed(alloc, command, "visible");
+    let command = with_needed(alloc, command, "to-flash");
+    let command = with_needed(alloc, command, "to-visible");
+    let command = with_optional(alloc, command, "null");
+    with_optional(alloc, command, "blocks")
+}
+
 /// The program without its commands.
 fn bare_program<'a>(alloc: Global) -> Command<'a>
     ensures app { app_of result ≡ app.bare_app }
@@ -143,5 +155,6 @@ pub fn program<'a>(alloc: Global) -> Result<Command<'a>, AllocError>
     let program = with_command(program, load_command(alloc));
     let program = with_command(program, query_command(alloc));
     let program = with_command(program, audit_command(alloc));
-    with_command(program, gen_command(alloc))
+    let program = with_command(program, gen_command(alloc));
+    with_command(program, migrate_command(alloc))
 }

@@ -16,6 +16,6 @@ pub mod words;
 pub use reading::read_words;
 pub use shown::ShownWord;
 pub use words::{
-    AuditWords, GenWords, KeyWords, LoadWords, LocalWords, MAX_NUMBERS, PlainWords, QueryWords,
-    UsageFault, WordsFault,
+    AuditWords, GenWords, KeyWords, LoadWords, LocalWords, MAX_ITEMS, MAX_NUMBERS, MigrateWords,
+    PlainWords, QueryWords, UsageFault, WordsFault,
 };

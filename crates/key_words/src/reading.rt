@@ -5,7 +5,7 @@ ghost use Rattle.clap.specs.Words.{first_of, found_of, rows_of};
 ghost use Rattle.clap.specs.Simple.{subcommand_rows_of};
 ghost use Rattle.clap.specs.Values.{kind_of};
 ghost use Rattle.key_words.specs.Refusals.{BreaksRule, BreaksRuleIn, HasCause, is_told, told_kind};
-ghost use Rattle.key_words.specs.Blocks.{AreBuffers, most_seed, most_rows, most_texts};
+ghost use Rattle.key_words.specs.Blocks.{AreBuffers, IsFew, most_seed, most_rows, most_texts};
 ghost use Rattle.key_words.specs.Words.{reading, said};
 ghost use Rattle.key_words.specs.Words as words;
 ghost use Rattle.key_words.specs.Views.{words_view};
@@ -13,11 +13,11 @@ ghost use Rattle.key_words.specs.Views.{words_view};
 use crate::app::program;
 use crate::refusing::refusal;
 use crate::values::{
-    read_blocks, read_buffers, read_pace, read_plan, read_rows, read_seed, read_texts,
+    read_blocks, read_buffers, read_items, read_pace, read_plan, read_rows, read_seed, read_texts,
 };
 use crate::words::{
-    AuditWords, GenWords, KeyWords, LoadWords, LocalWords, MAX_NUMBERS, PlainWords, QueryWords,
-    UsageFault, WordsFault,
+    AuditWords, GenWords, KeyWords, LoadWords, LocalWords, MAX_ITEMS, MAX_NUMBERS, MigrateWords,
+    PlainWords, QueryWords, UsageFault, WordsFault,
 };
 use arrayvec::ArrayVec;
 use clap::error::ErrorKind;
@@ -96,6 +96,9 @@ fn named_command<'a>(name: &str, options: &ArgMatches<'a>) -> Result<KeyWords<'a
     }
     if name.as_bytes() == "gen".as_bytes() {
         return gen_of(options);
+    }
+    if name.as_bytes() == "migrate".as_bytes() {
+        return migrate_of(options);
     }
     Err(UsageFault::Words)
 }
@@ -185,6 +188,31 @@ fn texts_of(options: &ArgMatches<'_>) -> Result<u32, UsageFault>
     }
 }
 
+/// The items of `--null`.
+fn items_of<'a>(options: &ArgMatches<'a>) -> Result<ArrayVec<&'a str, MAX_ITEMS>, UsageFault>
+    ensures read { IfOk result (λ items. words.items_said (first_of (codes "null") (rows_of (found_of options.now))) ≡ Some (map (λ item. item.now) items.items)) }
+    ensures usage { OnErr result (words.items_said (first_of (codes "null") (rows_of (found_of options.now))) ≡ None) }
+    ensures fault { IfErr result (λ fault. fault ≡ UsageFault.Null) }
+{
+    match read_items(value_of(options, "null")) {
+        Some(items) => Ok(items),
+        None => Err(UsageFault::Null),
+    }
+}
+
+/// The number of blocks of a new flash.
+fn blocks_of(options: &ArgMatches<'_>) -> Result<Option<u32>, UsageFault>
+    ensures read { IfOk result (λ blocks. words.blocks_said (first_of (codes "blocks") (rows_of (found_of options.now))) ≡ Some blocks) }
+    ensures usage { OnErr result (words.blocks_said (first_of (codes "blocks") (rows_of (found_of options.now))) ≡ None) }
+    ensures few { IfOk result IsFew }
+    ensures fault { IfErr result (λ fault. fault ≡ UsageFault.Blocks) }
+{
+    match read_blocks(value_of(options, "blocks")) {
+        Some(blocks) => Ok(blocks),
+        None => Err(UsageFault::Blocks),
+    }
+}
+
 /// The words of `plain`.
 fn plain_of<'a>(options: &ArgMatches<'a>) -> Result<KeyWords<'a>, UsageFault>
     ensures read { IfOk result (λ command. words.plain_of (rows_of (found_of options.now)) ≡ Some (words_view command)) }
@@ -227,16 +255,14 @@ fn load_of<'a>(options: &ArgMatches<'a>) -> Result<KeyWords<'a>, UsageFault>
     let Some(visible) = value_of(options, "visible") else {
         return Err(UsageFault::Words);
     };
-    match read_blocks(value_of(options, "blocks")) {
-        Some(blocks) => Ok(KeyWords::Load(LoadWords {
-            schema,
-            tables,
-            flash,
-            visible,
-            blocks,
-        })),
-        None => Err(UsageFault::Blocks),
-    }
+    let blocks = blocks_of(options)?;
+    Ok(KeyWords::Load(LoadWords {
+        schema,
+        tables,
+        flash,
+        visible,
+        blocks,
+    }))
 }
 
 /// The words of `query`.
@@ -349,5 +375,42 @@ fn gen_of<'a>(options: &ArgMatches<'a>) -> Result<KeyWords<'a>, UsageFault>
         plan,
         pace,
         buffers,
+    }))
+}
+
+/// The words of `migrate`.
+fn migrate_of<'a>(options: &ArgMatches<'a>) -> Result<KeyWords<'a>, UsageFault>
+    ensures read { IfOk result (λ command. words.migrate_of (rows_of (found_of options.now)) ≡ Some (words_view command)) }
+    ensures usage { (fault : UsageFault) → result ≡ Err fault → words.migrate_of (rows_of (found_of options.now)) ≡ None }
+    ensures rule { (fault : UsageFault) → result ≡ Err fault → BreaksRule fault (rows_of (found_of options.now)) }
+    ensures value { (fault : UsageFault) → result ≡ Err fault → told_kind fault ≡ None }
+{
+    let Some(flash) = value_of(options, "flash") else {
+        return Err(UsageFault::Words);
+    };
+    let Some(visible) = value_of(options, "visible") else {
+        return Err(UsageFault::Words);
+    };
+    let Some(to_flash) = value_of(options, "to-flash") else {
+        return Err(UsageFault::Words);
+    };
+    let Some(to_visible) = value_of(options, "to-visible") else {
+        return Err(UsageFault::Words);
+    };
+    if flash.as_bytes() == to_flash.as_bytes() {
+        return Err(UsageFault::ToFlash);
+    }
+    if visible.as_bytes() == to_visible.as_bytes() {
+        return Err(UsageFault::ToVisible);
+    }
+    let null = items_of(options)?;
+    let blocks = blocks_of(options)?;
+    Ok(KeyWords::Migrate(MigrateWords {
+        flash,
+        visible,
+        to_flash,
+        to_visible,
+        null,
+        blocks,
     }))
 }

@@ -18,7 +18,7 @@ pub struct ShownWord {
 
 impl ShownWord {
     /// A word as a line shows it.
-    pub(crate) fn of(word: &str) -> ShownWord {
+    pub fn of(word: &str) -> ShownWord {
         let mut shown = ArrayString::<MAX_SHOWN>::new();
         for letter in word.chars() {
             let letter = if letter.is_control() { '?' } else { letter };

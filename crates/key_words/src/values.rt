@@ -1,13 +1,13 @@
 //! The rules of the values.
 
-ghost use Rattle.std.specs.Prelude.{◌≡◌, ◌≤◌, Some, option_map, IfSome};
+ghost use Rattle.std.specs.Prelude.{◌≡◌, ◌≤◌, Some, map, option_map, IfSome};
 ghost use Rattle.std.specs.List.{list_all};
 ghost use Rattle.ghost_model.specs.refusals.Tokens.{is_digit};
 ghost use Rattle.key_words.specs.Blocks.{IsFew, AreBuffers, least_slices, most_slices, most_seed, most_rows, most_texts};
 ghost use Rattle.key_words.specs.Words as words;
 
 use crate::plans::plan_named;
-use crate::words::MAX_NUMBERS;
+use crate::words::{MAX_ITEMS, MAX_NUMBERS};
 use arrayvec::ArrayVec;
 use leakless_plan::Plan;
 
@@ -170,5 +170,28 @@ pub fn read_blocks(given: Option<&str>) -> Option<Option<u32>>
     match number_between(text, 1, MAX_BLOCKS) {
         Some(blocks) => Some(Some(blocks)),
         None => None,
+    }
+}
+
+/// The items between whose texts stand commas: 1 to 32 of them.
+fn read_item_list<'a>(text: &'a str) -> Option<ArrayVec<&'a str, MAX_ITEMS>>
+    ensures value { option_map (λ items. map (λ item. item.now) items.items) result ≡ words.items_said (Some text.now) }
+{
+    let mut items = ArrayVec::new();
+    for item in text.split(',') {
+        if items.try_push(item).is_err() {
+            return None;
+        }
+    }
+    Some(items)
+}
+
+/// The items that the option `--null` says: none where it is left out, and `None` where there are more than 32.
+pub fn read_items<'a>(given: Option<&'a str>) -> Option<ArrayVec<&'a str, MAX_ITEMS>>
+    ensures value { option_map (λ items. map (λ item. item.now) items.items) result ≡ words.items_said (option_map (λ text. text.now) given.entry) }
+{
+    match given {
+        None => Some(ArrayVec::new()),
+        Some(text) => read_item_list(text),
     }
 }

@@ -1,7 +1,7 @@
 //! What the words of the program say.
 
 ghost use Rattle.std.proofs.Props.{props};
-ghost use Rattle.key_words.specs.Blocks.{IsFew, AreBuffers, IsDrawn};
+ghost use Rattle.key_words.specs.Blocks.{IsFew, AreApart, AreBuffers, IsDrawn};
 
 use crate::shown::ShownWord;
 use arrayvec::ArrayVec;
@@ -10,6 +10,9 @@ use thiserror::Error;
 
 /// The most numbers of a pace.
 pub const MAX_NUMBERS: usize = 16;
+
+/// The most items of `--null`.
+pub const MAX_ITEMS: usize = 32;
 
 /// The words of `plain`.
 #[derive(Clone, Copy)]
@@ -136,6 +139,30 @@ pub struct GenWords<'a> {
     pub ghost some_buffers: { AreBuffers buffers } by { Prim.hlevel props },
 }
 
+/// The words of `migrate`.
+#[derive(Drop)]
+pub struct MigrateWords<'a> {
+    /// The file of the flash that is read.
+    pub flash: &'a str,
+
+    /// The host's file that is read.
+    pub visible: &'a str,
+
+    /// The file of the new flash, which has another name.
+    pub to_flash: &'a str,
+
+    /// The new host's file, which has another name.
+    pub to_visible: &'a str,
+    pub ghost apart: { AreApart flash.now visible.now to_flash.now to_visible.now } by { Prim.hlevel props },
+
+    /// The columns that may be NULL from now on, each as `table.column`: any texts, at most 32. None where they are left out.
+    pub null: ArrayVec<&'a str, MAX_ITEMS>,
+
+    /// How many blocks the new flash is to have, from 1 to 60,000,000; where this is left out, as many as are needed.
+    pub blocks: Option<u32>,
+    pub ghost few: { IsFew blocks } by { Prim.hlevel props },
+}
+
 /// A command with its words.
 #[derive(Drop)]
 pub enum KeyWords<'a> {
@@ -156,6 +183,9 @@ pub enum KeyWords<'a> {
 
     /// A session over a clinic that is drawn from a number.
     Gen(GenWords<'a>),
+
+    /// The making of a new device and a new host's file from old ones.
+    Migrate(MigrateWords<'a>),
 }
 
 /// What is wrong with the words.
@@ -220,6 +250,18 @@ pub enum UsageFault {
     /// `--texts` has a value that it does not take.
     #[error("--texts takes a number from 1 to 40, of at most 9 digits")]
     Texts,
+
+    /// `--to-flash` has the name that `--flash` has.
+    #[error("--to-flash takes another name than --flash has")]
+    ToFlash,
+
+    /// `--to-visible` has the name that `--visible` has.
+    #[error("--to-visible takes another name than --visible has")]
+    ToVisible,
+
+    /// `--null` has more items than it takes.
+    #[error("--null takes 1 to 32 items table.column, with commas between them")]
+    Null,
 }
 
 /// Why no command was read.

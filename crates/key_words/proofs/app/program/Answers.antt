@@ -21,7 +21,8 @@ returns-clause-app c =
     let load = c.with_command-program-3.ensures.made _ _ plain c.load_command.ensures.made in
     let query = c.with_command-program-4.ensures.made _ _ load c.query_command.ensures.made in
     let audit = c.with_command-program-5.ensures.made _ _ query c.audit_command.ensures.made in
-    its_app _ _ (c.with_command.ensures.made _ _ audit c.gen_command.ensures.made)
+    let gen = c.with_command-program-6.ensures.made _ _ audit c.gen_command.ensures.made in
+    its_app _ _ (c.with_command.ensures.made _ _ gen c.migrate_command.ensures.made)
 
 pub returns-clause-global : goal.returns-clause-global
 returns-clause-global c =
@@ -30,4 +31,5 @@ returns-clause-global c =
     let load = c.with_command-program-3.ensures.made _ _ plain c.load_command.ensures.made in
     let query = c.with_command-program-4.ensures.made _ _ load c.query_command.ensures.made in
     let audit = c.with_command-program-5.ensures.made _ _ query c.audit_command.ensures.made in
-    no_globals app.key_app _ (c.with_command.ensures.made _ _ audit c.gen_command.ensures.made)
+    let gen = c.with_command-program-6.ensures.made _ _ audit c.gen_command.ensures.made in
+    no_globals app.key_app _ (c.with_command.ensures.made _ _ gen c.migrate_command.ensures.made)

@@ -18,4 +18,7 @@ returns c = record {
   a_pace_above_the_limit = refl;
   too_few_buffers = refl;
   a_number_of_ten_digits = refl;
+  the_flash_would_be_replaced = refl;
+  the_visible_file_would_be_replaced = refl;
+  thirty_three_items = refl;
 }
