@@ -8,6 +8,8 @@ use Rattle.key_plain.specs.declared.faults.PlainFault.{PlainFault}
 use Rattle.key_plain.specs.declared.faults.PlainFault.TheVariants as plain_fault
 use Rattle.key_load.specs.declared.failures.LoadFailure.{LoadFailure}
 use Rattle.key_load.specs.declared.failures.LoadFailure.TheVariants as load_failure
+use Rattle.key_migrate.specs.declared.failures.MigrateFailure.{MigrateFailure}
+use Rattle.key_migrate.specs.declared.failures.MigrateFailure.TheVariants as migrate_failure
 use Rattle.key_audit.specs.declared.failures.Audited.{Audited}
 use Rattle.key_audit.specs.declared.failures.AuditFailure.{AuditFailure}
 use Rattle.key_audit.specs.declared.failures.AuditFailure.TheVariants as audit_failure
@@ -102,6 +104,19 @@ gen_code (Ok run) = gen_end_code run.end
 gen_code (Err gen_failure.NoMemory) = 3
 gen_code (Err gen_failure.Flash) = 6
 
+abbrev pub migrate_code : Result (Unit {0}) MigrateFailure → ℕ
+migrate_code (Ok _) = 0
+migrate_code (Err migrate_failure.NoMemory) = 3
+migrate_code (Err (migrate_failure.NullName item)) = 4
+migrate_code (Err migrate_failure.Depot) = 5
+migrate_code (Err migrate_failure.Flash) = 6
+migrate_code (Err migrate_failure.Sink) = 9
+migrate_code (Err (migrate_failure.OldTooSmall needed had)) = 10
+migrate_code (Err (migrate_failure.TooSmall needed had)) = 10
+migrate_code (Err migrate_failure.NotAKey) = 11
+migrate_code (Err (migrate_failure.Damaged number slot found)) = 13
+migrate_code (Err migrate_failure.NotTheFile) = 16
+
 abbrev pub exit_code : Ended → ℕ
 exit_code (ended.Usage fault) = 2
 exit_code ended.NoMemory = 3
@@ -111,6 +126,7 @@ exit_code (ended.Local outcome) = local_code outcome
 exit_code (ended.Query outcome) = query_code outcome
 exit_code (ended.Audit outcome) = audit_code outcome
 exit_code (ended.Gen outcome) = gen_code outcome
+exit_code (ended.Migrate outcome) = migrate_code outcome
 
 -- what was told of each text of a script
 abbrev pub told_of : Ended → List ToldText
@@ -169,6 +185,11 @@ OfAudit _ says = ⊤
 abbrev pub OfGen : Ended → (Result GenRun GenFailure → Type 0) → Type 0
 OfGen (ended.Gen outcome) says = says outcome
 OfGen _ says = ⊤
+
+-- what is said of `migrate`
+abbrev pub OfMigrate : Ended → (Result (Unit {0}) MigrateFailure → Type 0) → Type 0
+OfMigrate (ended.Migrate outcome) says = says outcome
+OfMigrate _ says = ⊤
 
 -- the words say this command, and this was done
 pub record DoesAs {W : Type 0} (command : W → Command) (read : Option Command) (Did : W → Type 0) : Type 0 where

@@ -11,6 +11,7 @@ use crate::query::QueryFailure;
 use key_audit::{AuditFailure, Audited};
 use key_lines::ToldTexts;
 use key_load::LoadFailure;
+use key_migrate::MigrateFailure;
 use key_plain::PlainFault;
 use key_session::{SessionStatus, Tally};
 use key_words::{UsageFault, WordsFault};
@@ -51,6 +52,9 @@ pub enum Ended {
 
     /// `gen` ended so.
     Gen(Result<GenRun, GenFailure>),
+
+    /// `migrate` ended so.
+    Migrate(Result<(), MigrateFailure>),
 }
 
 /// How a call ended whose words were not read: for want of memory where that is what was wanted alone.
@@ -90,6 +94,7 @@ impl Ended {
             Ended::Query(outcome) => query_code(outcome),
             Ended::Audit(outcome) => audit_code(outcome),
             Ended::Gen(outcome) => gen_code(outcome),
+            Ended::Migrate(outcome) => migrate_code(outcome),
         }
     }
 }
@@ -214,5 +219,24 @@ fn gen_code(outcome: &Result<GenRun, GenFailure>) -> u8
         Ok(run) => gen_end_code(&run.end),
         Err(GenFailure::NoMemory) => 3,
         Err(GenFailure::Flash) => 6,
+    }
+}
+
+/// The exit code of `migrate`.
+fn migrate_code(outcome: &Result<(), MigrateFailure>) -> u8
+    ensures code { result ≡ endings.migrate_code outcome.now }
+{
+    match outcome {
+        Ok(()) => 0,
+        Err(MigrateFailure::NoMemory) => 3,
+        Err(MigrateFailure::NullName { .. }) => 4,
+        Err(MigrateFailure::Depot) => 5,
+        Err(MigrateFailure::Flash) => 6,
+        Err(MigrateFailure::Sink) => 9,
+        Err(MigrateFailure::OldTooSmall { .. }) => 10,
+        Err(MigrateFailure::TooSmall { .. }) => 10,
+        Err(MigrateFailure::NotAKey) => 11,
+        Err(MigrateFailure::Damaged { .. }) => 13,
+        Err(MigrateFailure::NotTheFile) => 16,
     }
 }

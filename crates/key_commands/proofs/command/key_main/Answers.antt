@@ -1,5 +1,5 @@
 use Rattle.std.proofs.Common.{refl, rules}
-use Rattle.key_words.specs.Views.{plain_view, load_view, local_view, audit_view, gen_view}
+use Rattle.key_words.specs.Views.{plain_view, load_view, local_view, audit_view, gen_view, migrate_view}
 use Rattle.key_commands.proofs.command.key_main.Goals as goal
 
 pub returns-in-Ok-Plain-clause-plain : goal.returns-in-Ok-Plain-clause-plain
@@ -85,3 +85,6 @@ returns-in-Ok-Gen-clause-generated g c =
         causes = did.causes files faults appends;
       };
     }
+
+pub returns-in-Ok-Migrate-clause-migrated : goal.returns-in-Ok-Migrate-clause-migrated
+returns-in-Ok-Migrate-clause-migrated g c = record { words = migrate_view c.in-Ok-Migrate.words; said = search rules; did = c.migrate.ensures.did }

@@ -1,0 +1,11 @@
+pub mod Columns
+pub mod Doings
+pub mod Endings
+pub mod Fronts
+pub mod ItemLemmas
+pub mod Lines
+pub mod Makings
+pub mod Named
+pub mod Readings
+pub mod Sources
+pub mod Widening

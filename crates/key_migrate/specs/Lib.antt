@@ -1,0 +1,11 @@
+pub mod Devices
+pub mod Doing
+pub mod Examples
+pub mod Fields
+pub mod Items
+pub mod Preparing
+pub mod PublicPages
+pub mod Reading
+pub mod Renaming
+pub mod Results
+pub mod Stages
