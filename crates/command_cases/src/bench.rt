@@ -14,6 +14,7 @@ use key_commands::key_main;
 use std::alloc::{AllocError, Global};
 use std::cell::Cell;
 use std::mem;
+use tree_schema::{Catalog, read_catalog};
 
 const ROOM: Room = Room {
     files: 16,
@@ -33,6 +34,9 @@ const OUT_ROOM: usize = 400_000;
 
 /// How many blocks a blank flash has room for.
 const BLOCKS: u32 = 21;
+
+/// The pages from the first one on that can hold bytes of a catalog.
+const CATALOG_PAGES: u32 = 9;
 
 /// What came of a call.
 #[derive(Drop)]
@@ -129,6 +133,25 @@ impl Bench {
             }
             Err(_) => Ok(false),
         }
+    }
+
+    /// Lets each flash be made with so many blocks; answers whether one can have as many.
+    pub fn room(&mut self, count: u64) -> bool {
+        match u32::try_from(count) {
+            Ok(count) => {
+                self.flash.room = count;
+                true
+            }
+            Err(_) => false,
+        }
+    }
+
+    /// Has the flash of a name at hand, by a call that is not counted; answers whether there was memory for it.
+    pub fn open(&mut self, name: &str) -> Result<bool, AllocError> {
+        let script = mem::replace(&mut self.flash.script, Script::new(self.alloc, &[])?);
+        let opened = self.flash.attach(self.alloc, name).is_ok();
+        self.flash.script = script;
+        Ok(opened)
     }
 
     /// Makes the flash with all its room, where it has no pages; that call is not counted.
@@ -229,6 +252,17 @@ impl Bench {
         }
     }
 
+    /// The catalog on the flash last made or opened, where it begins with one.
+    fn catalog(&self) -> Result<Option<Catalog>, AllocError> {
+        let mut front = Vec::new(self.alloc);
+        for page in 0..CATALOG_PAGES {
+            if let Some(bytes) = self.flash.page(page) {
+                front.extend_from_slice(bytes)?;
+            }
+        }
+        Ok(read_catalog(&front))
+    }
+
     /// Makes the call of the key.
     fn key(&mut self, words: &[String]) -> Result<Came, AllocError> {
         let writes = Cell::new(0);
@@ -252,9 +286,11 @@ impl Bench {
         self.link = link.link;
         self.out = out.sink;
         self.order = (link.before, writes.get());
+        let catalog = self.catalog()?;
+        let schema = catalog.as_ref().map(|catalog| catalog.schema());
         Ok(Came {
             code: ended.exit_code(),
-            line: key_messages::line_of(self.alloc, words, &ended)?,
+            line: key_messages::line_of(self.alloc, words, &ended, schema)?,
         })
     }
 

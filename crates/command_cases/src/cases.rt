@@ -92,15 +92,19 @@ impl Cases {
             Directive::Do | Directive::DoQuiet | Directive::DoBrief => self.call(directive, rest),
             Directive::File | Directive::Bytes => self.put_file(directive, rest),
             Directive::Repeat | Directive::Rows => self.add_rows(directive, rest),
-            Directive::Blocks | Directive::Page | Directive::Slot | Directive::Fail => {
-                self.arrange(directive, rest)
-            }
+            Directive::Blocks
+            | Directive::Room
+            | Directive::Open
+            | Directive::Page
+            | Directive::Slot
+            | Directive::Fail => self.arrange(directive, rest),
             Directive::Say
             | Directive::SayFile
             | Directive::Cut
             | Directive::Drip
             | Directive::Port => self.speak(directive, rest),
             Directive::MovesTo => self.put_told(rest),
+            Directive::PagesTo => self.keep_pages(rest),
             Directive::LinesTo => Ok(self.bench.depot.put(rest, self.bench.out.bytes())),
             Directive::TakenTo => self.put_taken(rest),
             _ => self.tell(directive, rest),
@@ -160,6 +164,8 @@ impl Cases {
         let (word, text) = first_of(rest);
         match directive {
             Directive::Blocks => self.bench.blocks(number_of(word)),
+            Directive::Room => Ok(self.bench.room(number_of(word))),
+            Directive::Open => self.bench.open(word),
             Directive::Page => {
                 let bytes = bytes_of(self.alloc, text)?;
                 Ok(self.bench.page(number_of(word), &bytes))
@@ -247,6 +253,13 @@ impl Cases {
         };
         let mut lines = Vec::new(self.alloc);
         put_moves(self.alloc, &mut lines, &journal)?;
+        Ok(self.bench.depot.put(name, &lines))
+    }
+
+    /// Puts the file of the lines of the pages of the flash; answers whether there was room.
+    fn keep_pages(&mut self, name: &str) -> Result<bool, AllocError> {
+        let mut lines = Vec::new(self.alloc);
+        put_pages(self.alloc, &mut lines, &self.bench.flash)?;
         Ok(self.bench.depot.put(name, &lines))
     }
 

@@ -15,6 +15,8 @@
 //! | `repeat NAME N TEXT` | puts a text so many times behind what a file has |
 //! | `rows NAME FIRST LAST TEXT` | puts a line for each of these numbers behind what a file has; in it `{}` stands for the number, and `{A%M+B}` for the remainder of the number and A by M, and B more |
 //! | `blocks N` | a blank flash with room for so many blocks |
+//! | `room N` | each flash may be made with so many blocks from now on; those that were made stay |
+//! | `open NAME` | the flash of that name is at hand, by no call that is counted |
 //! | `page N TEXT` | a page of these bytes, and then bytes 0xFF; a flash that was not made is made with all its room |
 //! | `slot PAGE N TEXT` | puts bytes into the slot of this number, from 0, of a page whose slots are so wide; its others stay |
 //! | `fail OBJECT N N ..` | counts the calls of the depot, flash, link or out anew, and lets these fail, from 1 |
@@ -33,6 +35,7 @@
 //! | `same NAME NAME` | prints whether two files are there and have the same bytes |
 //! | `beside NAME OTHER` | prints how many of the first lines of the other file are those of the one, and its lines behind these |
 //! | `pages` | prints how many pages the flash has, and those that are not blank, up to their last byte that is not 0xFF |
+//! | `pages-to NAME` | the file of the lines of `pages` |
 //! | `moves`, `moves-count` | prints the moves of the link, or how many they are |
 //! | `order` | prints how many moves and writes of the last call of `key` came after one another |
 //! | `moves-to NAME` | the file of the moves of the link |

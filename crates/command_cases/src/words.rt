@@ -10,9 +10,12 @@ pub enum Directive {
     Repeat,
     Rows,
     Blocks,
+    Room,
+    Open,
     Page,
     Slot,
     Pages,
+    PagesTo,
     Fail,
     Say,
     SayFile,
@@ -37,7 +40,7 @@ pub enum Directive {
     Order,
 }
 
-const DIRECTIVES: [(&str, Directive); 32] = [
+const DIRECTIVES: [(&str, Directive); 35] = [
     ("#", Directive::Heading),
     ("case", Directive::Case),
     ("file", Directive::File),
@@ -45,9 +48,12 @@ const DIRECTIVES: [(&str, Directive); 32] = [
     ("repeat", Directive::Repeat),
     ("rows", Directive::Rows),
     ("blocks", Directive::Blocks),
+    ("room", Directive::Room),
+    ("open", Directive::Open),
     ("page", Directive::Page),
     ("slot", Directive::Slot),
     ("pages", Directive::Pages),
+    ("pages-to", Directive::PagesTo),
     ("fail", Directive::Fail),
     ("say", Directive::Say),
     ("say-file", Directive::SayFile),

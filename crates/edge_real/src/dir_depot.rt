@@ -21,8 +21,8 @@ use std::rt::Files;
 /// The file that was read last stays open. So a file is opened once while it is read from its beginning to its end, and one
 /// that cannot be read at any other place, as a pipe, can be read so. A file is replaced as a whole.
 ///
-/// It may be told which files the command is to replace. Then at the first call it is tried whether they can be replaced,
-/// and whether they are different ones; and none of them is read.
+/// It may be told which files the command is to replace, and which older device it reads. Then at the first call it is tried whether
+/// they can be replaced, and whether all are different ones; and none of them is read here.
 #[derive(Drop)]
 pub struct DirDepot<'a, R: Files> {
     alloc: Global,
@@ -128,8 +128,7 @@ impl<'a, R: Files + Drop> DirDepot<'a, R> {
         self.try_first()?;
         let kept = kept_of(self.kept.take(), name);
         if kept.is_none() {
-            self.replaced
-                .try_apart(self.alloc, &self.files, Deed::Read, name)?;
+            self.replaced.try_read(self.alloc, &self.files, name)?;
         }
         match read_by(&self.files, kept, name, at, buf) {
             Ok((file, count)) => {

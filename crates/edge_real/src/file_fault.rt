@@ -63,6 +63,9 @@ pub enum Reason {
     /// The command is to write over it.
     WrittenOver(GivenBy),
 
+    /// It is the older device that the command reads.
+    OldDevice,
+
     /// There is no room.
     NoRoom,
 
@@ -137,6 +140,8 @@ impl Reason {
             Reason::PartInUse => ": another program is writing it; wait until that has ended",
             Reason::NoLocks =>
                 ": its file system has no locks, without which a device is not safe; give a name in another",
+            Reason::OldDevice =>
+                ": it is the device that --flash names; give --visible the host's file",
             Reason::NoRoom =>
                 ": there is no room; make some, or give a name in another file system",
             Reason::TooLarge => ": it would be larger than the system allows",

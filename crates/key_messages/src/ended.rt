@@ -11,11 +11,18 @@ use key_inputs::InputFault;
 use key_load::LoadFailure;
 use key_plain::PlainFault;
 use std::alloc::{AllocError, Global};
+use tree_schema::Schema;
 
-/// The lines, without the end of the last one, that tell how a command ended, made of words without control characters.
-pub fn ended_lines(alloc: Global, words: &[String], ended: &Ended) -> Result<String, AllocError> {
+/// The lines, without the end of the last one, that tell how a command ended, made of words without control characters. The schema is
+/// that of the catalog on the device that was opened, where one was read there.
+pub fn ended_lines(
+    alloc: Global,
+    words: &[String],
+    ended: &Ended,
+    schema: Option<&Schema>,
+) -> Result<String, AllocError> {
     let words = plain_words(alloc, words)?;
-    let line = line_of(alloc, &words, ended)?;
+    let line = line_of(alloc, &words, ended, schema)?;
     match ended {
         Ended::Usage(_) => usage_lines(alloc, &words, &line),
         _ => Ok(line),

@@ -9,6 +9,7 @@ mod audits;
 pub mod ended;
 mod generated;
 mod input_lines;
+mod migrations;
 mod refusing;
 mod sessions;
 pub mod telling;

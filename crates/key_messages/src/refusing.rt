@@ -6,12 +6,13 @@ use std::alloc::{AllocError, Global};
 /// The commands of the program.
 const USAGE: &str = "\
 usage: key_program COMMAND OPTIONS, COMMAND being
-    load   makes a key's device and a host's file of tables, in place of files of those names
-    query  asks a host and a loaded device
-    local  does both in one process, over a device that it makes in place of a file of that name
-    plain  answers from the tables alone
-    audit  says whether a recorded channel is one that a key leaves
-    gen    makes tables and queries from a number, and asks as local does
+    load    makes a key's device and a host's file of tables, in place of files of those names
+    query   asks a host and a loaded device
+    local   does both in one process, over a device that it makes in place of a file of that name
+    plain   answers from the tables alone
+    audit   says whether a recorded channel is one that a key leaves
+    gen     makes tables and queries from a number, and asks as local does
+    migrate makes a new device and a new host's file of older ones, which stay
 key_program COMMAND shows the options of one";
 
 /// The words of `load`.
@@ -70,6 +71,16 @@ usage: key_program gen
     [--pace NUMBERS]   slices of work behind each frame of rows, 0 to 1000, or up to 16 such with commas; else 1
     [--buffers NUMBER] the key's page buffers, 8 to 64; else 32";
 
+/// The words of `migrate`.
+const MIGRATE_USAGE: &str = "\
+usage: key_program migrate
+    --flash FILE       the key's device, as load made it, in this version or an earlier one; it stays
+    --visible FILE     the host's file that was made with it; it stays
+    --to-flash FILE    the new device, made in place of a file of that name
+    --to-visible FILE  the new host's file, made in place of a file of that name
+    [--null COLUMNS]   columns that may be NULL from now on: 1 to 32 as table.column, with commas between them
+    [--blocks NUMBER]  the new device's blocks, 1 to 60000000; else as many as the tables need";
+
 /// What is told of refused words: what is wrong, what to do, and the words of the command.
 pub(crate) fn refusing_lines(
     alloc: Global,
@@ -93,6 +104,10 @@ fn remedy(fault: &UsageFault) -> Option<&'static str> {
         UsageFault::Seed | UsageFault::Rows => Some("give such a number"),
         UsageFault::Texts => Some("give such a number, or leave it out for 40"),
         UsageFault::Twice(_) => Some("give it once"),
+        UsageFault::ToFlash | UsageFault::ToVisible => {
+            Some("give another name, since the older file stays")
+        }
+        UsageFault::Null => Some("give such items, or leave it out"),
         _ => None,
     }
 }
@@ -114,6 +129,7 @@ fn usage_by(command: &str) -> &'static str {
         "plain" => PLAIN_USAGE,
         "audit" => AUDIT_USAGE,
         "gen" => GEN_USAGE,
+        "migrate" => MIGRATE_USAGE,
         _ => USAGE,
     }
 }

@@ -3,6 +3,7 @@
 use crate::audits::audit_line;
 use crate::generated::{gen_end_line, gen_failure_line};
 use crate::input_lines::{InputNames, input_line};
+use crate::migrations::migrate_line;
 use crate::refusing::refusing_lines;
 use crate::sessions::{local_end_line, local_failure_line, query_failure_line, status_line};
 use edge_traits::flash::BLOCK_PAGES;
@@ -11,6 +12,7 @@ use key_load::LoadFailure;
 use key_plain::PlainFault;
 use key_words::{KeyWords, LoadWords, PlainWords, read_words};
 use std::alloc::{AllocError, Global};
+use tree_schema::Schema;
 
 /// What is told where all went well.
 const DONE: &str = "done";
@@ -20,8 +22,14 @@ pub(crate) const NO_MEMORY: &str = "out of memory: free some, or give smaller fi
 
 /// The line, without its end, that tells how a call ended: what is wrong, in which file, in the file of a table in which
 /// record and column, and in a schema at which table and column. Of refused words it tells those of the command too, an
-/// option a line.
-pub fn line_of(alloc: Global, args: &[String], ended: &Ended) -> Result<String, AllocError> {
+/// option a line. The schema is that of the catalog on the device that was opened, where one was read there: names of `migrate` are
+/// looked up in it.
+pub fn line_of(
+    alloc: Global,
+    args: &[String],
+    ended: &Ended,
+    schema: Option<&Schema>,
+) -> Result<String, AllocError> {
     match (read_words(alloc, args), ended) {
         (_, Ended::Usage(fault)) => refusing_lines(alloc, args, fault),
         (Ok(KeyWords::Plain(words)), Ended::Plain(run)) => plain_run_line(alloc, &words, run),
@@ -43,7 +51,12 @@ pub fn line_of(alloc: Global, args: &[String], ended: &Ended) -> Result<String, 
             gen_failure_line(alloc, &words, fault)
         }
         (Ok(KeyWords::Gen(words)), Ended::Gen(Ok(run))) => gen_end_line(alloc, &words, &run.end),
-        (_, Ended::Load(Ok(())) | Ended::Audit(Ok(_))) => String::from_str(alloc, DONE),
+        (Ok(KeyWords::Migrate(words)), Ended::Migrate(Err(fault))) => {
+            migrate_line(alloc, &words, fault, schema)
+        }
+        (_, Ended::Load(Ok(())) | Ended::Audit(Ok(_)) | Ended::Migrate(Ok(()))) => String::from_str(
+            alloc, DONE,
+        ),
         _ => String::from_str(alloc, NO_MEMORY),
     }
 }

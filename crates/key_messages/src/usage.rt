@@ -71,7 +71,7 @@ fn indent_of(line: &str) -> usize {
     if line.starts_with("    -") || line.starts_with("    [") {
         23
     } else if line.starts_with("    ") {
-        11
+        12
     } else {
         0
     }

@@ -34,7 +34,7 @@ fn main(rt: HostRuntime) -> ExitCode {
         Ok(ended) => ended,
         Err(error) => {
             let ended = not_read(&error);
-            tell(&rt, ended_lines(rt.alloc(), &words, &ended));
+            tell(&rt, ended_lines(rt.alloc(), &words, &ended, None));
             ended
         }
     };
@@ -82,7 +82,7 @@ fn run(rt: &HostRuntime, words: &mut Vec<String>) -> io::Result<Ended> {
     };
     tell(rt, script_lines(alloc, &texts, ended.told().as_slice()));
     if ended.exit_code() != 0 {
-        tell(rt, ended_lines(alloc, words, &ended));
+        tell(rt, ended_lines(alloc, words, &ended, read_with));
         tell_cause(rt, depot.depot.depot.first_fault());
         tell_cause(rt, flash.flash.flash.first_fault());
         tell_cause(rt, link.first_cause());

@@ -43,7 +43,7 @@ pub(crate) fn named_by(alloc: Global, words: &[String]) -> Named<'_> {
             replaced: Replaced {
                 flash: said.flash,
                 visible: said.visible,
-                journal: "",
+                ..NONE_REPLACED
             },
             ..NONE_NAMED
         },
@@ -53,8 +53,8 @@ pub(crate) fn named_by(alloc: Global, words: &[String]) -> Named<'_> {
             script: said.script,
             replaced: Replaced {
                 flash: said.flash,
-                visible: "",
                 journal: said.journal.unwrap_or(""),
+                ..NONE_REPLACED
             },
         },
         Ok(KeyWords::Query(said)) => Named {
@@ -68,8 +68,16 @@ pub(crate) fn named_by(alloc: Global, words: &[String]) -> Named<'_> {
         Ok(KeyWords::Gen(said)) => Named {
             replaced: Replaced {
                 flash: said.flash,
-                visible: "",
-                journal: "",
+                ..NONE_REPLACED
+            },
+            ..NONE_NAMED
+        },
+        Ok(KeyWords::Migrate(said)) => Named {
+            replaced: Replaced {
+                flash: said.to_flash,
+                visible: said.to_visible,
+                old_flash: said.flash,
+                ..NONE_REPLACED
             },
             ..NONE_NAMED
         },

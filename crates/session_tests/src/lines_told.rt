@@ -36,7 +36,7 @@ fn want_of_memory_and_damage_of_local_are_told(rt: HostRuntime) -> Result<(), Al
         (Ended::Local(Ok(LocalRun { end, told })), 13, DAMAGED),
     ];
     for (ended, code, line) in cases.iter() {
-        let told = line_of(rt.alloc(), &words, ended)?;
+        let told = line_of(rt.alloc(), &words, ended, None)?;
         assert!(rt; told.as_str() == *line, "{line}");
         assert!(rt; ended.exit_code() == *code, "{line}");
     }

@@ -1,7 +1,7 @@
 //! Sinks and depots, in memory and as they are.
 
 use edge_real::dir_depot::DirDepot;
-use edge_real::replaced::Replaced;
+use edge_real::replaced::{NONE_REPLACED, Replaced};
 use edge_real::std_sink::StdSink;
 use edge_traits::depot::Depot;
 use edge_traits::mem_depot::{MemDepot, Room};
@@ -131,12 +131,7 @@ fn a_file_is_replaced_as_a_whole(rt: HostRuntime) {
 }
 
 /// Whether this is told of reading `note` where a command is to replace these files, nothing where it is read; it stays in any case.
-fn tells(rt: &HostRuntime, flash: &str, visible: &str, line: &str) -> Result<bool, AllocError> {
-    let replaced = Replaced {
-        flash,
-        visible,
-        journal: "",
-    };
+fn tells(rt: &HostRuntime, replaced: Replaced<'_>, line: &str) -> Result<bool, AllocError> {
     let mut depot = DirDepot::replacing(rt.alloc(), rt, replaced);
     let is_read = reads(&mut depot, "note", 0, "1");
     let is_told = match depot.first_fault() {
@@ -152,18 +147,107 @@ fn no_file_is_read_that_is_to_be_replaced(rt: HostRuntime) -> Result<(), AllocEr
     let _gone = fs::remove_file(&rt, "new");
     let mut depot = DirDepot::new(rt.alloc(), &rt);
     assert!(rt; depot.replace("note", b"1").is_ok());
-    assert!(rt; tells(&rt, "key", "new", "")?);
-    let line = "note would be written over by --flash: it stays; give --flash another name";
-    assert!(rt; tells(&rt, "note", "new", line)?);
-    let line = "note would be written over by --visible: it stays; give --visible another name";
-    assert!(rt; tells(&rt, "key", "./note", line)?);
-    let line = "new would be written over by --visible: it stays; give --visible another name";
-    assert!(rt; tells(&rt, "new", "./new", line)?);
-    let line = "new.part would be written over by --visible: it stays; give --visible another name";
-    assert!(rt; tells(&rt, "new.part", "new", line)?);
-    let line = "could not write none/new: its folder is not there";
-    assert!(rt; tells(&rt, "key", "none/new", line)?);
-    assert!(rt; tells(&rt, "key", ".", "could not write .: it is a folder")?);
+    for (flash, visible, line) in [
+        ("key", "new", ""),
+        (
+            "note",
+            "new",
+            "note would be written over by --flash: it stays; give --flash another name",
+        ),
+        (
+            "key",
+            "./note",
+            "note would be written over by --visible: it stays; give --visible another name",
+        ),
+        (
+            "new",
+            "./new",
+            "new would be written over by --visible: it stays; give --visible another name",
+        ),
+        (
+            "new.part",
+            "new",
+            "new.part would be written over by --visible: it stays; give --visible another name",
+        ),
+        (
+            "key",
+            "none/new",
+            "could not write none/new: its folder is not there",
+        ),
+        ("key", ".", "could not write .: it is a folder"),
+    ] {
+        let replaced = Replaced {
+            flash,
+            visible,
+            ..NONE_REPLACED
+        };
+        assert!(rt; tells(&rt, replaced, line)?, "{line}");
+    }
+    Ok(())
+}
+
+#[test]
+fn an_older_device_and_its_file_are_not_replaced(rt: HostRuntime) -> Result<(), AllocError> {
+    let _gone = fs::remove_file(&rt, "new");
+    let mut depot = DirDepot::new(rt.alloc(), &rt);
+    assert!(rt; depot.replace("note", b"1").is_ok() && depot.replace("old", b"2").is_ok());
+    for (to, link) in [("old", "to-old"), ("note", "to-note"), ("new", "to-new")] {
+        assert!(rt; symlink(&rt, to, link).is_ok());
+    }
+    for (old_flash, flash, visible, line) in [
+        ("old", "key", "new", ""),
+        (
+            "old",
+            "to-old",
+            "new",
+            "old would be written over by --to-flash: it stays; give --to-flash another name",
+        ),
+        (
+            "to-old",
+            "key",
+            "./old",
+            "to-old would be written over by --to-visible: it stays; give --to-visible another name",
+        ),
+        (
+            "old",
+            "to-note",
+            "new",
+            "note would be written over by --to-flash: it stays; give --to-flash another name",
+        ),
+        (
+            "old",
+            "key",
+            "to-note",
+            "note would be written over by --to-visible: it stays; give --to-visible another name",
+        ),
+        (
+            "old",
+            "to-new",
+            "new",
+            "to-new would be written over by --to-visible: it stays; give --to-visible another name",
+        ),
+        (
+            "old",
+            "to-new",
+            "./to-new",
+            "to-new would be written over by --to-visible: it stays; give --to-visible another name",
+        ),
+        (
+            "to-note",
+            "key",
+            "new",
+            "could not read note: it is the device that --flash names; give --visible the host's file",
+        ),
+    ] {
+        let replaced = Replaced {
+            flash,
+            visible,
+            old_flash,
+            ..NONE_REPLACED
+        };
+        assert!(rt; tells(&rt, replaced, line)?, "{line}");
+        assert!(rt; holds(&rt, "old", b"2"), "{line}");
+    }
     Ok(())
 }
 

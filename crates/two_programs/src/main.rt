@@ -108,7 +108,7 @@ fn be_key(rt: &HostRuntime, line: &str) -> io::Result<u8> {
     );
     let code = ended.exit_code();
     if code != 0 {
-        let told = line_of(rt.alloc(), &words, &ended)?;
+        let told = line_of(rt.alloc(), &words, &ended, None)?;
         let _printed = eprintln!(rt; "{told}");
     }
     Ok(code)
