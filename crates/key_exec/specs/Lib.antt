@@ -15,3 +15,4 @@ pub mod Filled
 pub mod Costs
 pub mod Lending
 pub mod Within
+pub mod Examples

@@ -15,6 +15,7 @@
 #![tactic(auto)]
 
 pub mod damage;
+pub mod examples;
 pub mod forms;
 pub mod job;
 pub mod laws;
