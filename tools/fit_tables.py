@@ -210,6 +210,11 @@ def folded(text):
     return ''.join(told)
 
 
+def shown(text):
+    """A text as the report shows it, in which nothing moves the cursor."""
+    return ''.join(it if it.isprintable() else ' ' for it in text)
+
+
 def word_of(name, taken):
     """A name as the schema takes it: a word in lower case of at most 32 bytes, not reserved, not taken."""
     word = re.sub('[^a-z0-9_]+', '_', folded(name).lower()).strip('_') or 'c'
@@ -599,7 +604,7 @@ def write_table(table, folder):
                     put()
                     number += len(block)
                     block = []
-                    progress.at(number)
+                    progress.at(number - 1)
         if block:
             put()
         if table.added:
@@ -617,9 +622,9 @@ def report_of(tables, faults):
         lines += ['  FAULT: ' + it for it in table.faults]
         for it in table.columns:
             told = '  %-24s %-13s %-8s %s' % (it.name, it.kind, 'hidden' if it.hidden else 'visible', it.why)
-            lines.append(told + (', to %s' % it.child.name if it.child is not None else '') + ('' if it.raw.strip().lower() == it.name else " (was '%s')" % folded(it.raw)))
+            lines.append(told + (', to %s' % it.child.name if it.child is not None else '') + ('' if it.raw.strip().lower() == it.name else " (was '%s')" % shown(it.raw)))
             lines += ['      ' + note for note in it.notes]
-            lines += ["      FAULT: %s %s, as '%s': %s" % (counted(count, 'field'), what, folded(value)[:40], cure) for count, value, what, cure in it.faults]
+            lines += ["      FAULT: %s %s, as '%s': %s" % (counted(count, 'field'), what, shown(value)[:40], cure) for count, value, what, cure in it.faults]
         if not faults:
             alone, rest = singled_out(table)
             if alone:
@@ -695,15 +700,19 @@ def main():
                 if size > MOST_BYTES:
                     wrong = True
                     report.append('FAULT: %s.csv has %d bytes, and a file has at most %d: leave columns out, or split the table' % (table.name, size, MOST_BYTES))
-        with open(os.path.join(options.target, 'report.txt'), 'w', encoding='ascii', errors='replace') as file:
+        with open(os.path.join(options.target, 'report.txt'), 'w', encoding='utf-8', errors='replace') as file:
             file.write('\n'.join(report) + '\n')
     except OSError as error:
         sys.exit('%s: %s' % (error.filename, error.strerror))
     except (Stop, sqlite3.Error, csv.Error) as error:
         sys.exit(str(error))
+    sys.stdout.reconfigure(errors='replace')
     print('\n'.join(report))
     if not wrong:
-        print('next: key_program load --schema %s --data %s --flash K --visible V' % (os.path.join(options.target, 'schema.sql'), os.path.join(options.target, 'tables')))
+        top = os.path.relpath(os.path.join(os.path.dirname(os.path.realpath(__file__)), '..'))
+        print('next: %s load --schema %s --data %s --flash K --visible V' % (
+            os.path.join(top, 'crates', 'key_program', 'out', 'key_program'), os.path.join(options.target, 'schema.sql'), os.path.join(options.target, 'tables')))
+        print('then: %s K V "SELECT .."' % os.path.join(top, 'examples', 'ask'))
     sys.exit(1 if wrong else 0)
 
 
