@@ -1,5 +1,5 @@
 -- What a text's job finds, computed: a filter of one page, and the replies to two texts, each on several pages of its half of the spool.
-use Rattle.std.specs.Prelude.{◌≡◌, ℕ, ◌+◌, ◌/◌, ◌%◌, ◌^◌, ◌==◌, Bool, true, false, List, [], ◌∷◌, ◌++◌, codes, map, replicate, get_or, slice_set, Some, None, if◌then◌else◌}
+use Rattle.std.specs.Prelude.{◌≡◌, ℕ, ◌+◌, ◌/◌, ◌%◌, ◌^◌, ◌==◌, Bool, true, false, List, [], ◌∷◌, ◌++◌, codes, map, replicate, get_or, slice_set, None, if◌then◌else◌}
 use Rattle.std.specs.List.{concat, list_all}
 use Rattle.ghost_model.specs.core.Schema.{Chars}
 use Rattle.ghost_model.specs.core.Values.{Text}

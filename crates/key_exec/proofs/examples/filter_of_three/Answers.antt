@@ -1,4 +1,4 @@
-use Rattle.std.proofs.Common.{◌≡◌, refl, ℕ, true, false, [], ◌∷◌, arith}
+use Rattle.std.proofs.Common.{◌≡◌, refl, true, false, arith}
 use Rattle.bloom_post.specs.Places.{is_bit}
 use Rattle.bloom_post.specs.Filters.{is_set}
 use Rattle.key_exec.specs.Examples.{with_bits}

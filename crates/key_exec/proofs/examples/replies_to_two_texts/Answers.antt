@@ -1,4 +1,4 @@
-use Rattle.std.proofs.Common.{◌≡◌, refl, sym, subst, ap, ℕ, zero, suc, ◌<◌, ◌≤◌, List, [], ◌∷◌, length, drop, map, get_or, codes, true, arith}
+use Rattle.std.proofs.Common.{◌≡◌, refl, subst, ap, ℕ, zero, suc, ◌<◌, ◌≤◌, List, [], ◌∷◌, length, drop, map, get_or, codes, true, arith}
 use Rattle.std.proofs.lemmas.List.{length-map}
 use Rattle.ghost_model.specs.core.Asks.{row_in}
 use Rattle.ghost_model.specs.core.NextMove.{are_cells}
