@@ -4,6 +4,9 @@ use crate::texts::{put, put_text};
 use edge_traits::mem_flash::MemFlash;
 use std::alloc::{AllocError, Global};
 
+/// A page that is blank.
+const BLANK: [u8; 2048] = [0xFF; 2048];
+
 /// How many pages a flash has.
 fn count_of(flash: &MemFlash) -> u32 {
     let most = flash.room.saturating_mul(64);
@@ -17,6 +20,9 @@ fn count_of(flash: &MemFlash) -> u32 {
 
 /// A page up to its last byte that is not 0xFF.
 fn front_of(page: &[u8; 2048]) -> &[u8] {
+    if *page == BLANK {
+        return &[];
+    }
     match page.iter().rposition(|byte| *byte != 0xFF) {
         Some(last) => &page[..last + 1],
         None => &[],
