@@ -63,7 +63,8 @@ pub record IsHiddenOn (page : ℕ → List ℕ) (cat : Catalog) (hidden : Hidden
 abbrev pub HoldsNoPart : (ℕ → List ℕ) → Catalog → Type 0
 HoldsNoPart page cat = (hidden : Hidden) → IsHidden cat hidden → HoldsColumns page cat hidden → ⊥
 
--- pages and a file are those of a database: the pages begin with the catalog and hold the hidden part, the file is the image of the public part
+-- pages and a file are those of a database: the pages begin with the catalog and hold the hidden part, and the file is the image of the
+-- public part
 pub record AreOf (page : ℕ → List ℕ) (file : List ℕ) (cat : Catalog) (database : Database) : Type 0 where
   pub catalog : BeginsWithCatalog (public_bytes page) cat
   pub proper : IsDatabase cat.schema database
