@@ -1,8 +1,8 @@
 -- As many buffers are free or held, where others were taken over.
-use Rattle.std.proofs.Common.{◌≡◌, ◌+◌, ◌<◌, ◌≤◌, ◌&&◌, ◌∷◌, ℕ, List, Bool, true, not, nat_le, nat_lt, count_by, length, ap, arith}
+use Rattle.std.proofs.Common.{◌≡◌, ◌+◌, ◌<◌, ◌≤◌, ◌&&◌, ◌∷◌, ℕ, Bool, true, not, nat_le, nat_lt, count_by, length, ap, arith}
 use Rattle.std.proofs.lemmas.Bool.Decides.{nat_tests}
 use Rattle.edge_traits.specs.Devices.{Device}
-use Rattle.page_pool.specs.Pools.{Pool, AreOut, free_count, given, others_out}
+use Rattle.page_pool.specs.Pools.{Pool, AreOut, free_count, given}
 use Rattle.page_pool.proofs.Leases.{all_given_counts}
 use Rattle.page_pool.proofs.Marks.{given_counts}
 use Rattle.id_merge.specs.Cursors.{leases_of}

@@ -1,4 +1,4 @@
-use Rattle.std.proofs.Common.{rules, ◌∷◌, ◌+◌, ◌≡◌, ℕ, true, length, ap, sym, subst, arith}
+use Rattle.std.proofs.Common.{true, length, ap, arith}
 use Rattle.edge_traits.specs.MemDevices.{device_of}
 use Rattle.page_pool.specs.Pools.{Pool, free_count}
 use Rattle.id_merge.specs.Cursors.{leases_of}

@@ -1,4 +1,4 @@
-use Rattle.std.proofs.Common.{rules, ◌≡◌, ◌∙◌, true, length, ap, sym, subst, arith}
+use Rattle.std.proofs.Common.{◌∙◌, true, length, ap, arith}
 use Rattle.edge_traits.specs.MemDevices.{device_of}
 use Rattle.candidate_lists.specs.declared.candidates.Candidates.{Candidates}
 use Rattle.candidate_lists.specs.declared.scratch.Scratch.{Scratch}

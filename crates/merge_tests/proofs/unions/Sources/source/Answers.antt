@@ -1,7 +1,6 @@
 use Rattle.std.proofs.Common.{◌≡◌, ℕ, true, sym, subst, arith}
 use Rattle.std.specs.Prelude.{Option, IfSome}
 use Rattle.ghost_base.specs.Runs.{run_of}
-use Rattle.edge_traits.specs.Devices.{Device}
 use Rattle.page_pool.specs.Pools.{bytes_at}
 use Rattle.flash_pages.specs.Cursors.{IsPageOf}
 use Rattle.merge_tests.proofs.AreasLaid.{fewer_before, fewer_eights, fewer_fours, fewer_there, uses_in_front}
