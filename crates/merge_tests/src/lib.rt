@@ -15,6 +15,6 @@ pub mod reductions;
 pub mod rows;
 #[cfg(test)]
 mod sifting;
+pub mod unions;
 #[cfg(test)]
 mod uniting;
-pub mod unions;

@@ -45,7 +45,12 @@ fn came(alloc: Global, drawn: &Lists, members: &[Member]) -> Result<Came, Attach
         other_places: free,
     };
     let agreed = match united(members, sources, ROWS, scratch, &mut laid.flash, &mut pool) {
-        Ok(candidates) => agrees(candidates.merge(), &mut laid.flash, &mut pool, &drawn.wanted),
+        Ok(candidates) => agrees(
+            candidates.merge(),
+            &mut laid.flash,
+            &mut pool,
+            &drawn.wanted,
+        ),
         Err(fault) => Err(fault),
     };
     Ok((agreed, left_in(&mut pool)))
@@ -78,7 +83,14 @@ fn lists_of_several_sources_are_one_union(rt: HostRuntime) -> Result<(), AttachF
         let three = draw(&mut drawn, seed, third)?;
         note_range(&mut drawn.wanted, 2990, 2995);
         note_range(&mut drawn.wanted, 7, 9);
-        let members = [one, Member::Range(2990, 2995), two, three, Member::Range(7, 9), three];
+        let members = [
+            one,
+            Member::Range(2990, 2995),
+            two,
+            three,
+            Member::Range(7, 9),
+            three,
+        ];
         let (agreed, left) = came(rt.alloc(), &drawn, &members)?;
         assert!(rt; matches!(agreed, Ok(true)) && left == 64, "seed {seed}");
     }
