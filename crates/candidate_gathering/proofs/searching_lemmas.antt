@@ -18,3 +18,4 @@ pub mod TakingSpared
 pub mod ReadsGiven
 pub mod TakingCosted
 pub mod TakingCostsStay
+pub mod OneUnions
