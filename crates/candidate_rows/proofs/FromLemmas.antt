@@ -4,7 +4,7 @@ use Rattle.std.specs.List.{list_all, list_any}
 use Rattle.std.proofs.lemmas.Bool.{eqb-true, eqb-false}
 use Rattle.std.proofs.lemmas.Bool.Decides.{nat_tests}
 use Rattle.std.proofs.lemmas.List.{get_or-set_same, get_or-set_other, length-map, length-set}
-use Rattle.ghost_model.specs.core.Schema.{Schema, parent, ancestor, is_visible, first_of}
+use Rattle.ghost_model.specs.core.Schema.{Schema, parent, ancestor, is_visible, first_of, IsAtOrBelow}
 use Rattle.ghost_model.specs.core.Values.{Value, Row, Database}
 use Rattle.ghost_model.specs.core.Channel.{Catalog}
 use Rattle.ghost_model.specs.core.Database.{row_counts, row_of, rows_of, reference_column}
@@ -16,7 +16,7 @@ use Rattle.ghost_model.specs.forms.Layout.{descendants_of}
 use Rattle.ghost_model.specs.laws.LayoutLaws.{LevelsAreAncestors}
 use Rattle.ghost_model.specs.laws.SchemaTrees.{IsTree}
 use Rattle.ghost_model.specs.laws.QueryLaws.{OneReading}
-use Rattle.ghost_model.specs.laws.MeaningLaws.{IsAtOrBelow, LeadsFollowKeys, RowsLeadToRows}
+use Rattle.ghost_model.specs.laws.MeaningLaws.{LeadsFollowKeys, RowsLeadToRows}
 use Rattle.ghost_model.proofs.MeaningLemmas.OneRow.{Among, among_is, from_filter, both_true, neither_true}
 use Rattle.ghost_model.proofs.MeaningLemmas.Leading.{first_step, no_step, way_is_short, table_with_parent, get_within, to_itself_within, told_place, first_some, not_to_false}
 use Rattle.ghost_model.proofs.FlashLemmas.Values.{count_there}

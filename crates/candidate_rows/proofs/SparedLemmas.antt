@@ -4,8 +4,7 @@ use Rattle.std.specs.Prelude.{is_some}
 use Rattle.ghost_model.specs.core.Channel.{Catalog}
 use Rattle.ghost_model.specs.core.Values.{Database}
 use Rattle.ghost_model.specs.forms.Runs.{Run, record_at, page_of, slot_of, cell_in}
-use Rattle.ghost_model.specs.forms.Layout.{descendants_of, static_end}
-use Rattle.ghost_model.specs.laws.ShortWords.{subtree_table}
+use Rattle.ghost_model.specs.forms.Layout.{descendants_of, static_end, subtree_table}
 use Rattle.edge_traits.specs.Devices.{Device}
 use Rattle.flash_pages.proofs.RunFrames.{records_kept}
 use Rattle.subtree_keys.specs.Laws.{rows_spelled}

@@ -6,19 +6,17 @@ use Rattle.std.proofs.lemmas.Bool.{eqb-true, eqb-false, ltb-true, lt-ltb}
 use Rattle.std.proofs.lemmas.Bool.Decides.{nat_tests}
 use Rattle.std.proofs.lemmas.List.{get_or-set_other, length-set}
 use Rattle.std.proofs.lemmas.List.Sums.{sum_by-set}
-use Rattle.ghost_model.specs.core.Schema.{Schema, is_empty, ancestor}
+use Rattle.ghost_model.specs.core.Schema.{Schema, is_empty, ancestor, IsAtOrBelow}
 use Rattle.ghost_model.specs.core.Values.{Database}
 use Rattle.ghost_model.specs.core.Channel.{Catalog}
 use Rattle.ghost_model.specs.core.Query.{is_among}
 use Rattle.ghost_model.specs.core.Database.{IsDatabase}
 use Rattle.ghost_model.specs.core.Split.{hidden_of}
 use Rattle.ghost_model.specs.laws.SchemaTrees.{IsTree}
-use Rattle.ghost_model.specs.laws.MeaningLaws.{IsAtOrBelow}
 use Rattle.ghost_model.specs.laws.FlashLaws.{RowsLeadByHiddenValues}
 use Rattle.ghost_model.specs.laws.LayoutLaws.{RecordsStandWithin, StandWithin, LevelsAreAncestors}
 use Rattle.ghost_model.specs.forms.Runs.{Run, run_pages, page_of}
-use Rattle.ghost_model.specs.forms.Layout.{levels_of, above_of, is_below, tables_of, descendants_of, count_of, static_end}
-use Rattle.ghost_model.specs.laws.ShortWords.{subtree_table}
+use Rattle.ghost_model.specs.forms.Layout.{levels_of, above_of, is_below, tables_of, descendants_of, count_of, static_end, subtree_table}
 use Rattle.ghost_model.specs.forms.Flash.{leads_to}
 use Rattle.flash_layout.specs.Limits.{HasLayout}
 use Rattle.arrayvec.specs.ArrayVec.{ArrayVec}

@@ -12,11 +12,11 @@ use Rattle.ghost_model.specs.core.Values.{Database}
 use Rattle.ghost_model.specs.core.Split.{Hidden, hidden_of}
 use Rattle.ghost_model.specs.laws.LayoutLaws.{LieAsSummed, AreFew, LayoutIsSmall, FilesLieAsSummed}
 use Rattle.ghost_model.specs.laws.ListLaws.{ListsAscend}
-use Rattle.ghost_model.specs.laws.GapLaws.{AreLevelLists, LevelFilesFit, LevelListsHaveCodes, ListsBeginAtCodes, ReadsCode}
+use Rattle.ghost_model.specs.laws.GapLaws.{AreLevelLists, LevelFilesFit, LevelListsHaveCodes, ListsBeginAtCodes}
 use Rattle.ghost_model.specs.laws.FlashLaws.{CellsFit, HiddenCellsFit, HiddenPartsGoWithCatalogs}
 use Rattle.ghost_model.specs.laws.RunLaws.{NumbersAreRead}
 use Rattle.ghost_model.specs.forms.Runs.{Run, record_at, number_in, number_cell}
-use Rattle.ghost_model.specs.forms.Gaps.{are_codes, code_at, code_in, code_place, gaps_of, list_begin, reading_at, rest_at}
+use Rattle.ghost_model.specs.forms.Gaps.{are_codes, code_at, code_in, code_place, gaps_of, list_begin, reading_at, rest_at, ReadsCode}
 use Rattle.ghost_model.specs.laws.ShortWords as short
 use Rattle.ghost_model.specs.forms.Layout.{is_hidden, width_at, count_of, levels_of, above_of, below, File, IndexDirectory, IndexLevel, IdDirectory, IdLevel}
 use Rattle.ghost_model.specs.laws.ShortWords.{index_level, id_level, first_listed}
@@ -36,6 +36,7 @@ use Rattle.climbing_index.proofs.ListPlaces.{first_in, second_in, places, at_pla
 use Rattle.climbing_index.proofs.Codes.{bytes_fit, list_ends}
 use Rattle.climbing_index.proofs.ReadLists.{HasCodes, HasCodesBut, IsPlaced, list_but, none_broken, reads_alike, whole_list}
 use Rattle.climbing_index.proofs.HeldIndexes.{same_entry, same_id_entry, value_wide}
+use Rattle.ghost_model.proofs.LayoutLemmas.Limited.{limited_by}
 
 -- a slot that may stand has its record
 pub its_record : (page : ℕ → List ℕ) (cat : Catalog) (file : File) (place : ℕ) (bytes : List ℕ) → HasRecordBut page cat file place bytes
@@ -251,35 +252,35 @@ module _ (laid : FilesLieAsSummed) (small : LayoutIsSmall) (fit : HiddenCellsFit
     (wide : (number : ℕ) → length (number_cell number) ≡ 4) (ascend : ListsAscend) (have_codes : LevelListsHaveCodes) (begin_at : ListsBeginAtCodes) (room : LevelFilesFit)
     (but : WholeIndexesAreHeldBut) where
   cells : (cat : Catalog) (database : Database) → IsOf cat database → CellsFit cat (hidden_of cat.schema database)
-  cells cat database of = fit cat _ of.limited.tree (parts cat database of.is of.counts)
+  cells cat database of = fit cat _ (limited_by cat of.proper).tree (parts cat database of.is of.counts)
 
   pub value_lists_are : ListsAreOfValues
   value_lists_are = record {
     whole = λ page cat database of table column h values holds index is entry level there low list given.
-        value_list cat (hidden_of cat.schema database) (laid cat) (small.few cat of.limited) read wide ascend have_codes begin_at room (cells cat database of)
+        value_list cat (hidden_of cat.schema database) (laid cat) (small.few cat (limited_by cat of.proper)) read wide ascend have_codes begin_at room (cells cat database of)
         table column h values holds.are_values entry level there low index is page (but.index page cat _ table column values holds) list given page holds;
     but = λ page cat database of table column h values holds index is entry level there low list given.
-        value_list_but cat (hidden_of cat.schema database) (laid cat) (small.few cat of.limited) read wide ascend have_codes begin_at room (cells cat database of)
+        value_list_but cat (hidden_of cat.schema database) (laid cat) (small.few cat (limited_by cat of.proper)) read wide ascend have_codes begin_at room (cells cat database of)
         table column h values holds.are_values entry level there low index is page holds list given page holds;
   }
 
   pub id_lists_are : ListsAreOfIdentifiers
   id_lists_are = record {
     whole = λ page cat database of table inside holds index is entry level there low list given.
-        id_list cat (hidden_of cat.schema database) (laid cat) (small.few cat of.limited) read wide ascend have_codes begin_at room
+        id_list cat (hidden_of cat.schema database) (laid cat) (small.few cat (limited_by cat of.proper)) read wide ascend have_codes begin_at room
         table inside entry level there low index is page (but.id_index page cat _ table holds) list given page holds;
     but = λ page cat database of table inside holds index is entry level there low list given.
-        id_list_but cat (hidden_of cat.schema database) (laid cat) (small.few cat of.limited) read wide ascend have_codes begin_at room
+        id_list_but cat (hidden_of cat.schema database) (laid cat) (small.few cat (limited_by cat of.proper)) read wide ascend have_codes begin_at room
         table inside entry level there low index is page holds list given page holds;
   }
 
   pub lists_are_read : ListsAreRead
   lists_are_read = record {
     values = λ page right cat database of table column h values whole held index is entry level there low list given.
-        value_alike cat (hidden_of cat.schema database) (laid cat) (small.few cat of.limited) read wide ascend have_codes begin_at room (cells cat database of)
+        value_alike cat (hidden_of cat.schema database) (laid cat) (small.few cat (limited_by cat of.proper)) read wide ascend have_codes begin_at room (cells cat database of)
         table column h values whole.are_values entry level there low index is right (but.index right cat _ table column values whole) list given page right whole held;
     identifiers = λ page right cat database of table inside whole held index is entry level there low list given.
-        id_alike cat (hidden_of cat.schema database) (laid cat) (small.few cat of.limited) read wide ascend have_codes begin_at room
+        id_alike cat (hidden_of cat.schema database) (laid cat) (small.few cat (limited_by cat of.proper)) read wide ascend have_codes begin_at room
         table inside entry level there low index is right (but.id_index right cat _ table whole) list given page right whole held;
   }
 
@@ -291,11 +292,11 @@ module _ (laid : FilesLieAsSummed) (small : LayoutIsSmall) (fit : HiddenCellsFit
       → IsBrokenCode page cat (IndexLevel table column level) (IndexDirectory table column) (width_at cat.schema table column + 8 * level)
       (count_of cat (slice_index (levels_of cat.schema table) level)) place → ⊥
   none_of_values page cat database of table column h values whole level low place broken =
-      let million = (small.few cat of.limited).rows table in
+      let million = (small.few cat (limited_by cat of.proper)).rows table in
       let most = whole.few in
       let told = ap (λ bytes. number_in bytes 0) whole.header.is ∙ read (length values) (omega (arith, million, most)) in
       let there = broken.there in
-      let good = value_code_stands cat (hidden_of cat.schema database) (laid cat) (small.few cat of.limited) read wide ascend have_codes begin_at room (cells cat database of)
+      let good = value_code_stands cat (hidden_of cat.schema database) (laid cat) (small.few cat (limited_by cat of.proper)) read wide ascend have_codes begin_at room (cells cat database of)
       table column h values whole.are_values broken.entry level (omega (arith, told, there)) low page whole broken.i place broken.last broken.within broken.gets in
       let clash = sym good ∙ broken.broken in
       cc (clash)
@@ -305,7 +306,7 @@ module _ (laid : FilesLieAsSummed) (small : LayoutIsSmall) (fit : HiddenCellsFit
       → (level : ℕ) → level < length (above_of cat.schema table) → (place : ℕ)
       → IsBrokenCode page cat (IdLevel table level) (IdDirectory table) (8 * level) (count_of cat (slice_index (above_of cat.schema table) level)) place → ⊥
   none_of_ids page cat database of table inside whole level low place broken =
-      let good = id_code_stands cat (hidden_of cat.schema database) (laid cat) (small.few cat of.limited) read wide ascend have_codes begin_at room
+      let good = id_code_stands cat (hidden_of cat.schema database) (laid cat) (small.few cat (limited_by cat of.proper)) read wide ascend have_codes begin_at room
       table inside broken.entry level broken.there low page whole broken.i place broken.last broken.within broken.gets in
       let clash = sym good ∙ broken.broken in
       cc (clash)

@@ -6,9 +6,9 @@ use Rattle.std.proofs.lemmas.Bool.{cases_lt, le-leb}
 use Rattle.ghost_model.specs.core.Channel.{Catalog}
 use Rattle.ghost_model.specs.forms.Layout.{count_of}
 use Rattle.ghost_model.specs.forms.Runs.{Run}
-use Rattle.ghost_model.specs.forms.Gaps.{Reading, after_code, are_codes, code_at, code_in, code_place, gaps_of, last_of, list_begin, listed, listed_from, read_on, reading_at, reading_of, rest_at}
+use Rattle.ghost_model.specs.forms.Gaps.{Reading, after_code, are_codes, code_at, code_in, code_place, gaps_of, last_of, list_begin, listed, listed_from, read_on, reading_at, reading_of, rest_at, ReadsCode}
 use Rattle.ghost_model.specs.forms.Slots.{code_stands, is_row}
-use Rattle.ghost_model.specs.laws.GapLaws.{AreLevelLists, ListsBeginAtCodes, LevelListsHaveCodes, ReadsCode}
+use Rattle.ghost_model.specs.laws.GapLaws.{AreLevelLists, ListsBeginAtCodes, LevelListsHaveCodes}
 use Rattle.ghost_base.specs.declared.runs.ListRef.{ListRef}
 use Rattle.ghost_base.specs.Runs.{run_of}
 use Rattle.climbing_index.specs.Laws.{GetsTo, HasList, HasListBut, ReadsAlike}

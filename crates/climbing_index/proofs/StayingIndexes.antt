@@ -5,18 +5,19 @@ use Rattle.ghost_model.specs.core.Schema.{is_empty}
 use Rattle.ghost_model.specs.core.Channel.{Catalog}
 use Rattle.ghost_model.specs.core.Split.{Hidden}
 use Rattle.ghost_model.specs.forms.Runs.{Run}
-use Rattle.ghost_model.specs.forms.Gaps.{code_in, code_of, code_place, gaps_of, rest_at}
+use Rattle.ghost_model.specs.forms.Gaps.{code_in, code_of, code_place, gaps_of, rest_at, ReadsCode}
 use Rattle.ghost_model.specs.forms.Layout.{is_hidden, count_of, levels_of, above_of, File, IndexHeader, IndexDirectory, IndexLevel, IdDirectory, IdLevel}
 use Rattle.ghost_model.specs.forms.Slots.{code_stands, has_file, in_slot, level_room, may_stand}
 use Rattle.ghost_model.specs.laws.ShortWords.{id_level, index_level}
 use Rattle.ghost_model.specs.laws.LayoutLaws.{AreFew, LayoutIsSmall}
 use Rattle.ghost_model.specs.laws.ListLaws.{ListsAscend}
-use Rattle.ghost_model.specs.laws.GapLaws.{AreLevelLists, LevelFilesFit, ReadsCode}
+use Rattle.ghost_model.specs.laws.GapLaws.{AreLevelLists, LevelFilesFit}
 use Rattle.climbing_index.specs.Holding.{HasRecord, HasRecordBut, HoldsIndexBut, HoldsIndexWhole, HoldsIdIndexBut, HoldsIdIndexWhole, ids_at, values_at}
 use Rattle.climbing_index.specs.Laws.{HaveSameSlots, HeldIndexesStay, ReadingsStay}
 use Rattle.climbing_index.proofs.LevelFiles.{id_level_room, index_level_room}
 use Rattle.climbing_index.proofs.Codes.{bytes_fit, code_stands_before}
 use Rattle.climbing_index.proofs.Readings.{code_inside, code_same, filling_same, of_codes, reading_same}
+use Rattle.ghost_model.proofs.LayoutLemmas.Limited.{limited_by}
 
 has_level : (cat : Catalog) (table column level : ℕ) → is_hidden cat.schema table column ≡ true → level < length (levels_of cat.schema table)
     → has_file cat.schema (IndexLevel table column level) ≡ true
@@ -146,10 +147,10 @@ module _ (cat : Catalog) (hidden : Hidden) (few : AreFew cat) (ascend : ListsAsc
 
 pub indexes_stay : LayoutIsSmall → ListsAscend → LevelFilesFit → HeldIndexesStay
 indexes_stay small ascend room = record {
-  whole = λ page now cat database of same table column h values holds. whole_stays cat _ (small.few cat of.limited) ascend room page now same table column h values holds;
-  but = λ page now cat database of same table column h values holds. but_stays cat _ (small.few cat of.limited) ascend room page now same table column h values holds;
-  id_whole = λ page now cat database of same table there above holds. id_whole_stays cat _ (small.few cat of.limited) ascend room page now same table above holds;
-  id_but = λ page now cat database of same table there above holds. id_but_stays cat _ (small.few cat of.limited) ascend room page now same table above holds;
+  whole = λ page now cat database of same table column h values holds. whole_stays cat _ (small.few cat (limited_by cat of.proper)) ascend room page now same table column h values holds;
+  but = λ page now cat database of same table column h values holds. but_stays cat _ (small.few cat (limited_by cat of.proper)) ascend room page now same table column h values holds;
+  id_whole = λ page now cat database of same table there above holds. id_whole_stays cat _ (small.few cat (limited_by cat of.proper)) ascend room page now same table above holds;
+  id_but = λ page now cat database of same table there above holds. id_but_stays cat _ (small.few cat (limited_by cat of.proper)) ascend room page now same table above holds;
 }
 
 pub readings_stay : ReadingsStay

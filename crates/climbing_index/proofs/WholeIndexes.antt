@@ -10,7 +10,7 @@ use Rattle.std.proofs.lemmas.List.Elements.{Contains-get_or}
 use Rattle.std.proofs.lemmas.List.FromFn.{get_or-map-range_with_len, get_or-range_with_len, length-range_with_len}
 use Rattle.std.proofs.lemmas.List.Sorted.{IsPermutation-sym, Contains-permutation, length_permutation}
 use Rattle.std.proofs.lemmas.Option.{slice_get-get_or}
-use Rattle.ghost_model.specs.core.Schema.{is_empty, is_table}
+use Rattle.ghost_model.specs.core.Schema.{is_empty, is_table, IsAtOrBelow}
 use Rattle.ghost_model.specs.laws.ShortWords.{id_level, index_level}
 use Rattle.ghost_model.specs.core.Values.{Database}
 use Rattle.ghost_model.specs.core.Channel.{Catalog}
@@ -18,14 +18,13 @@ use Rattle.ghost_model.specs.core.Asks.{kind_at}
 use Rattle.ghost_model.specs.core.Database.{rows_of, value_at_row}
 use Rattle.ghost_model.specs.core.Split.{Hidden, hidden_of}
 use Rattle.ghost_model.specs.readings.CellReading.{decode_cell}
-use Rattle.ghost_model.specs.laws.MeaningLaws.{IsAtOrBelow}
 use Rattle.ghost_model.specs.laws.LayoutLaws.{LieAsSummed, LieInOrder, AreFew, LevelsAreAncestors, FilesLieAsSummed, FilesLieInOrder, LayoutIsSmall}
 use Rattle.ghost_model.specs.laws.ListLaws.{ListsPartition, IdListsPartition, ListsAscend}
-use Rattle.ghost_model.specs.laws.GapLaws.{AreLevelLists, CodesAreReadFromPages, LevelFilesFit, LevelListsHaveCodes, ReadsCode}
+use Rattle.ghost_model.specs.laws.GapLaws.{AreLevelLists, CodesAreReadFromPages, LevelFilesFit, LevelListsHaveCodes}
 use Rattle.ghost_model.specs.laws.FlashLaws.{CellsFit, HiddenValuesOfDatabases, HiddenCellsFit, HiddenPartsGoWithCatalogs}
 use Rattle.ghost_model.specs.laws.RunLaws.{NumbersAreRead}
 use Rattle.ghost_model.specs.forms.Runs.{Run, page_bytes, pages_of, record_at, number_in, number_cell}
-use Rattle.ghost_model.specs.forms.Gaps.{StoresBytes, code_in, code_of, code_place, gaps_of, level_bytes, rest_at}
+use Rattle.ghost_model.specs.forms.Gaps.{StoresBytes, code_in, code_of, code_place, gaps_of, level_bytes, rest_at, ReadsCode}
 use Rattle.ghost_model.specs.forms.Layout.{is_hidden, width_at, count_of, levels_of, above_of, IndexHeader, IndexDirectory, IndexLevel, IdDirectory, IdLevel}
 use Rattle.ghost_model.specs.forms.Flash.{HoldsIndex, HoldsIdIndexes, AreValues, cell_led_to, hidden_cells, directory_record, leads_to, value_lists, id_lists, ids}
 use Rattle.ghost_model.specs.forms.Slots.{in_slot, may_stand, code_stands, are_places}
@@ -37,6 +36,7 @@ use Rattle.climbing_index.proofs.LevelFiles.{id_level_room, index_level_room}
 use Rattle.climbing_index.proofs.ListPlaces.{places, stand}
 use Rattle.climbing_index.proofs.Codes.{bytes_fit, gap_within, list_ends}
 use Rattle.climbing_index.proofs.Readings.{code_inside}
+use Rattle.ghost_model.proofs.LayoutLemmas.Limited.{limited_by}
 
 pub held_but : WholeIndexesAreHeldBut
 held_but = record {
@@ -96,13 +96,13 @@ module _ (cat : Catalog) (database : Database) (of : IsOf cat database) (levels 
   pub above_level : (table level : ℕ) → table < length cat.schema → level < length (levels_of cat.schema table)
       → IsAtOrBelow cat.schema (slice_index (levels_of cat.schema table) level) table
   above_level table level there low =
-      (level, sym (levels cat.schema of.limited.tree table level there) ∙ slice_get-get_or (levels_of cat.schema table) level 0 low)
+      (level, sym (levels cat.schema (limited_by cat of.proper).tree table level there) ∙ slice_get-get_or (levels_of cat.schema table) level 0 low)
 
   pub above_id_level : (table level : ℕ) → table < length cat.schema → level < length (above_of cat.schema table)
       → IsAtOrBelow cat.schema (slice_index (above_of cat.schema table) level) table
   above_id_level table level there low =
       let at = one_later (levels_of cat.schema table) level (slice_index (above_of cat.schema table) level) (slice_get-get_or (above_of cat.schema table) level 0 low) in
-      (suc level, sym (levels cat.schema of.limited.tree table (suc level) there) ∙ at)
+      (suc level, sym (levels cat.schema (limited_by cat of.proper).tree table (suc level) there) ∙ at)
 
   -- lists that have each row once have rows
   pub record HasRows (from : ℕ) (all : List ℕ) : Type 0 where
@@ -134,14 +134,14 @@ module _ (cat : Catalog) (database : Database) (of : IsOf cat database) (levels 
   value_rows partition table column level h there low values are =
       let from = slice_index (levels_of cat.schema table) level in
       have_rows from (concat (values_at cat hidden table column values level))
-      (partition cat database of.limited.tree of.is of.counts table column from h (above_level table level there low) values are)
+      (partition cat database (limited_by cat of.proper).tree of.is of.counts table column from h (above_level table level there low) values are)
 
   pub id_rows : IdListsPartition → (table level : ℕ) → table < length cat.schema → level < length (above_of cat.schema table)
       → HasRows (slice_index (above_of cat.schema table) level) (concat (ids_at cat hidden table level))
   id_rows partition table level there low =
       let from = slice_index (above_of cat.schema table) level in
       have_rows from (concat (ids_at cat hidden table level))
-      (partition cat database of.limited.tree of.is of.counts table from (above_id_level table level there low))
+      (partition cat database (limited_by cat of.proper).tree of.is of.counts table from (above_id_level table level there low))
 
   -- the directory of a climbing index
   module _ (laid : LieAsSummed cat) (order : LieInOrder cat) (fit : CellsFit cat hidden) (values_are : HiddenValuesOfDatabases)
@@ -166,7 +166,7 @@ module _ (cat : Catalog) (database : Database) (of : IsOf cat database) (levels 
         let held = get_within row.0 column (omega (arith, width, within)) in
         let value : value_at_row database table (suc place) column ≡ Some held.0 =
         ap (option_and_then (λ r. slice_get r column)) row.1 ∙ held.1 in
-        ap is_some (fit.value table column place cell h at ∙ (values_are cat.schema database of.limited.tree of.is table (suc place) column h ∙ value))
+        ap is_some (fit.value table column place cell h at ∙ (values_are cat.schema database (limited_by cat of.proper).tree of.is table (suc place) column h ∙ value))
 
     module _ (page : ℕ → List ℕ) (holds : HoldsIndex page cat (hidden_of cat.schema database) table column) where
       level_lists : (from : ℕ) → AreLevelLists (count_of cat from) (value_lists cat hidden table column holds.values from)
@@ -281,9 +281,9 @@ module _ (levels : LevelsAreAncestors) (small : LayoutIsSmall) (read : NumbersAr
     (have_codes : LevelListsHaveCodes) (are_read : CodesAreReadFromPages) (room : LevelFilesFit) where
   pub whole_indexes : FilesLieAsSummed → FilesLieInOrder → HiddenCellsFit → HiddenPartsGoWithCatalogs → HiddenValuesOfDatabases → HeldIndexesAreWhole
   whole_indexes laid order fit parts values page cat database of table column h holds =
-      whole cat database of levels (small.few cat of.limited) read (laid cat) (order cat) (fit cat _ of.limited.tree (parts cat database of.is of.counts)) values
+      whole cat database of levels (small.few cat (limited_by cat of.proper)) read (laid cat) (order cat) (fit cat _ (limited_by cat of.proper).tree (parts cat database of.is of.counts)) values
       ascend have_codes are_read room wide table column h page holds
 
   pub whole_id_indexes : HeldIdIndexesAreWhole
   whole_id_indexes page cat database of holds table there above =
-      id_whole cat database of levels (small.few cat of.limited) read ascend have_codes are_read room wide page holds table there above
+      id_whole cat database of levels (small.few cat (limited_by cat of.proper)) read ascend have_codes are_read room wide page holds table there above

@@ -5,10 +5,9 @@ use Rattle.ghost_model.specs.core.Channel.{Catalog}
 use Rattle.ghost_model.specs.core.Split.{Hidden}
 use Rattle.ghost_model.specs.forms.Layout.{count_of, levels_of, above_of, File, IndexHeader, IndexDirectory, IndexLevel, IdDirectory, IdLevel, run_of_file}
 use Rattle.ghost_model.specs.forms.Runs.{number_cell}
-use Rattle.ghost_model.specs.forms.Gaps.{code_place, gaps_of}
+use Rattle.ghost_model.specs.forms.Gaps.{code_place, gaps_of, ReadsCode}
 use Rattle.ghost_model.specs.forms.Flash.{AreValues, hidden_cells, directory_record, value_lists, id_lists}
 use Rattle.ghost_model.specs.forms.Slots.{in_slot, may_stand}
-use Rattle.ghost_model.specs.laws.GapLaws.{ReadsCode}
 
 -- the slot has this record, which may stand there
 pub record HasRecord (page : ℕ → List ℕ) (cat : Catalog) (file : File) (place : ℕ) (bytes : List ℕ) : Type 0 where

@@ -23,10 +23,11 @@ use Rattle.climbing_index.specs.Directories.{FailsAt, GivesListed, entry_stands,
 use Rattle.climbing_index.specs.Holding.{HoldsIndexWhole, HoldsIndexBut, HoldsIdIndexWhole, HoldsIdIndexBut, values_at, ids_at}
 use Rattle.climbing_index.specs.Indexes.{IsIndexOf, IsIdIndexOf}
 use Rattle.climbing_index.specs.Searches.{AllAscend, HasIndex, FailsIn, most_entries, header_count, rows_of}
+use Rattle.ghost_model.specs.forms.Catalog.{IsCatalog}
 
--- a database of a catalog within the limits, whose numbers of rows are the catalog's
+-- a database of a catalog, whose numbers of rows are the catalog's
 pub record IsOf (cat : Catalog) (database : Database) : Type 0 where
-  pub limited : IsLimited cat
+  pub proper : IsCatalog cat
   pub is : IsDatabase cat.schema database
   pub counts : row_counts database ≡ cat.counts
 

@@ -7,13 +7,12 @@ use Rattle.std.proofs.lemmas.Bool.{cases_lt, eqb-true, lt-ltb}
 use Rattle.std.proofs.lemmas.Bool.Decides.{nat_tests}
 use Rattle.std.proofs.lemmas.List.Sums.{fails_before_first}
 use Rattle.std.proofs.lemmas.Option.{slice_get-get_or, slice_get_within}
-use Rattle.ghost_model.specs.core.Schema.{Schema, Column, plain_of, column_at, is_nullable, is_shown, is_visible, parent, first_of}
+use Rattle.ghost_model.specs.core.Schema.{Schema, Column, plain_of, column_at, is_nullable, is_shown, is_visible, parent, first_of, IsAtOrBelow}
 use Rattle.ghost_model.specs.core.Query.{Query, Field, Test, Compared, IsNull, IsNotNull, Member, Condition, OneOf, Join, tested, is_among, top_of}
 use Rattle.ghost_model.specs.core.Database.{is_of_kind}
 use Rattle.ghost_model.specs.core.Asks.{kind_at, kind_or_none}
 use Rattle.ghost_model.specs.forms.Layout.{is_hidden, levels_of}
 use Rattle.ghost_model.specs.laws.LayoutLaws.{LevelsAreAncestors}
-use Rattle.ghost_model.specs.laws.MeaningLaws.{IsAtOrBelow}
 use Rattle.ghost_model.specs.laws.QueryLaws.{OneReading}
 use Rattle.ghost_model.specs.laws.SchemaTrees.{IsTree}
 use Rattle.ghost_model.proofs.MeaningLemmas.OneRow.{Among, among_is, both_true, either_true}

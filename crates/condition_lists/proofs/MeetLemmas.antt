@@ -5,7 +5,7 @@ use Rattle.std.proofs.lemmas.Bool.{lt-ltb}
 use Rattle.std.proofs.lemmas.Bool.Decides.{nat_tests}
 use Rattle.std.specs.List.{list_all}
 use Rattle.std.specs.Option.{option_map_or}
-use Rattle.ghost_model.specs.core.Schema.{Schema, Column, column_at, columns_of, is_nullable, is_shown, is_visible}
+use Rattle.ghost_model.specs.core.Schema.{Schema, Column, column_at, columns_of, is_nullable, is_shown, is_visible, IsAtOrBelow}
 use Rattle.ghost_model.specs.core.Values.{Value, Number, Row, Database, is_null}
 use Rattle.ghost_model.specs.core.Channel.{Catalog}
 use Rattle.ghost_model.specs.core.Database.{holds, leads, row_of, value_at_row}
@@ -18,7 +18,7 @@ use Rattle.ghost_model.specs.core.Split.{hidden_of}
 use Rattle.ghost_model.specs.refusals.QueryMeaning.{field}
 use Rattle.ghost_model.specs.forms.Layout.{is_hidden}
 use Rattle.ghost_model.specs.laws.LayoutLaws.{LevelsAreAncestors}
-use Rattle.ghost_model.specs.laws.MeaningLaws.{IsAtOrBelow, LeadsFollowKeys}
+use Rattle.ghost_model.specs.laws.MeaningLaws.{LeadsFollowKeys}
 use Rattle.ghost_model.specs.laws.FlashLaws.{HiddenValuesOfDatabases}
 use Rattle.ghost_model.proofs.MeaningLemmas.Leading.{get_within, place_within}
 use Rattle.ghost_laws.specs.Scans.{led_value, known_along, holds_or_asked_along, stands_along}

@@ -2,12 +2,12 @@
 use Rattle.std.proofs.Common.{◌≡◌, ◌∙◌, refl, ap, sym, ℕ, zero, suc, ◌+◌, ◌<◌, Bool, true, false, nat_eq, nat_lt, length, slice_get, Option, Some, None, option_and_then, if◌then◌else◌, arith}
 use Rattle.std.specs.Prelude.{position, is_some}
 use Rattle.std.proofs.lemmas.Bool.{ltb-true}
-use Rattle.ghost_model.specs.core.Schema.{Schema, ancestor}
+use Rattle.ghost_model.specs.core.Schema.{Schema, ancestor, IsAtOrBelow}
 use Rattle.ghost_model.specs.core.Values.{Database}
 use Rattle.ghost_model.specs.core.Database.{leads, points_to}
 use Rattle.ghost_model.specs.forms.Layout.{levels_of}
 use Rattle.ghost_model.specs.laws.LayoutLaws.{LevelsAreAncestors}
-use Rattle.ghost_model.specs.laws.MeaningLaws.{IsAtOrBelow, LeadsFollowKeys}
+use Rattle.ghost_model.specs.laws.MeaningLaws.{LeadsFollowKeys}
 use Rattle.ghost_model.specs.laws.SchemaTrees.{IsTree}
 use Rattle.ghost_model.proofs.MeaningLemmas.Leading.{first_step, one_step_more, no_step}
 use Rattle.condition_lists.specs.Terms.{level_in, has_level}

@@ -2,7 +2,7 @@
 use Rattle.std.proofs.Common.{◌≡◌, ◌∙◌, refl, ap, sym, ℕ, zero, suc, ◌<◌, length, Bool, true, false, ◌&&◌, List, slice_get, slice_index, Option, Some, None, arith}
 use Rattle.std.specs.Prelude.{not}
 use Rattle.std.specs.Option.{option_map_or}
-use Rattle.ghost_model.specs.core.Schema.{Schema, Table, Column, Kind, Integer, Chars, IntegerOrNull, CharsOrNull, columns_or_none, column_at, is_nullable, is_shown, is_visible}
+use Rattle.ghost_model.specs.core.Schema.{Schema, Table, Column, Kind, Integer, Chars, IntegerOrNull, CharsOrNull, columns_or_none, column_at, is_nullable, is_shown, is_visible, IsAtOrBelow}
 use Rattle.ghost_model.specs.core.Values.{Value, Null, Number, Text, Row, Database, is_null}
 use Rattle.ghost_model.specs.core.Channel.{Catalog}
 use Rattle.ghost_model.specs.core.Asks.{kind_at, kind_or_none}
@@ -10,7 +10,7 @@ use Rattle.ghost_model.specs.core.Database.{is_of_kind, row_of, rows_of, value_a
 use Rattle.ghost_model.specs.forms.Layout.{is_hidden, count_of, levels_of}
 use Rattle.ghost_model.specs.laws.LayoutLaws.{LevelsAreAncestors}
 use Rattle.ghost_model.specs.laws.SchemaTrees.{IsTree, identifier}
-use Rattle.ghost_model.specs.laws.MeaningLaws.{IsAtOrBelow, LeadsFollowKeys, Lands}
+use Rattle.ghost_model.specs.laws.MeaningLaws.{LeadsFollowKeys, Lands}
 use Rattle.ghost_model.proofs.MeaningLemmas.Leading.{get_within, place_within}
 use Rattle.ghost_model.proofs.FlashLemmas.Values.{count_there}
 use Rattle.flash_layout.specs.Ranges.{IsRowOf}

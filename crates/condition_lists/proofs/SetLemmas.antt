@@ -4,7 +4,7 @@ use Rattle.std.specs.Prelude.{◌≢◌, ◌||◌, unwrap_or}
 use Rattle.std.specs.List.{list_all}
 use Rattle.std.specs.Option.{option_map_or}
 use Rattle.std.proofs.lemmas.Bool.{eqb-true}
-use Rattle.ghost_model.specs.core.Schema.{Schema, is_visible}
+use Rattle.ghost_model.specs.core.Schema.{Schema, is_visible, IsAtOrBelow}
 use Rattle.ghost_model.specs.core.Values.{Database}
 use Rattle.ghost_model.specs.core.Channel.{Catalog}
 use Rattle.ghost_model.specs.core.Database.{leads}
@@ -16,7 +16,7 @@ use Rattle.ghost_model.specs.core.Split.{hidden_of}
 use Rattle.ghost_model.specs.refusals.QueryMeaning.{has_repeat}
 use Rattle.ghost_model.specs.laws.FlashLaws.{HiddenValuesOfDatabases}
 use Rattle.ghost_model.specs.laws.LayoutLaws.{LevelsAreAncestors}
-use Rattle.ghost_model.specs.laws.MeaningLaws.{IsAtOrBelow, LeadsFollowKeys}
+use Rattle.ghost_model.specs.laws.MeaningLaws.{LeadsFollowKeys}
 use Rattle.ghost_model.specs.laws.QueryLaws.{OneReading}
 use Rattle.ghost_model.specs.laws.SchemaTrees.{IsTree}
 use Rattle.ghost_model.proofs.MeaningLemmas.OneRow.{among_is, both_true, neither_true}

@@ -1,7 +1,6 @@
 //! Whether foreign keys are identifiers of rows.
 
 ghost use Rattle.std.specs.Prelude.{◌≡◌, ◌≤◌, ◌<◌, ◌+◌, length, map};
-ghost use Rattle.ghost_model.specs.laws.ShortWords as short;
 ghost use Rattle.ghost_model.specs.laws.LoadLaws as load_laws;
 ghost use Rattle.ghost_model.specs.core.Database as database;
 ghost use Rattle.ghost_model.specs.refusals.LoadFaults as faults;
@@ -19,7 +18,7 @@ use tree_schema::{Column, Schema};
 
 /// Tells the first foreign key, by table, record and column, that is the identifier of no row of its child table.
 pub fn check_references(schema: &Schema, tables: &Tables) -> Result<(), LoadFault>
-    ensures judged { load_laws.Judges told result (short.reference_faults schema.now tables.now) }
+    ensures judged { load_laws.Judges told result (faults.reference_faults schema.now tables.now) }
     ensures tells { NeverWants result }
 {
     for table in 0..schema.tables() {

@@ -18,6 +18,7 @@ use Rattle.entry_lists.specs.ReplyLaws.{AreBegun, AreListsOf, RepliesDamageSlots
 use Rattle.entry_lists.proofs.ListSizes.{before, before_next, most, rises}
 use Rattle.entry_lists.proofs.ValueLists.{id_entry, id_size, id_width_is}
 use Rattle.entry_lists.proofs.DamagedLists.{directory_damage, id_code_damage}
+use Rattle.ghost_model.proofs.LayoutLemmas.Limited.{limited_by}
 
 -- rows whose identifiers ascend above one, up to another
 pub record AreAbove (low high : ℕ) (rows : List (List ℕ)) : Type 0 where
@@ -89,8 +90,8 @@ module _ (page right : ℕ → List ℕ) (rows levels entries : ℕ) (directory 
 
 pub have_id_lists : LevelsAreAncestors → FilesLieAsSummed → FilesLieInOrder → LayoutIsSmall → NumbersAreRead → IdListsPartition → ListsAreRead → RepliesHaveIdLists
 have_id_lists levels laid order small read partition lists_are page right cat database of table there whole but index is lists are begun held holds =
-    let few = small.few cat of.limited in
-    let narrow = small.narrow cat of.limited.tree in
+    let few = small.few cat (limited_by cat of.proper) in
+    let narrow = small.narrow cat (limited_by cat of.proper).tree in
     let width = id_width_is cat database of levels (laid cat) (order cat) few read page right lists_are partition table there whole but index is lists.level are.level in
     all_have page right (rows_at cat (above_of cat.schema table) lists.level) (length (above_of cat.schema table)) (count_of cat table) index.directory lists are begun
     (omega (arith, width, are.level)) (omega (arith, width, narrow.id_directory table)) held holds

@@ -36,6 +36,7 @@ use Rattle.entry_lists.specs.Laws.{AreBegun, AreListsOf, EntriesHaveIdLists, Ent
 use Rattle.entry_lists.proofs.Ascending.{Ascends, rows_ascend}
 use Rattle.entry_lists.proofs.EntryLaws.{has_entry, have_both, have_range, listed}
 use Rattle.entry_lists.proofs.ListSizes.{sizes}
+use Rattle.ghost_model.proofs.LayoutLemmas.Limited.{limited_by}
 
 -- a slot that is in its range has the right record
 same_slot : (bytes other wanted : List ℕ) (may : Bool) → (bytes ≡ wanted) ⊎ (may ≡ false) → other ≡ wanted → may ≡ true → bytes ≡ other
@@ -185,10 +186,10 @@ module _ (cat : Catalog) (database : Database) (of : IsOf cat database) (levels 
 
 pub have_value_lists : LevelsAreAncestors → FilesLieAsSummed → FilesLieInOrder → LayoutIsSmall → NumbersAreRead → ListsPartition → ListsAreRead → EntriesHaveValueLists
 have_value_lists levels laid order small read partition lists_are page right cat database of table column h values whole but index is lists are begun =
-    value_lists cat database of levels (laid cat) (order cat) (small.few cat of.limited) read page right lists_are partition table column h values whole but index is
-    lists.level are.level (small.narrow cat of.limited.tree) lists refl are begun
+    value_lists cat database of levels (laid cat) (order cat) (small.few cat (limited_by cat of.proper)) read page right lists_are partition table column h values whole but index is
+    lists.level are.level (small.narrow cat (limited_by cat of.proper).tree) lists refl are begun
 
 pub have_id_lists : LevelsAreAncestors → FilesLieAsSummed → FilesLieInOrder → LayoutIsSmall → NumbersAreRead → IdListsPartition → ListsAreRead → EntriesHaveIdLists
 have_id_lists levels laid order small read partition lists_are page right cat database of table there whole but index is lists are begun =
-    identifier_lists cat database of levels (laid cat) (order cat) (small.few cat of.limited) read page right lists_are partition table there whole but index is
-    lists.level are.level (small.narrow cat of.limited.tree) lists refl are begun
+    identifier_lists cat database of levels (laid cat) (order cat) (small.few cat (limited_by cat of.proper)) read page right lists_are partition table there whole but index is
+    lists.level are.level (small.narrow cat (limited_by cat of.proper).tree) lists refl are begun

@@ -9,12 +9,11 @@ use Rattle.ghost_model.specs.core.Channel.{Catalog}
 use Rattle.ghost_model.specs.core.Database.{is_of_kind}
 use Rattle.ghost_model.specs.core.Asks.{kind_at}
 use Rattle.ghost_model.specs.forms.Runs.{Run, page_of, slot_of, record_at, found_in}
-use Rattle.ghost_model.specs.forms.Layout.{is_hidden, count_of, static_end, need, Cells}
+use Rattle.ghost_model.specs.forms.Layout.{is_hidden, count_of, static_end, need, Cells, column_file}
 use Rattle.ghost_model.specs.forms.Slots.{child_rows, is_in_range, spelled, IsDamagedIn, may_stand, in_slot}
 use Rattle.ghost_model.specs.laws.FlashLaws.{hidden_before}
 use Rattle.ghost_model.specs.laws.LayoutLaws.{RecordsStandWithin, StandWithin}
 use Rattle.ghost_model.specs.laws.LayoutSums.{column_pages}
-use Rattle.ghost_model.specs.laws.ShortWords.{column_file}
 use Rattle.ghost_model.proofs.LayoutLemmas.Order.{sum_next, sums_rise}
 use Rattle.edge_traits.specs.Devices.{Device}
 use Rattle.flash_pages.specs.Reads.{WasRead}

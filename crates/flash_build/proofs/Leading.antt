@@ -7,13 +7,12 @@ use Rattle.std.proofs.lemmas.List.{length-map, get_or-map, append-nil, get_or_ap
 use Rattle.std.proofs.lemmas.List.Elements.{filter-append}
 use Rattle.std.proofs.lemmas.List.Elements.{All-from_get_or}
 use Rattle.std.proofs.lemmas.List.FromFn.{length-range_with_len, fill_by_all}
-use Rattle.ghost_model.specs.core.Schema.{Schema, parent, ancestor}
+use Rattle.ghost_model.specs.core.Schema.{Schema, parent, ancestor, IsAtOrBelow}
 use Rattle.ghost_model.specs.core.Values.{Number, Database}
 use Rattle.ghost_model.specs.core.Channel.{Catalog}
 use Rattle.ghost_model.specs.laws.SchemaTrees.{IsTree}
 use Rattle.ghost_model.specs.core.Database.{IsDatabase, is_row_among, points_to, leads}
 use Rattle.ghost_model.specs.core.Split.{Hidden}
-use Rattle.ghost_model.specs.laws.MeaningLaws.{IsAtOrBelow}
 use Rattle.ghost_model.specs.forms.Layout.{count_of, levels_of, is_below, descendants_of, below as layout_below}
 use Rattle.ghost_model.specs.laws.LayoutLaws.{LevelsAreAncestors}
 use Rattle.ghost_model.specs.forms.Flash.{IsHidden, leads_to, subtree_record, ids}

@@ -6,8 +6,8 @@ use Rattle.ghost_model.specs.core.Split.{Hidden}
 use Rattle.ghost_model.specs.laws.SchemaTrees.{IsTree}
 use Rattle.ghost_model.specs.forms.Runs.{Run, Stores, run_pages, pages_of}
 use Rattle.ghost_model.specs.forms.Layout as layout
-use Rattle.ghost_model.specs.forms.Layout.{below, tables_of, is_hidden, count_of, above_of, descendants_of, files_end, public_pages}
-use Rattle.ghost_model.specs.laws.ShortWords.{column_count, column_file, subtree_table}
+use Rattle.ghost_model.specs.forms.Layout.{below, tables_of, is_hidden, count_of, above_of, descendants_of, files_end, public_pages, column_file, subtree_table}
+use Rattle.ghost_model.specs.laws.ShortWords.{column_count}
 use Rattle.ghost_model.specs.laws.LayoutSums.{column_pages, columns_pages, column_pages_before, table_begin, table_pages, column_begin, subtree_begin, subtree_pages, indexes_begin, index_begin, index_pages, indexes_pages, id_index_begin, id_index_pages}
 use Rattle.ghost_model.specs.forms.Flash.{HoldsFiles, HoldsIndex, hidden_cells, subtree_record, ids}
 use Rattle.ghost_model.specs.laws.LayoutLaws.{LieAsSummed, LieInOrder}

@@ -5,8 +5,8 @@ use Rattle.ghost_model.specs.core.Schema.{is_empty}
 use Rattle.ghost_model.specs.core.Channel.{Catalog}
 use Rattle.ghost_model.specs.core.Split.{Hidden}
 use Rattle.ghost_model.specs.forms.Runs.{Stores, pages_of}
-use Rattle.ghost_model.specs.forms.Layout.{is_hidden, count_of, levels_of, above_of, descendants_of, files_pages}
-use Rattle.ghost_model.specs.laws.ShortWords.{column_file, subtree_table, index_directory, index_level, id_directory, id_level}
+use Rattle.ghost_model.specs.forms.Layout.{is_hidden, count_of, levels_of, above_of, descendants_of, files_pages, column_file, subtree_table}
+use Rattle.ghost_model.specs.laws.ShortWords.{index_directory, index_level, id_directory, id_level}
 use Rattle.ghost_model.specs.laws.LayoutSums.{directory_width}
 use Rattle.ghost_model.specs.forms.Work.{levels_written, pages_built}
 use Rattle.ghost_model.specs.forms.Flash.{HoldsLists, HoldsIndex, hidden_cells, subtree_record, ids, value_lists, id_lists}

@@ -9,12 +9,11 @@ use Rattle.ghost_model.specs.core.Asks.{kind_at}
 use Rattle.ghost_model.specs.core.Split.{Hidden}
 use Rattle.ghost_model.specs.core.Replies.{hidden_value}
 use Rattle.ghost_model.specs.forms.Runs.{page_of, slot_of, found_in}
-use Rattle.ghost_model.specs.forms.Layout.{below, is_hidden, count_of, Cells}
+use Rattle.ghost_model.specs.forms.Layout.{below, is_hidden, count_of, Cells, column_file}
 use Rattle.ghost_model.specs.forms.Slots.{child_at, child_rows, spelled, may_stand, in_slot, IsDamagedIn}
 use Rattle.ghost_model.specs.forms.Flash.{HoldsColumns, IsHidden}
 use Rattle.ghost_model.specs.laws.FlashLaws.{GoesWith}
 use Rattle.ghost_model.specs.laws.LayoutSums.{columns_pages}
-use Rattle.ghost_model.specs.laws.ShortWords.{column_file}
 use Rattle.edge_traits.specs.Devices.{Device, KeepsPages}
 use Rattle.page_pool.specs.Pools.{Pool, ChangesPage}
 use Rattle.flash_pages.specs.Reads.{CanRead, WasGiven, WasRead}

@@ -5,7 +5,6 @@ ghost use Rattle.ghost_model.specs.core.Asks.{kind_at};
 ghost use Rattle.ghost_model.specs.core.Schema.{plain_of};
 ghost use Rattle.ghost_model.specs.forms.Cells as cells;
 ghost use Rattle.ghost_model.specs.forms.Flash.{hidden_cells, IsHidden};
-ghost use Rattle.ghost_model.specs.laws.ShortWords as short;
 ghost use Rattle.ghost_model.specs.forms.Layout as layout;
 ghost use Rattle.ghost_model.specs.laws.LayoutSums as sums;
 ghost use Rattle.ghost_model.specs.forms.Runs.{Stores};
@@ -91,7 +90,7 @@ fn write_file<F: Flash>(
     requires part { IsHidden laid.now hidden.now }
     requires hidden { layout.is_hidden laid.now.schema table column ≡ true }
     requires can { CanFill (F.state flash.old) (sums.column_begin laid.now table column) (sums.column_pages laid.now table column) }
-    ensures stores { OnOk result (F.told ≡ true → Stores (F.state flash.new).page (short.column_file laid.now table column) (hidden_cells laid.now.schema hidden.now table column)) }
+    ensures stores { OnOk result (F.told ≡ true → Stores (F.state flash.new).page (layout.column_file laid.now table column) (hidden_cells laid.now.schema hidden.now table column)) }
     ensures wrote { Wrote (sums.column_begin laid.now table column) (sums.column_begin laid.now table column + sums.column_pages laid.now table column) (sums.column_pages laid.now table column) (F.state flash.old) (F.state flash.new) result }
 {
     layout_laws(laid);
@@ -111,7 +110,7 @@ fn write_column<F: Flash>(
 ) -> Result<(), BuildFault>
     requires part { IsHidden laid.now hidden.now }
     requires can { CanFill (F.state flash.old) (sums.column_begin laid.now table column) (sums.column_pages laid.now table column) }
-    ensures stores { OnOk result (F.told ≡ true → layout.is_hidden laid.now.schema table column ≡ true → Stores (F.state flash.new).page (short.column_file laid.now table column) (hidden_cells laid.now.schema hidden.now table column)) }
+    ensures stores { OnOk result (F.told ≡ true → layout.is_hidden laid.now.schema table column ≡ true → Stores (F.state flash.new).page (layout.column_file laid.now table column) (hidden_cells laid.now.schema hidden.now table column)) }
     ensures wrote { Wrote (sums.column_begin laid.now table column) (sums.column_begin laid.now table column + sums.column_pages laid.now table column) (sums.column_pages laid.now table column) (F.state flash.old) (F.state flash.new) result }
 {
     if laid.is_hidden(table, column) {
@@ -131,7 +130,7 @@ pub(crate) fn write_columns<F: Flash>(
 ) -> Result<(), BuildFault>
     requires part { IsHidden laid.now hidden.now }
     requires can { CanFill (F.state flash.old) (sums.table_begin laid.now table) (sums.columns_pages laid.now table) }
-    ensures stores { OnOk result (F.told ≡ true → (column : ℕ) → layout.is_hidden laid.now.schema table column ≡ true → Stores (F.state flash.new).page (short.column_file laid.now table column) (hidden_cells laid.now.schema hidden.now table column)) }
+    ensures stores { OnOk result (F.told ≡ true → (column : ℕ) → layout.is_hidden laid.now.schema table column ≡ true → Stores (F.state flash.new).page (layout.column_file laid.now table column) (hidden_cells laid.now.schema hidden.now table column)) }
     ensures wrote { Wrote (sums.table_begin laid.now table) (sums.subtree_begin laid.now table) (sums.columns_pages laid.now table) (F.state flash.old) (F.state flash.new) result }
 {
     layout_laws(laid);

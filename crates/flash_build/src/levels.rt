@@ -3,7 +3,7 @@
 ghost use Rattle.std.specs.Prelude.{List, ◌≡◌, ◌<◌, ◌≤◌, ◌+◌, ◌^◌, ℕ, true, false, Some, IfOk, IfSome, IfNone, length, map, vec_capacity};
 ghost use Rattle.std.specs.List.{range_with_len};
 ghost use Rattle.ghost_model.specs.core.Schema as schemas;
-ghost use Rattle.ghost_model.specs.laws.MeaningLaws.{IsAtOrBelow};
+ghost use Rattle.ghost_model.specs.core.Schema.{IsAtOrBelow};
 ghost use Rattle.ghost_model.specs.forms.Flash.{IsHidden};
 ghost use Rattle.ghost_model.specs.forms.Layout as layout;
 ghost use Rattle.index_lists.specs.Laws.{LeadAs};

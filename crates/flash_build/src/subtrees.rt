@@ -1,7 +1,6 @@
 //! Subtree key tables.
 
 ghost use Rattle.std.specs.Prelude.{◌≡◌, ◌<◌, ◌+◌, true, false, map, length, OnOk};
-ghost use Rattle.ghost_model.specs.laws.ShortWords as short;
 ghost use Rattle.ghost_model.specs.core.Schema as schemas;
 ghost use Rattle.ghost_model.specs.forms.Flash.{IsHidden, subtree_record, ids};
 ghost use Rattle.ghost_model.specs.forms.Layout as layout;
@@ -33,7 +32,7 @@ fn write_some<F: Flash>(
     requires there { table < length laid.now.schema }
     requires some { schemas.is_empty (layout.descendants_of laid.now.schema table) ≡ false }
     requires can { CanFill (F.state flash.old) (sums.subtree_begin laid.now table) (sums.subtree_pages laid.now table) }
-    ensures stores { OnOk result (F.told ≡ true → Stores (F.state flash.new).page (short.subtree_table laid.now table) (map (subtree_record laid.now.schema hidden.now table) (ids (layout.count_of laid.now table)))) }
+    ensures stores { OnOk result (F.told ≡ true → Stores (F.state flash.new).page (layout.subtree_table laid.now table) (map (subtree_record laid.now.schema hidden.now table) (ids (layout.count_of laid.now table)))) }
     ensures wrote { Wrote (sums.subtree_begin laid.now table) (sums.subtree_begin laid.now table + sums.subtree_pages laid.now table) (sums.subtree_pages laid.now table) (F.state flash.old) (F.state flash.new) result }
 {
     layout_laws(laid);
@@ -62,7 +61,7 @@ pub(crate) fn write_subtree<F: Flash>(
     requires part { IsHidden laid.now hidden.now }
     requires there { table < length laid.now.schema }
     requires can { CanFill (F.state flash.old) (sums.subtree_begin laid.now table) (sums.subtree_pages laid.now table) }
-    ensures stores { OnOk result (F.told ≡ true → schemas.is_empty (layout.descendants_of laid.now.schema table) ≡ false → Stores (F.state flash.new).page (short.subtree_table laid.now table) (map (subtree_record laid.now.schema hidden.now table) (ids (layout.count_of laid.now table)))) }
+    ensures stores { OnOk result (F.told ≡ true → schemas.is_empty (layout.descendants_of laid.now.schema table) ≡ false → Stores (F.state flash.new).page (layout.subtree_table laid.now table) (map (subtree_record laid.now.schema hidden.now table) (ids (layout.count_of laid.now table)))) }
     ensures wrote { Wrote (sums.subtree_begin laid.now table) (sums.subtree_begin laid.now table + sums.subtree_pages laid.now table) (sums.subtree_pages laid.now table) (F.state flash.old) (F.state flash.new) result }
 {
     if laid.below(table).is_empty() {

@@ -1,7 +1,6 @@
 //! The places that are asked one at a time, each by a layout of its own.
 
 ghost use Rattle.std.specs.Prelude.{◌≡◌, ◌<◌, ◌≤◌, ◌%◌, ◌^◌, true};
-ghost use Rattle.ghost_model.specs.laws.ShortWords as short;
 ghost use Rattle.ghost_model.specs.forms.Layout as layout;
 ghost use Rattle.ghost_base.specs.Runs.{run_of};
 
@@ -12,7 +11,7 @@ use tree_schema::Catalog;
 /// The file of a hidden column: a cell for each row.
 pub fn column_file(cat: &Catalog, table: usize, column: usize) -> Run
     requires hidden { layout.is_hidden cat.now.schema table column ≡ true }
-    ensures run { run_of result ≡ short.column_file cat.now table column }
+    ensures run { run_of result ≡ layout.column_file cat.now table column }
 {
     Layout::of(cat).column_file(table, column)
 }

@@ -199,7 +199,7 @@ impl<'a> Layout<'a> {
     /// The file of a hidden column: a cell for each row.
     pub fn column_file(&self, table: usize, column: usize) -> Run
         requires hidden { layout.is_hidden self.now.schema table column ≡ true }
-        ensures run { run_of result ≡ short.column_file self.now table column }
+        ensures run { run_of result ≡ layout.column_file self.now table column }
     {
         self.laws();
         Run {
@@ -212,7 +212,7 @@ impl<'a> Layout<'a> {
     /// The subtree key table of a table: for each row an identifier for each table below.
     pub fn subtree_table(&self, table: usize) -> Run
         requires there { table < length self.now.schema }
-        ensures run { run_of result ≡ short.subtree_table self.now table }
+        ensures run { run_of result ≡ layout.subtree_table self.now table }
     {
         self.laws();
         Run {

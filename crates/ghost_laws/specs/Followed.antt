@@ -3,10 +3,9 @@
 -- foreign key and the identifier that it names. The query without its groups that are left is such a one too. And the rows of an answer come row by row of the top table.
 use Rattle.std.specs.Prelude.{◌≡◌, ◌≢◌, ℕ, suc, ◌≤◌, Bool, false, ◌&&◌, ◌||◌, List, [], ◌++◌, length, flat_map, Some, is_some, IsTrue}
 use Rattle.std.specs.List.{list_all, list_any, range_with_len}
-use Rattle.ghost_model.specs.core.Schema.{Schema, column_at, parent}
+use Rattle.ghost_model.specs.core.Schema.{Schema, column_at, parent, IsAtOrBelow}
 use Rattle.ghost_model.specs.laws.SchemaTrees.{IsTree}
 use Rattle.ghost_model.specs.core.Values.{Row}
-use Rattle.ghost_model.specs.laws.MeaningLaws.{IsAtOrBelow}
 use Rattle.ghost_model.specs.core.Query.{Query, Field, Condition, OneOf, Join, members_in, is_among, top_of}
 use Rattle.ghost_model.specs.core.Groups.{each_of}
 use Rattle.ghost_model.specs.refusals.QueryMeaning.{has_repeat, is_join_of, is_of_one_table, is_reference_to, Means}

@@ -16,7 +16,7 @@ use Rattle.ghost_model.specs.core.Channel.{Catalog, Journal}
 use Rattle.ghost_model.specs.forms.Frames.{AreBytes}
 use Rattle.ghost_model.specs.core.Moves.{taken}
 use Rattle.ghost_model.specs.core.Lines.{all_done}
-use Rattle.ghost_model.specs.laws.ShortWords.{ended_of}
+use Rattle.ghost_model.specs.core.NextMove.{ended_of}
 use Rattle.ghost_model.specs.core.Printed.{field_text, row_line}
 use Rattle.ghost_laws.specs.Asking.{members_left}
 use Rattle.ghost_laws.specs.Scans.{led_value, row_along, answer_along, known_along, stands_along, known_row, known_answer}

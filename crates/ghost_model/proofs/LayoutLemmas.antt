@@ -4,5 +4,6 @@ pub mod Numbers
 pub mod Following
 pub mod Places
 pub mod Order
+pub mod Limited
 pub mod Small
 pub mod Levels

@@ -11,8 +11,7 @@ use Rattle.ghost_model.specs.core.Replies.{hidden_value, replied_value}
 use Rattle.ghost_model.specs.forms.Runs.{record_at}
 use Rattle.ghost_model.specs.core.Asks.{kind_at}
 use Rattle.ghost_model.specs.readings.CellReading.{decode_cell}
-use Rattle.ghost_model.specs.forms.Layout.{is_hidden, count_of}
-use Rattle.ghost_model.specs.laws.ShortWords.{column_file}
+use Rattle.ghost_model.specs.forms.Layout.{is_hidden, count_of, column_file}
 use Rattle.ghost_model.specs.forms.Flash.{HoldsColumns}
 use Rattle.ghost_model.specs.laws.FlashLaws.{HiddenPartsGoWithCatalogs, HiddenValuesOfDatabases, ColumnFilesGiveValues}
 use Rattle.ghost_model.proofs.LayoutLemmas.Columns.{hidden_or_none}

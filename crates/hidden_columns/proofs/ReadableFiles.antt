@@ -1,8 +1,7 @@
 -- A device with the pages that a catalog needs has the run of each hidden column.
 use Rattle.std.proofs.Common.{◌≡◌, ◌^◌, ◌<◌, ◌≤◌, ℕ, true, arith}
 use Rattle.ghost_model.specs.core.Channel.{Catalog}
-use Rattle.ghost_model.specs.forms.Layout.{is_hidden, need}
-use Rattle.ghost_model.specs.laws.ShortWords.{column_file}
+use Rattle.ghost_model.specs.forms.Layout.{is_hidden, need, column_file}
 use Rattle.ghost_model.specs.laws.LayoutLaws.{AreNarrow, LieInOrder, RecordsStandWithin, StandWithin}
 use Rattle.edge_traits.specs.Devices.{Device}
 use Rattle.flash_pages.specs.Runs.{HasRun}

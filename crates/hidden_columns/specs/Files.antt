@@ -7,7 +7,7 @@ use Rattle.ghost_model.specs.forms.Cells.{cell_width}
 use Rattle.ghost_model.specs.core.Database.{is_of_kind}
 use Rattle.ghost_model.specs.core.Asks.{kind_at}
 use Rattle.ghost_model.specs.forms.Runs.{record_at, page_of, slot_of, found_in}
-use Rattle.ghost_model.specs.laws.ShortWords.{column_file}
+use Rattle.ghost_model.specs.forms.Layout.{column_file}
 use Rattle.ghost_base.specs.Views.{kind_of}
 use Rattle.edge_traits.specs.Devices.{Device}
 use Rattle.flash_pages.specs.declared.fault.PageFault.{PageFault}

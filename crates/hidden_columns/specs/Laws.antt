@@ -8,8 +8,7 @@ use Rattle.ghost_model.specs.core.Asks.{kind_at}
 use Rattle.ghost_model.specs.core.Split.{Hidden, hidden_of}
 use Rattle.ghost_model.specs.core.Replies.{Reply, hidden_value, known_value}
 use Rattle.ghost_model.specs.forms.Runs.{record_at}
-use Rattle.ghost_model.specs.forms.Layout.{is_hidden, count_of}
-use Rattle.ghost_model.specs.laws.ShortWords.{column_file}
+use Rattle.ghost_model.specs.forms.Layout.{is_hidden, count_of, column_file}
 use Rattle.ghost_model.specs.forms.Flash.{HoldsColumns}
 use Rattle.ghost_model.specs.laws.FlashLaws.{GoesWith}
 use Rattle.edge_traits.specs.Devices.{Device}

@@ -4,13 +4,13 @@ use Rattle.std.specs.Prelude.{IsTrue}
 use Rattle.std.proofs.lemmas.List.{length-map, get_or-map}
 use Rattle.std.proofs.lemmas.List.Elements.{All-get_or, All-from_get_or}
 use Rattle.std.proofs.lemmas.List.FromFn.{length-range_with_len, get_or-range_with_len}
-use Rattle.ghost_model.specs.core.Schema.{Schema, Table, Column, column_at, columns_or_none, parent, ancestor, references_to, first_of, is_table}
+use Rattle.ghost_model.specs.core.Schema.{Schema, Table, Column, column_at, columns_or_none, parent, ancestor, references_to, first_of, is_table, IsAtOrBelow}
 use Rattle.ghost_model.specs.core.Values.{Number, Database}
 use Rattle.ghost_model.specs.core.Channel.{Catalog}
 use Rattle.ghost_model.specs.core.Database.{IsDatabase, row_count, row_counts, value_at_row, identifier_in, is_row_among, points_to, leads}
 use Rattle.ghost_model.specs.core.Split.{Hidden, hidden_of}
 use Rattle.ghost_model.specs.laws.SchemaTrees.{IsTree}
-use Rattle.ghost_model.specs.laws.MeaningLaws.{IsAtOrBelow, LeadsFollowKeys}
+use Rattle.ghost_model.specs.laws.MeaningLaws.{LeadsFollowKeys}
 use Rattle.ghost_model.specs.forms.Layout.{is_hidden, count_of}
 use Rattle.ghost_model.specs.forms.Flash.{IsHidden, ids, hidden_database}
 use Rattle.ghost_model.proofs.MeaningLemmas.OneRow.{child_is}

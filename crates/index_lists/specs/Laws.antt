@@ -2,13 +2,12 @@
 use Rattle.std.specs.Prelude.{◌≡◌, ℕ, suc, ◌+◌, ◌-◌, ◌^◌, ◌<◌, ◌≤◌, ℤ, pos, List, [], length, map, Some, slice_index, get_or, IsTrue}
 use Rattle.std.specs.List.{All, concat, slice_range}
 use Rattle.ghost_model.specs.core.Channel.{Catalog}
-use Rattle.ghost_model.specs.core.Schema.{parent}
+use Rattle.ghost_model.specs.core.Schema.{parent, IsAtOrBelow}
 use Rattle.ghost_model.specs.core.Values.{Number}
 use Rattle.ghost_model.specs.core.Database.{is_row_among, reference_column}
 use Rattle.ghost_model.specs.core.Split.{Hidden}
 use Rattle.ghost_model.specs.core.Replies.{hidden_value}
 use Rattle.ghost_model.specs.laws.SchemaTrees.{IsTree}
-use Rattle.ghost_model.specs.laws.MeaningLaws.{IsAtOrBelow}
 use Rattle.ghost_model.specs.forms.Layout.{count_of}
 use Rattle.ghost_model.specs.forms.Flash.{IsHidden, ids, hidden_cells, leads_to, value_lists, id_lists, AreValues}
 use Rattle.index_lists.specs.Ranks.{AreRanks, identifier_of, number_cells, of_referred}

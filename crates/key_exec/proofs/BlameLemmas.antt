@@ -5,8 +5,7 @@ use Rattle.ghost_model.specs.core.Channel.{Catalog}
 use Rattle.ghost_model.specs.core.Query.{Query}
 use Rattle.ghost_model.specs.core.Asks.{kind_at}
 use Rattle.ghost_model.specs.forms.Runs.{Run, page_of, slot_of, record_at, found_in}
-use Rattle.ghost_model.specs.forms.Layout.{count_of, Cells}
-use Rattle.ghost_model.specs.laws.ShortWords.{column_file}
+use Rattle.ghost_model.specs.forms.Layout.{count_of, Cells, column_file}
 use Rattle.ghost_model.specs.forms.Slots.{may_stand, spelled}
 use Rattle.ghost_base.specs.Runs.{run_of}
 use Rattle.edge_traits.specs.Devices.{Device, KeepsPages}

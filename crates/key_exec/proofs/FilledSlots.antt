@@ -16,8 +16,7 @@ use Rattle.ghost_model.specs.laws.FlashLaws.{HiddenValuesOfDatabases}
 use Rattle.ghost_model.specs.laws.SchemaTrees.{IsTree}
 use Rattle.ghost_model.specs.laws.LayoutLaws.{IsLimited}
 use Rattle.ghost_model.specs.forms.Runs.{Run, page_of, slot_of, record_at}
-use Rattle.ghost_model.specs.forms.Layout.{is_hidden, count_of}
-use Rattle.ghost_model.specs.laws.ShortWords.{column_file}
+use Rattle.ghost_model.specs.forms.Layout.{is_hidden, count_of, column_file}
 use Rattle.ghost_model.specs.forms.Slots.{child_at, child_or_none, child_rows, is_in_range, only_in_range}
 use Rattle.ghost_model.proofs.FlashLemmas.Values.{count_there}
 use Rattle.ghost_model.proofs.MeaningLemmas.Leading.{get_within}

@@ -7,11 +7,11 @@ use Rattle.ghost_model.specs.core.Query.{Query}
 use Rattle.visible_spool.specs.declared.half.Half.{Half}
 use Rattle.ghost_model.specs.core.Asks.{kind_at}
 use Rattle.ghost_model.specs.forms.Runs.{Run, Stores, page_of, record_at, run_end, run_pages, found_in}
-use Rattle.ghost_model.specs.forms.Layout.{is_hidden, count_of, width_at, descendants_of, static_end, files_end, Cells}
-use Rattle.ghost_model.specs.laws.ShortWords.{column_file, subtree_table}
+use Rattle.ghost_model.specs.forms.Layout.{is_hidden, count_of, width_at, descendants_of, static_end, files_end, Cells, column_file, subtree_table}
 use Rattle.ghost_model.specs.forms.Slots.{child_rows, spelled, may_stand, IsWrong, in_slot}
 use Rattle.ghost_model.specs.laws.SchemaTrees.{IsTree}
-use Rattle.ghost_model.specs.laws.LayoutLaws.{LayoutIsSmall, FilesLieInOrder, RecordsStandWithin, FilesLieAsSummed, IsLimited}
+use Rattle.ghost_model.specs.forms.Catalog.{IsCatalog}
+use Rattle.ghost_model.specs.laws.LayoutLaws.{LayoutIsSmall, FilesLieInOrder, RecordsStandWithin, FilesLieAsSummed}
 use Rattle.ghost_model.specs.laws.LayoutSums as sums
 use Rattle.flash_pages.proofs.RunFrames.{record_kept, stores_kept}
 use Rattle.hidden_columns.specs.Laws.{ColumnsGiveValues}
@@ -74,7 +74,7 @@ no_scan_damage columns told page cat asked top side half database number slot fo
 
 -- pages that hold all files
 database_is : (told : Bool) (page : ℕ → List ℕ) (cat : Catalog) (database : Database) → KnowsBy by_indexes told page cat database → IsOf cat database
-database_is told page cat database knows = record { limited = knows.1.limited; is = knows.0.is; counts = knows.0.counts }
+database_is told page cat database knows = record { proper = knows.1.proper; is = knows.0.is; counts = knows.0.counts }
 
 pub held_but_by :
     ColumnsGiveValues → HeldFilesAreKnown → (by : Plan) (told : Bool) (page : ℕ → List ℕ) (cat : Catalog) (database : Database) → IsTree cat.schema
@@ -93,10 +93,10 @@ scan_known told page cat database is_told is counts files =
 
 pub held_known :
     (by : Plan) (told : Bool) (page : ℕ → List ℕ) (cat : Catalog) (database : Database) → told ≡ true → IsDatabase cat.schema database
-    → row_counts database ≡ cat.counts → IsLimited cat → HoldsFiles page cat (hidden_of cat.schema database) → KnowsBy by told page cat database
-held_known plans.Scan told page cat database is_told is counts limited files = scan_known told page cat database is_told is counts files
-held_known (plans.Linked forced) told page cat database is_told is counts limited files =
-    (scan_known told page cat database is_told is counts files, record { limited = limited; files = files })
+    → row_counts database ≡ cat.counts → IsCatalog cat → HoldsFiles page cat (hidden_of cat.schema database) → KnowsBy by told page cat database
+held_known plans.Scan told page cat database is_told is counts proper files = scan_known told page cat database is_told is counts files
+held_known (plans.Linked forced) told page cat database is_told is counts proper files =
+    (scan_known told page cat database is_told is counts files, record { proper = proper; files = files })
 
 pub no_damage :
     ColumnsGiveValues → HeldFilesAreKnown → (by : Plan) (told : Bool) (page : ℕ → List ℕ) (cat : Catalog) (asked : Query) (top side : ℕ) (half : Half) (database : Database) (number slot found : ℕ)
@@ -272,7 +272,7 @@ files_kept small order summed stand holdings plans.Scan told page now cat databa
 files_kept small order summed stand holdings (plans.Linked forced) told page now cat database tree keeps knows = (
   scan_files_kept small order summed stand told page now cat database tree keeps knows.0,
   record {
-    limited = knows.1.limited;
+    proper = knows.1.proper;
     files = holdings.files page now cat (hidden_of cat.schema database) tree
         (λ number from to. (let rounded : files_end cat ≤ static_end cat = (order cat).static in keeps number (omega (arith, to, rounded))))
         knows.1.files;

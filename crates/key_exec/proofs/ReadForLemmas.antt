@@ -6,13 +6,12 @@ use Rattle.std.proofs.lemmas.Bool.{eqb-true}
 use Rattle.std.proofs.lemmas.List.{map-append}
 use Rattle.std.proofs.lemmas.List.Folds.{list_any-append}
 use Rattle.std.proofs.lemmas.Bool.Decides.{nat_tests}
-use Rattle.ghost_model.specs.core.Schema.{Schema, parent, ancestor}
+use Rattle.ghost_model.specs.core.Schema.{Schema, parent, ancestor, IsAtOrBelow}
 use Rattle.ghost_model.specs.core.Channel.{Catalog}
 use Rattle.ghost_model.specs.core.Groups.{some_of}
 use Rattle.ghost_model.specs.core.Query.{Query, Field, Member, GroupMember, Condition, OneOf, Join, members_of_group, members_of, members_in}
 use Rattle.ghost_model.specs.forms.Left.{is_left, is_same_field, new_fields, members_left, columns_left}
 use Rattle.ghost_model.specs.forms.Layout.{count_of}
-use Rattle.ghost_model.specs.laws.MeaningLaws.{IsAtOrBelow}
 use Rattle.edge_traits.specs.Devices.{Device}
 use Rattle.visible_spool.specs.declared.half.Half.{Half}
 use Rattle.candidate_rows.specs.declared.plan.Hop.{Hop}

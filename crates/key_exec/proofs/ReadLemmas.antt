@@ -5,8 +5,7 @@ use Rattle.std.specs.Prelude.{IfErr}
 use Rattle.std.proofs.lemmas.Bool.Decides.{nat_tests}
 use Rattle.ghost_model.specs.core.Channel.{Catalog}
 use Rattle.ghost_model.specs.core.Query.{Query}
-use Rattle.ghost_model.specs.forms.Layout.{Cells, Subtrees}
-use Rattle.ghost_model.specs.laws.ShortWords.{column_file, subtree_table}
+use Rattle.ghost_model.specs.forms.Layout.{Cells, Subtrees, column_file, subtree_table}
 use Rattle.ghost_model.specs.forms.Runs.{Run, cell_in, found_in, page_of, record_at, slot_of}
 use Rattle.ghost_base.specs.Runs.{run_of}
 use Rattle.edge_traits.specs.Devices.{Device}

@@ -8,7 +8,7 @@ use Rattle.ghost_model.specs.core.Replies.{Reply}
 use Rattle.ghost_model.specs.core.Database.{IsDatabase, row_counts}
 use Rattle.ghost_model.specs.core.Split.{hidden_of}
 use Rattle.ghost_model.specs.forms.Flash.{HoldsFiles}
-use Rattle.ghost_model.specs.laws.LayoutLaws.{IsLimited}
+use Rattle.ghost_model.specs.forms.Catalog.{IsCatalog}
 use Rattle.ghost_model.specs.laws.SchemaTrees.{IsTree}
 use Rattle.ghost_laws.specs.Selected.{AreWholeReplies}
 use Rattle.edge_traits.specs.Devices.{Device, KeepsPages, ChangesOnly}
@@ -49,7 +49,7 @@ KnowledgeIsEnough =
 abbrev pub HeldPagesAreKnown : Type 0
 HeldPagesAreKnown =
     (by : Plan) (told : Bool) (page : ℕ → List ℕ) (cat : Catalog) (database : Database) → told ≡ true → IsDatabase cat.schema database
-    → row_counts database ≡ cat.counts → IsLimited cat → HoldsFiles page cat (hidden_of cat.schema database) → KnowsBy by told page cat database
+    → row_counts database ≡ cat.counts → IsCatalog cat → HoldsFiles page cat (hidden_of cat.schema database) → KnowsBy by told page cat database
 
 abbrev pub DamageIsNeverMet : Type 0
 DamageIsNeverMet =

@@ -1,11 +1,10 @@
 -- Which hidden columns are read for a query.
 use Rattle.std.specs.Prelude.{◌≡◌, ℕ, ◌&&◌, ◌||◌, Bool, true, false, Some, nat_eq}
 use Rattle.std.specs.List.{list_any}
-use Rattle.ghost_model.specs.core.Schema.{Schema, parent}
+use Rattle.ghost_model.specs.core.Schema.{Schema, parent, IsAtOrBelow}
 use Rattle.ghost_model.specs.core.Database.{reference_column}
 use Rattle.ghost_model.specs.core.Query.{Query, Field, Condition, OneOf, Join}
 use Rattle.ghost_model.specs.core.Groups.{some_of}
-use Rattle.ghost_model.specs.laws.MeaningLaws.{IsAtOrBelow}
 
 -- whether a query has a column of some kind in its select list, or tests one
 abbrev pub compares : (is : Field → Bool) → Condition → Bool

@@ -2,8 +2,7 @@
 use Rattle.std.proofs.Common.{◌≡◌, ℕ, ◌+◌, List, [], ◌∷◌, ◌++◌, map as each, Some, refl, sym, ap, ◌∙◌, append_assoc, append-nil}
 use Rattle.ghost_model.specs.core.Schema.{Schema, Table, first_of}
 use Rattle.ghost_model.specs.core.Database.{database_of}
-use Rattle.ghost_model.specs.refusals.LoadFaults.{LoadFault, file_faults, files_faults}
-use Rattle.ghost_model.specs.laws.ShortWords.{reference_faults}
+use Rattle.ghost_model.specs.refusals.LoadFaults.{LoadFault, file_faults, files_faults, reference_faults}
 use Rattle.edge_traits.specs.Files.{Files}
 use Rattle.key_inputs.specs.Openings.{Spelled, on_table, unless_broken, tables_from}
 use Rattle.key_inputs.specs.OpeningLaws.{opening_by}

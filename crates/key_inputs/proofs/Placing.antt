@@ -4,8 +4,7 @@ use Rattle.std.specs.Prelude.{⊤, ◌||◌}
 use Rattle.ghost_model.specs.core.Schema.{Schema, Column, Kind, Integer, Chars, IntegerOrNull, CharsOrNull, is_empty}
 use Rattle.ghost_model.specs.core.Values.{Value, Row, Rows, Database}
 use Rattle.ghost_model.specs.core.Database.{integer_of, is_text, is_row_among, row_count, records_of}
-use Rattle.ghost_model.specs.refusals.LoadFaults.{LoadFault, FileLimit, Header, RowLimit, FieldCount, BadId, BadInt, BadChars, BadReference, Place, place, unless, value_faults, field_faults, is_number, fields_faults, row_faults, rows_faults, is_header, record_faults, file_faults, reference_fault_in, row_reference_faults, table_references, references_from, most_rows, most_bytes}
-use Rattle.ghost_model.specs.laws.ShortWords.{reference_faults}
+use Rattle.ghost_model.specs.refusals.LoadFaults.{LoadFault, FileLimit, Header, RowLimit, FieldCount, BadId, BadInt, BadChars, BadReference, Place, place, unless, value_faults, field_faults, is_number, fields_faults, row_faults, rows_faults, is_header, record_faults, file_faults, reference_fault_in, row_reference_faults, table_references, references_from, most_rows, most_bytes, reference_faults}
 use Rattle.ghost_model.specs.laws.LoadLaws.{IsFirst}
 
 -- a fault of the file of a table

@@ -3,7 +3,6 @@ use Rattle.std.proofs.Common.{◌≡◌, ℕ, true, List, [], ◌∷◌, Option,
 use Rattle.std.specs.FinMap as map
 use Rattle.ghost_model.specs.core.Schema.{Schema, columns_of}
 use Rattle.ghost_model.specs.readings.SchemaReading.{schema_reading}
-use Rattle.ghost_model.specs.laws.ShortWords as short
 use Rattle.ghost_model.specs.laws.LoadLaws as load_laws
 use Rattle.ghost_model.specs.refusals.LoadFaults as load
 use Rattle.ghost_model.specs.core.Values.{Database}
@@ -152,7 +151,7 @@ broken_key files folder schema read tables (broken.BadReference field child valu
 
 -- the error of foreign keys
 pub shown_of_keys : (files : Files) (folder : List ℕ) (schema : Schema) (read : List (List ℕ)) (tables : Database) (error : OpenFault)
-    → AreFiles files folder schema read → tables ≡ database_of schema read → TellsRule (rule_in error) (short.reference_faults schema tables)
+    → AreFiles files folder schema read → tables ≡ database_of schema read → TellsRule (rule_in error) (load.reference_faults schema tables)
     → OfTable (IsNamedBy schema) error → OfTable (OfKey (ShowsKey tables)) error → OfTable (OfRecord (IsLineOf files folder schema)) error
     → OfTable (IsShownBy files folder schema) error
 shown_of_keys files folder schema read tables open_fault.NoMemory are is rule names shows lines = tt

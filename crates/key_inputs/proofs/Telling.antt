@@ -4,7 +4,6 @@ use Rattle.std.specs.List.{list_all}
 use Rattle.ghost_model.specs.core.Schema.{Schema}
 use Rattle.ghost_model.specs.laws.Spelled.{is_name, begins_as_name, is_reserved}
 use Rattle.ghost_model.specs.refusals.Tokens.{is_name_byte, in_lower_case}
-use Rattle.ghost_model.specs.laws.ShortWords as short
 use Rattle.ghost_model.specs.laws.LoadLaws as load_laws
 use Rattle.ghost_model.specs.refusals.LoadFaults as load
 use Rattle.ghost_model.proofs.MeaningLemmas.OneRow.{both_true}
@@ -45,17 +44,17 @@ told_first (Some fault) faults h = (fault, refl, h)
 
 -- keys that are good: the opening is that of the files
 pub keys_are_good : (schema : Schema) (read : List (List ℕ)) (tables : Database) → tables ≡ database_of schema read
-    → short.reference_faults schema tables ≡ [] → after_tables schema read ≡ Spelled (record { schema = schema; files = read })
+    → load.reference_faults schema tables ≡ [] → after_tables schema read ≡ Spelled (record { schema = schema; files = read })
 keys_are_good schema read tables is good =
-    ap (λ database. unless_broken (Spelled (record { schema = schema; files = read })) (short.reference_faults schema database)) (sym is)
+    ap (λ database. unless_broken (Spelled (record { schema = schema; files = read })) (load.reference_faults schema database)) (sym is)
     ∙ ap (unless_broken (Spelled (record { schema = schema; files = read }))) good
 
 -- a key that is not
 pub keys_are_told : (schema : Schema) (read : List (List ℕ)) (tables : Database) (rule : Option InputFault) → tables ≡ database_of schema read
-    → TellsRule rule (short.reference_faults schema tables) → IsBroken (after_tables schema read) rule
+    → TellsRule rule (load.reference_faults schema tables) → IsBroken (after_tables schema read) rule
 keys_are_told schema read tables rule is h =
-    subst (λ (database : Database). IsBroken {X = TablesInput} (unless_broken (Spelled (record { schema = schema; files = read })) (short.reference_faults schema database)) rule) is
-    (broken_by (Spelled (record { schema = schema; files = read })) rule (short.reference_faults schema tables) h)
+    subst (λ (database : Database). IsBroken {X = TablesInput} (unless_broken (Spelled (record { schema = schema; files = read })) (load.reference_faults schema database)) rule) is
+    (broken_by (Spelled (record { schema = schema; files = read })) rule (load.reference_faults schema tables) h)
 
 -- nothing is missing where a read that goes well is said to fail
 pub never_missing : {X : Type 0} (opening : Opening X) → ⊥ → opening ≡ Missing

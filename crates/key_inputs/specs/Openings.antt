@@ -6,8 +6,7 @@ use Rattle.std.specs.FinMap as map
 use Rattle.ghost_model.specs.core.Schema.{Schema, Table}
 use Rattle.ghost_model.specs.refusals.SchemaFaults.{SchemaFault, most_schema_bytes}
 use Rattle.ghost_model.specs.readings.SchemaReading.{schema_reading}
-use Rattle.ghost_model.specs.refusals.LoadFaults.{LoadFault, file_faults}
-use Rattle.ghost_model.specs.laws.ShortWords.{reference_faults}
+use Rattle.ghost_model.specs.refusals.LoadFaults.{LoadFault, file_faults, reference_faults}
 use Rattle.ghost_model.specs.core.Database.{database_of}
 use Rattle.edge_traits.specs.Files.{Files}
 

@@ -2,7 +2,6 @@
 
 ghost use Rattle.std.specs.Prelude.{◌≡◌, ◌≤◌, ◌<◌, ◌^◌, ℕ, List, [], Some, Err, IfOk, IfErr, MatchResult, length, string_bytes, is_some, true};
 ghost use Rattle.ghost_model.specs.core.Causes.{Rose};
-ghost use Rattle.ghost_model.specs.laws.ShortWords as short;
 ghost use Rattle.ghost_model.specs.core.Database as database;
 ghost use Rattle.edge_traits.specs.Files.{Files, AreSure};
 ghost use Rattle.key_inputs.specs.Openings.{tables_opening, tables_from};
@@ -197,7 +196,7 @@ fn file_of(alloc: Global, schema: &Schema, table: usize, folder: &str) -> Result
 
 /// Judges the foreign keys.
 fn check_keys(schema: &Schema, tables: &Tables) -> Result<(), OpenFault>
-    ensures judged { MatchResult result (λ _. short.reference_faults schema.now tables.now ≡ []) (λ fault. TellsRule (rule_in fault) (short.reference_faults schema.now tables.now)) }
+    ensures judged { MatchResult result (λ _. load.reference_faults schema.now tables.now ≡ []) (λ fault. TellsRule (rule_in fault) (load.reference_faults schema.now tables.now)) }
     ensures tells { IfErr result (λ fault. is_some (rule_in fault) ≡ true) }
     ensures not_depot { result ≡ Err OpenFault.Depot → ⊥ }
     ensures names { IfErr result (OfTable (IsNamedBy schema.now)) }

@@ -5,10 +5,9 @@ use Rattle.std.specs.Prelude.{ℕ, ◌+◌, Bool, false, not, ◌&&◌, ◌==◌
 use Rattle.std.specs.List.{fold, list_any, before_first, after_first}
 use Rattle.ghost_model.specs.core.Channel.{Catalog}
 use Rattle.ghost_model.specs.core.Query.{Field}
-use Rattle.ghost_model.specs.core.Schema.{Schema}
+use Rattle.ghost_model.specs.core.Schema.{Schema, column_named}
 use Rattle.ghost_model.specs.forms.Catalog.{current_version}
 use Rattle.ghost_model.specs.forms.Left.{is_same_field}
-use Rattle.ghost_model.specs.laws.ShortWords.{column_named}
 use Rattle.ghost_model.specs.refusals.QueryMeaning.{field, table_named}
 use Rattle.ghost_model.specs.refusals.Tokens.{in_lower_case}
 use Rattle.tree_schema.specs.Nulls.{may_be_null, with_null}

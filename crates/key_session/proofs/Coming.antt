@@ -7,11 +7,10 @@ use Rattle.ghost_model.specs.readings.QueryReading.{reading}
 use Rattle.ghost_model.specs.core.Channel.{Catalog, Entry, Journal}
 use Rattle.ghost_model.specs.core.Asks.{NumberedAsk, asked_of}
 use Rattle.ghost_model.specs.core.Moves.{answers}
-use Rattle.ghost_model.specs.core.NextMove.{Awaits, AwaitsCatalog, AwaitsReply, AwaitsNothing, Ending, Answered, Refused, EndedAsk, Standing, standing_after, is_stop}
+use Rattle.ghost_model.specs.core.NextMove.{Awaits, AwaitsCatalog, AwaitsReply, AwaitsNothing, Ending, Answered, Refused, EndedAsk, Standing, standing_after, is_stop, ended_of}
 use Rattle.ghost_model.specs.core.Split.{Hidden}
 use Rattle.ghost_model.specs.core.Replies.{replies, answer_from}
 use Rattle.ghost_model.specs.core.Lines.{WasBroken, AreLinesFor, BrokenLines, all_done, broken_word, is_refused_by, session_text}
-use Rattle.ghost_model.specs.laws.ShortWords.{ended_of}
 use Rattle.ghost_model.specs.core.Printed.{word_line}
 use Rattle.channel_pump.specs.Marks as marks
 use Rattle.channel_pump.specs.Marks.{is_refusal, awaited, state_of}

@@ -6,9 +6,8 @@ use Rattle.ghost_model.specs.core.Channel.{Catalog, Journal}
 use Rattle.ghost_model.specs.refusals.SchemaFaults.{MeansSchema}
 use Rattle.ghost_model.specs.core.Asks.{NumberedAsk, asked_of}
 use Rattle.ghost_model.specs.core.Moves.{taken}
-use Rattle.ghost_model.specs.core.NextMove.{Awaits, AwaitsCatalog, AwaitsReply, AwaitsNothing, EndedAsk, Heard, hear_all, standing_after}
+use Rattle.ghost_model.specs.core.NextMove.{Awaits, AwaitsCatalog, AwaitsReply, AwaitsNothing, EndedAsk, Heard, hear_all, standing_after, ended_of}
 use Rattle.ghost_model.specs.core.Lines.{Reason, WasRefused, WasBroken, WasAnswered, MetFault, all_done, was_refused, broken_word}
-use Rattle.ghost_model.specs.laws.ShortWords.{ended_of}
 use Rattle.ghost_model.specs.core.Split.{hidden_of}
 use Rattle.channel_pump.specs.Progress.{Tells, ended_on}
 use Rattle.channel_pump.specs.declared.state.Event.{Event}

@@ -10,14 +10,13 @@ use Rattle.ghost_model.specs.core.Values.{Database}
 use Rattle.ghost_model.specs.core.Channel.{Catalog, Journal, Entry}
 use Rattle.ghost_model.specs.core.Asks.{asked_of}
 use Rattle.ghost_model.specs.core.Lines.{Reason, WasRefused, WasBroken, WasAnswered, MetFault, all_done, is_refused_by}
-use Rattle.ghost_model.specs.core.NextMove.{Standing, Heard, standing_after, IsProper, IsFinished, EndedAsk, Ending, Answered, Refused, is_stop}
+use Rattle.ghost_model.specs.core.NextMove.{Standing, Heard, standing_after, IsProper, IsFinished, EndedAsk, Ending, Answered, Refused, is_stop, ended_of}
 use Rattle.page_pool.specs.Pools.{Pool}
 use Rattle.channel_pump.specs.Entries.{WentBy}
 use Rattle.channel_pump.specs.Sessions.{IsLive}
 use Rattle.session_laws.specs.TextEnds.{heard_in}
 use Rattle.ghost_model.specs.core.Query.{Query}
 use Rattle.ghost_model.specs.core.Moves.{answers}
-use Rattle.ghost_model.specs.laws.ShortWords.{ended_of}
 use Rattle.session_laws.specs.TextCases.{Outcome, IsDone, ByHost, ByLink, ByFrame, TextsHaveOutcomes}
 use Rattle.key_session.specs.Kept.{IsKept, is_lost, none_heard}
 use Rattle.key_session.specs.Laws.{LaterTextsAreUnmarked}

@@ -9,8 +9,7 @@ use Rattle.ghost_model.specs.core.Values.{Database}
 use Rattle.ghost_model.specs.readings.QueryReading.{reading}
 use Rattle.ghost_model.specs.core.Asks.{asked_of}
 use Rattle.ghost_model.specs.core.Lines.{all_done}
-use Rattle.ghost_model.specs.laws.ShortWords.{ended_of}
-use Rattle.ghost_model.specs.core.NextMove.{standing_after}
+use Rattle.ghost_model.specs.core.NextMove.{standing_after, ended_of}
 use Rattle.ghost_model.specs.core.Replies.{Reply, replies, reply_about}
 use Rattle.ghost_model.specs.core.Split.{public_of}
 use Rattle.ghost_model.specs.laws.SchemaTrees.{IsTree}

@@ -10,7 +10,7 @@ use Rattle.ghost_model.specs.core.Query.{Query}
 use Rattle.ghost_model.specs.readings.QueryReading.{reading}
 use Rattle.ghost_model.specs.core.Channel.{Catalog, Journal}
 use Rattle.ghost_model.specs.core.Lines.{Reason, WasRefused, WasBroken, WasAnswered, MetFault, AreLinesFor, session_text, all_done, broken_word, fault_word}
-use Rattle.ghost_model.specs.laws.ShortWords.{ended_of}
+use Rattle.ghost_model.specs.core.NextMove.{ended_of}
 use Rattle.ghost_model.specs.core.Split.{Hidden}
 use Rattle.key_lines.specs.Handing.{Handed, Hands}
 use Rattle.key_exec.specs.Texts.{IsRefusedText, broken_line}

@@ -8,7 +8,7 @@ use Rattle.ghost_model.specs.readings.QueryReading.{reading}
 use Rattle.ghost_model.specs.core.Channel.{Catalog, Journal}
 use Rattle.ghost_model.specs.core.Asks.{asked_of}
 use Rattle.ghost_model.specs.core.Lines.{all_done}
-use Rattle.ghost_model.specs.laws.ShortWords.{ended_of}
+use Rattle.ghost_model.specs.core.NextMove.{ended_of}
 use Rattle.ghost_model.specs.core.Replies.{replies}
 use Rattle.ghost_model.specs.core.Split.{public_of}
 use Rattle.ghost_model.specs.laws.SessionLaws.{whole_replies}

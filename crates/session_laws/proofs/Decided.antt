@@ -8,9 +8,8 @@ use Rattle.ghost_model.specs.readings.QueryReading.{reading}
 use Rattle.ghost_model.specs.core.Channel.{Catalog, Journal}
 use Rattle.ghost_model.specs.core.Asks.{NumberedAsk, asks_of, asked_of}
 use Rattle.ghost_model.specs.core.Moves.{taken}
-use Rattle.ghost_model.specs.core.NextMove.{EndedAsk, Heard, heard}
+use Rattle.ghost_model.specs.core.NextMove.{EndedAsk, Heard, heard, ended_of}
 use Rattle.ghost_model.specs.core.Lines.{is_refused_by, was_refused, all_done}
-use Rattle.ghost_model.specs.laws.ShortWords.{ended_of}
 use Rattle.ghost_model.proofs.ChannelLemmas.Tests.{false_is_not}
 use Rattle.session_laws.specs.TextEnds.{not_ended}
 use Rattle.session_laws.specs.TextCases.{is_refused_in, IsDecided}

@@ -14,14 +14,14 @@ use Rattle.ghost_model.specs.forms.Frames.{AreBytes, frame_bytes}
 use Rattle.ghost_model.specs.core.Asks.{NumberedAsk, asked_of, is_proper_ask}
 use Rattle.ghost_model.specs.readings.AskReading.{ask_in}
 use Rattle.ghost_model.specs.core.Moves.{taken}
-use Rattle.ghost_model.specs.core.NextMove.{Heard, EndedAsk, IsFinished, ask_next, heard, hear_all, at_first}
+use Rattle.ghost_model.specs.core.NextMove.{Heard, EndedAsk, IsFinished, ask_next, heard, hear_all, at_first, ended_of}
 use Rattle.ghost_model.specs.laws.ChannelLaws.{IsDue}
 use Rattle.ghost_model.specs.core.Split.{public_of, hidden_of}
 use Rattle.ghost_model.specs.core.Host.{welcomes_of, asks_in_frame}
 use Rattle.ghost_model.specs.laws.HostLaws.{Exchange, asked_in, ended_in, exchange_frames, reply_frames, AreExchanges, IsHeardWhole, IsGreeted}
 use Rattle.ghost_model.specs.core.Honest.{AreWelcomes, AreReplies, asks_sent}
 use Rattle.ghost_model.specs.core.Lines.{Reason, WasRefused, WasBroken, WasAnswered, MetFault, AreLinesFor, is_refused_by, was_refused, all_done, session_text}
-use Rattle.ghost_model.specs.laws.ShortWords.{ended_of, rows_from_replies}
+use Rattle.ghost_model.specs.laws.ShortWords.{rows_from_replies}
 use Rattle.ghost_model.specs.core.Printed.{answer_lines, lines_of_reading, lines_of_text, lines_from, printed_lines}
 use Rattle.ghost_model.proofs.ChannelLemmas.Asks.{spelled_ask_is_read}
 use Rattle.ghost_model.proofs.ChannelLemmas.Greeting.{greetings_are_heard}

@@ -7,9 +7,8 @@ use Rattle.ghost_model.specs.readings.QueryReading.{reading}
 use Rattle.ghost_model.specs.core.Channel.{Catalog, Journal}
 use Rattle.ghost_model.specs.core.Asks.{asked_of}
 use Rattle.ghost_model.specs.core.Moves.{taken, answers}
-use Rattle.ghost_model.specs.core.NextMove.{Awaits, AwaitsNothing, EndedAsk, Heard, heard, standing_after, is_stop, GoesOn, IsFinished}
+use Rattle.ghost_model.specs.core.NextMove.{Awaits, AwaitsNothing, EndedAsk, Heard, heard, standing_after, is_stop, GoesOn, IsFinished, ended_of}
 use Rattle.ghost_model.specs.core.Lines.{was_refused, all_done, broken_word}
-use Rattle.ghost_model.specs.laws.ShortWords.{ended_of}
 use Rattle.session_laws.specs.TextEnds.{is_settled, is_settled_in}
 use Rattle.session_laws.specs.TextCases.{IsDecided, Outcome, IsDone, ByHost, ByLink, ByFrame}
 use Rattle.session_laws.proofs.Closing.{Closes, by_stop, by_invalid, by_end, why_closed, any_answer}

@@ -13,7 +13,7 @@ use Rattle.ghost_model.specs.core.Channel.{Catalog, Ask, Journal}
 use Rattle.ghost_model.specs.forms.Catalog.{canonical_text}
 use Rattle.ghost_model.specs.core.Asks.{NumberedAsk, asked, asks_of, asks_of_reading, asked_of}
 use Rattle.ghost_model.specs.core.Moves.{taken}
-use Rattle.ghost_model.specs.core.NextMove.{EndedAsk, heard}
+use Rattle.ghost_model.specs.core.NextMove.{EndedAsk, heard, ended_of}
 use Rattle.ghost_model.specs.laws.ChannelLaws.{IsDue}
 use Rattle.ghost_model.specs.core.Split.{Public, public_of}
 use Rattle.ghost_model.specs.core.Host.{asks_in_frame}
@@ -21,7 +21,6 @@ use Rattle.ghost_model.specs.laws.HostLaws.{Exchange, asked_in, ended_in}
 use Rattle.ghost_model.specs.core.Honest.{AreReplies, asks_sent}
 use Rattle.ghost_model.specs.core.Replies.{Reply, reply_of, replies, reply_for}
 use Rattle.ghost_model.specs.core.Lines.{was_refused, all_done}
-use Rattle.ghost_model.specs.laws.ShortWords.{ended_of}
 use Rattle.ghost_model.specs.laws.SessionLaws.{whole_reply, whole_replies}
 use Rattle.ghost_model.proofs.ChannelLemmas.Tests.{false_is_not}
 use Rattle.ghost_model.proofs.ChannelLemmas.Sending.{sent_is_due}

@@ -9,12 +9,12 @@ use Rattle.ghost_model.specs.core.Channel.{Catalog, Frame, HelloFrame, AskFrame,
 use Rattle.ghost_model.specs.forms.Frames.{frame_in}
 use Rattle.ghost_model.specs.core.Asks.{NumberedAsk, asked_of}
 use Rattle.ghost_model.specs.core.Moves.{taken, answers, piece_of}
-use Rattle.ghost_model.specs.core.NextMove.{Awaits, AwaitsCatalog, AwaitsReply, AwaitsNothing, Ending, Answered, Refused, EndedAsk, ended, Heard, Verdict, Lacking, Complete, Invalid, verdict, after_frame, ask_next, still, of_later_texts, ended_by, heard_as, hear, hear_all, at_first, heard, is_stop}
+use Rattle.ghost_model.specs.core.NextMove.{Awaits, AwaitsCatalog, AwaitsReply, AwaitsNothing, Ending, Answered, Refused, EndedAsk, ended, Heard, Verdict, Lacking, Complete, Invalid, verdict, after_frame, ask_next, still, of_later_texts, ended_by, heard_as, hear, hear_all, at_first, heard, is_stop, ended_of}
 use Rattle.ghost_model.specs.core.Split.{Hidden}
 use Rattle.ghost_model.specs.core.Replies as answered
 use Rattle.ghost_model.specs.core.Replies.{reply_for, answer_from}
 use Rattle.ghost_model.specs.core.Lines.{Reason, WasRefused, WasBroken, WasAnswered, MetFault, AreLinesFor, AreLines, was_refused, all_done, broken_word, session_text}
-use Rattle.ghost_model.specs.laws.ShortWords.{ended_of, rows_from_replies}
+use Rattle.ghost_model.specs.laws.ShortWords.{rows_from_replies}
 use Rattle.ghost_model.proofs.ChannelLemmas.Tests.{false_is_not}
 use Rattle.ghost_model.proofs.ChannelLemmas.Sending.{heard_more}
 use Rattle.ghost_model.proofs.SessionLemmas.Answered.{filter_joined}

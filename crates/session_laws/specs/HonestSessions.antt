@@ -6,11 +6,10 @@ use Rattle.ghost_model.specs.core.Values.{Database}
 use Rattle.ghost_model.specs.core.Query.{Query}
 use Rattle.ghost_model.specs.readings.QueryReading.{reading}
 use Rattle.ghost_model.specs.core.Channel.{Catalog, Journal}
-use Rattle.ghost_model.specs.core.NextMove.{EndedAsk, IsProper, IsFinished}
+use Rattle.ghost_model.specs.core.NextMove.{EndedAsk, IsProper, IsFinished, ended_of}
 use Rattle.ghost_model.specs.core.Split.{Hidden, public_of, hidden_of}
 use Rattle.ghost_model.specs.core.Honest.{IsHonest, IsSetting, IsCatalogOf}
 use Rattle.ghost_model.specs.core.Lines.{Reason, WasRefused, WasBroken, WasAnswered, MetFault, AreLines, was_refused, all_done}
-use Rattle.ghost_model.specs.laws.ShortWords.{ended_of}
 use Rattle.ghost_model.specs.core.Printed.{printed_lines}
 use Rattle.ghost_model.specs.core.Replies.{Reply, reply_of, replies}
 use Rattle.ghost_model.specs.laws.SessionLaws.{whole_reply, whole_replies}

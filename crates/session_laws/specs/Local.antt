@@ -9,11 +9,11 @@ use Rattle.ghost_model.specs.core.Meaning.{answer}
 use Rattle.ghost_model.specs.core.Channel.{Catalog, Move, Dial, Listen, Accept, Send, Take, Close, Journal}
 use Rattle.ghost_model.specs.core.Asks.{asked_of}
 use Rattle.ghost_model.specs.core.Moves.{taken, answers}
-use Rattle.ghost_model.specs.core.NextMove.{IsProper, IsFinished, next_move, heard, is_stop}
+use Rattle.ghost_model.specs.core.NextMove.{IsProper, IsFinished, next_move, heard, is_stop, ended_of}
 use Rattle.ghost_model.specs.core.Split.{public_of, hidden_of}
 use Rattle.ghost_model.specs.core.Host.{Holding, host_of}
 use Rattle.ghost_model.specs.core.Lines.{was_refused, all_done}
-use Rattle.ghost_model.specs.laws.ShortWords.{ended_of, rows_from_replies}
+use Rattle.ghost_model.specs.laws.ShortWords.{rows_from_replies}
 use Rattle.ghost_model.specs.core.Printed.{printed_lines}
 use Rattle.ghost_model.specs.laws.SessionLaws.{IsServedThroughout}
 use Rattle.ghost_model.specs.core.Honest.{IsSetting, IsCatalogOf}

@@ -7,9 +7,8 @@ use Rattle.ghost_model.specs.core.Query.{Query}
 use Rattle.ghost_model.specs.readings.QueryReading.{reading}
 use Rattle.ghost_model.specs.core.Channel.{Catalog, Journal}
 use Rattle.ghost_model.specs.core.Moves.{answers}
-use Rattle.ghost_model.specs.core.NextMove.{is_stop, IsProper, IsFinished}
+use Rattle.ghost_model.specs.core.NextMove.{is_stop, IsProper, IsFinished, ended_of}
 use Rattle.ghost_model.specs.core.Lines.{is_refused_by, was_refused, all_done, broken_word}
-use Rattle.ghost_model.specs.laws.ShortWords.{ended_of}
 use Rattle.session_laws.specs.TextEnds.{heard_in, is_settled_in}
 use Rattle.ghost_model.specs.core.Asks.{asked_of}
 

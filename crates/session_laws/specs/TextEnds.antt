@@ -6,10 +6,9 @@ use Rattle.std.specs.List.{list_all, list_any}
 use Rattle.ghost_model.specs.core.Channel.{Catalog, Journal}
 use Rattle.ghost_model.specs.core.Asks.{NumberedAsk, asked_of, row_width, rows_in}
 use Rattle.ghost_model.specs.core.Moves.{taken}
-use Rattle.ghost_model.specs.core.NextMove.{Awaits, AwaitsCatalog, AwaitsReply, AwaitsNothing, EndedAsk, Heard, heard, hear_all, IsProper, IsFinished}
+use Rattle.ghost_model.specs.core.NextMove.{Awaits, AwaitsCatalog, AwaitsReply, AwaitsNothing, EndedAsk, Heard, heard, hear_all, IsProper, IsFinished, ended_of}
 use Rattle.ghost_model.specs.core.Split.{Hidden}
 use Rattle.ghost_model.specs.core.Lines.{Reason, AreLines, AreLinesFor, session_text}
-use Rattle.ghost_model.specs.laws.ShortWords.{ended_of}
 use Rattle.ghost_model.specs.core.Replies as answered
 use Rattle.ghost_model.specs.core.Replies.{reply_for, replies}
 

@@ -8,7 +8,7 @@ use Rattle.std.proofs.lemmas.Bool.{and_parts, eqb-true, eq-eqb}
 use Rattle.std.proofs.lemmas.List.Folds.{list_any-append, list_all-append}
 use Rattle.std.proofs.lemmas.List.Elements.{filter-append}
 use Rattle.ghost_base.specs.CellLaws.{ValuesAreOrdered}
-use Rattle.ghost_model.specs.core.Schema.{Schema, parent, is_table, first_of}
+use Rattle.ghost_model.specs.core.Schema.{Schema, parent, is_table, first_of, column_named}
 use Rattle.ghost_model.specs.laws.SchemaTrees.{IsTree}
 use Rattle.ghost_model.specs.core.Values.{Value, Database, is_null}
 use Rattle.ghost_model.specs.core.Database.{order_of, meets, holds}
@@ -18,7 +18,6 @@ use Rattle.ghost_model.specs.core.Query.{Query, Field, Condition, OneOf, Join, i
 use Rattle.ghost_model.specs.refusals.QueryGrammar as grammar
 use Rattle.ghost_model.specs.refusals.QueryGrammar.{ColumnText, Bare, Qualified, ConditionText, QueryText}
 use Rattle.ghost_model.specs.refusals.QueryMeaning.{field, table_named, fields_named, meanings, members_meant, group_of, conditions_of, resolved, from_tables, is_reference_to, is_proper, is_join_of, lacks_join, is_unlinked, value_of_literal}
-use Rattle.ghost_model.specs.laws.ShortWords.{column_named}
 use Rattle.ghost_model.specs.core.Meaning as meaning
 use Rattle.ghost_model.specs.core.Meaning.{Source, pick, compares, is_kept, answer_of_row, answer_by_top, all_of, answer}
 use Rattle.ghost_model.specs.forms.Left.{is_left, without_left}

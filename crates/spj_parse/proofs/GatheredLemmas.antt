@@ -4,12 +4,11 @@ use Rattle.std.specs.Prelude.{option_to_list}
 use Rattle.std.specs.List.{list_any}
 use Rattle.std.proofs.lemmas.List.Folds.{list_any-append}
 use Rattle.std.proofs.lemmas.Grind.{flat_map-append}
-use Rattle.ghost_model.specs.core.Schema.{Schema, Column, column_at, columns_of, first_of, is_table, parent}
+use Rattle.ghost_model.specs.core.Schema.{Schema, Column, column_at, columns_of, first_of, is_table, parent, column_named}
 use Rattle.ghost_model.specs.core.Query.{Query, Field, Condition, Join, is_among}
 use Rattle.ghost_model.specs.refusals.QueryGrammar.{ColumnText, Bare, Qualified, Selection, All, Columns, QueryText}
 use Rattle.ghost_model.specs.readings.QueryPlaces.{syntax_of}
 use Rattle.ghost_model.specs.refusals.QueryMeaning.{field, table_named, fields_named, fields_of, meanings, from_names, from_tables, selected_fields, selected_count, selection_columns, condition_columns, resolved, is_over_limit}
-use Rattle.ghost_model.specs.laws.ShortWords.{column_named}
 use Rattle.spj_parse.specs.Conditions.{IsClear, first_alone}
 use Rattle.spj_parse.specs.Items.{Item, Selected, From, selection_items, condition_items, items_of, items_in}
 use Rattle.spj_parse.specs.Names.{first_meaning, fields_in}

@@ -1,7 +1,6 @@
 //! What the names of a text stand for.
 
 ghost use Rattle.std.specs.Prelude.{◌≡◌, ℕ, ◌<◌, List, IfSome, bytes_eq, option_map, option_to_list, slice_get};
-ghost use Rattle.ghost_model.specs.laws.ShortWords as short;
 ghost use Rattle.ghost_model.specs.core.Schema as model;
 ghost use Rattle.ghost_model.specs.refusals.Tokens.{in_lower_case};
 ghost use Rattle.ghost_model.specs.refusals.QueryMeaning as meaning;
@@ -70,7 +69,7 @@ pub fn table_named(schema: &Schema, name: &[u8]) -> Option<usize>
 
 /// The column of this name in a table.
 pub fn column_named(schema: &Schema, table: usize, name: &[u8]) -> Option<usize>
-    ensures place { result ≡ short.column_named schema.now table (in_lower_case name.now) }
+    ensures place { result ≡ model.column_named schema.now table (in_lower_case name.now) }
     ensures few { IfSome result (λ column. column < MAX_COLUMNS) }
 {
     let _ = schema.tables();

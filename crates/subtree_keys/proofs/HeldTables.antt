@@ -7,18 +7,17 @@ use Rattle.std.proofs.lemmas.Bool.{eqb-true, le-leb}
 use Rattle.std.proofs.lemmas.List.{take-append-le}
 use Rattle.std.proofs.Math.Seq.{drop-append_seam}
 use Rattle.std.proofs.lemmas.List.FromFn.{get_or-map-range_with_len}
-use Rattle.ghost_model.specs.core.Schema.{Schema, is_empty, ancestor}
+use Rattle.ghost_model.specs.core.Schema.{Schema, is_empty, ancestor, IsAtOrBelow}
 use Rattle.ghost_model.specs.core.Values.{Row, Database}
 use Rattle.ghost_model.specs.core.Channel.{Catalog}
 use Rattle.ghost_model.specs.core.Database.{IsDatabase, rows_of, row_of, row_counts, leads}
 use Rattle.ghost_model.specs.core.Split.{hidden_of}
-use Rattle.ghost_model.specs.laws.MeaningLaws.{IsAtOrBelow, Lands, RowsLeadToRows}
+use Rattle.ghost_model.specs.laws.MeaningLaws.{Lands, RowsLeadToRows}
 use Rattle.ghost_model.specs.laws.LayoutLaws.{IsLimited, AreFew, LayoutIsSmall, LevelsAreAncestors}
 use Rattle.ghost_model.specs.laws.FlashLaws.{RowsLeadByHiddenValues, RecordsAreAsWide}
 use Rattle.ghost_model.specs.laws.RunLaws.{NumbersAreRead}
 use Rattle.ghost_model.specs.forms.Runs.{number_in, number_cell, record_at}
-use Rattle.ghost_model.specs.forms.Layout.{below, levels_of, above_of, is_below, descendants_of, count_of}
-use Rattle.ghost_model.specs.laws.ShortWords.{subtree_table}
+use Rattle.ghost_model.specs.forms.Layout.{below, levels_of, above_of, is_below, descendants_of, count_of, subtree_table}
 use Rattle.ghost_model.specs.forms.Flash.{HoldsSubtrees, leads_to, subtree_record, ids}
 use Rattle.ghost_model.specs.forms.Slots.{is_row, are_rows}
 use Rattle.ghost_model.proofs.MeaningLemmas.Leading.{place_within, get_within}

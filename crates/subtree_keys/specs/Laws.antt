@@ -7,8 +7,7 @@ use Rattle.ghost_model.specs.core.Database.{IsDatabase, row_counts}
 use Rattle.ghost_model.specs.core.Split.{Hidden, hidden_of}
 use Rattle.ghost_model.specs.laws.LayoutLaws.{IsLimited}
 use Rattle.ghost_model.specs.forms.Runs.{record_at, page_of, slot_of, found_in}
-use Rattle.ghost_model.specs.forms.Layout.{count_of, descendants_of, Subtrees}
-use Rattle.ghost_model.specs.laws.ShortWords.{subtree_table}
+use Rattle.ghost_model.specs.forms.Layout.{count_of, descendants_of, Subtrees, subtree_table}
 use Rattle.ghost_model.specs.forms.Flash.{HoldsSubtrees, leads_to, subtree_record}
 use Rattle.ghost_model.specs.forms.Slots.{IsDamagedIn, are_rows, in_slot, may_stand}
 use Rattle.subtree_keys.specs.declared.table.SubtreeTable.{SubtreeTable}

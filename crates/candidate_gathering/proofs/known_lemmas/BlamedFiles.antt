@@ -9,8 +9,7 @@ use Rattle.std.proofs.lemmas.Option.{slice_get_within}
 use Rattle.ghost_model.specs.core.Channel.{Catalog}
 use Rattle.ghost_model.specs.core.Query.{Query}
 use Rattle.ghost_model.specs.laws.LayoutLaws.{FilesLieAsSummed, LieAsSummed}
-use Rattle.ghost_model.specs.forms.Layout.{above_of, count_of, descendants_of, levels_of, File, Cells, Subtrees, IndexHeader, IndexDirectory, IndexLevel, IdDirectory, IdLevel}
-use Rattle.ghost_model.specs.laws.ShortWords.{subtree_table}
+use Rattle.ghost_model.specs.forms.Layout.{above_of, count_of, descendants_of, levels_of, File, Cells, Subtrees, IndexHeader, IndexDirectory, IndexLevel, IdDirectory, IdLevel, subtree_table}
 use Rattle.ghost_model.specs.forms.Runs.{Run, found_in, number_in, page_of, record_at, slot_of}
 use Rattle.ghost_model.specs.forms.Slots.{IsDamagedIn, are_rows}
 use Rattle.ghost_base.specs.declared.runs.ListRef.{ListRef}

@@ -4,8 +4,7 @@ use Rattle.std.proofs.lemmas.Bool.{and_parts, ltb-true}
 use Rattle.ghost_model.specs.core.Schema.{is_empty}
 use Rattle.ghost_model.specs.core.Channel.{Catalog}
 use Rattle.ghost_model.specs.forms.Runs.{page_of, run_end, run_pages}
-use Rattle.ghost_model.specs.forms.Layout.{static_end, files_end, is_hidden, levels_of, above_of, descendants_of, File, run_of_file}
-use Rattle.ghost_model.specs.laws.ShortWords.{subtree_table}
+use Rattle.ghost_model.specs.forms.Layout.{static_end, files_end, is_hidden, levels_of, above_of, descendants_of, File, run_of_file, subtree_table}
 use Rattle.ghost_model.specs.forms.Layout as layout
 use Rattle.ghost_model.specs.forms.Slots.{has_file, in_slot, slots_in}
 use Rattle.ghost_model.specs.laws.SchemaTrees.{IsTree}

@@ -3,6 +3,7 @@ use Rattle.ghost_model.specs.core.Split.{hidden_of}
 use Rattle.climbing_index.specs.Laws.{HeldIndexesAreWhole, HeldIdIndexesAreWhole, WholeIndexesAreHeldBut}
 use Rattle.subtree_keys.specs.Laws.{HeldTablesAreHeldBut, TablesAreRightButForDamage}
 use Rattle.candidate_gathering.specs.known.Laws.{HeldFilesAreKnown}
+use Rattle.ghost_model.proofs.LayoutLemmas.Limited.{limited_by}
 
 pub known : HeldIndexesAreWhole → HeldIdIndexesAreWhole → WholeIndexesAreHeldBut → HeldTablesAreHeldBut → TablesAreRightButForDamage → HeldFilesAreKnown
 known whole id_whole but held right page cat database of holds =
@@ -17,5 +18,5 @@ known whole id_whole but held right page cat database of holds =
           let all = id_whole page cat database of holds.id_indexes table there above in
           record { whole = all; but = but.id_index page cat hidden table all };
       subtrees = λ table there below.
-          right page cat database of.limited of.is of.counts table there (held page cat hidden holds.subtrees table there below);
+          right page cat database (limited_by cat of.proper) of.is of.counts table there (held page cat hidden holds.subtrees table there below);
     }

@@ -21,8 +21,7 @@ use Rattle.ghost_model.specs.laws.GapLaws.{AreLevelLists, LevelFilesFit}
 use Rattle.ghost_model.specs.laws.FlashLaws.{CellsFit}
 use Rattle.ghost_model.specs.laws.RunLaws.{NumbersAreRead}
 use Rattle.ghost_model.specs.forms.Runs.{number_in, number_cell, record_at}
-use Rattle.ghost_model.specs.forms.Layout.{is_hidden, width_at, count_of, levels_of, above_of, descendants_of, File, Cells, Subtrees, IndexHeader, IndexDirectory, IndexLevel, IdDirectory, IdLevel}
-use Rattle.ghost_model.specs.laws.ShortWords.{subtree_table, column_file}
+use Rattle.ghost_model.specs.forms.Layout.{is_hidden, width_at, count_of, levels_of, above_of, descendants_of, File, Cells, Subtrees, IndexHeader, IndexDirectory, IndexLevel, IdDirectory, IdLevel, column_file, subtree_table}
 use Rattle.ghost_model.specs.forms.Flash.{HoldsFiles, cell_led_to, directory_record, hidden_cells, id_lists, ids, leads_to, value_lists}
 use Rattle.ghost_model.specs.forms.Gaps.{level_bytes}
 use Rattle.ghost_model.specs.forms.Slots.{IsDamagedSlot, IsWrong, IsWrongRecord, are_rows, before_slot, child_rows, follow, has_file, in_slot, may_follow, may_stand, slots_in, spelled}
@@ -36,6 +35,7 @@ use Rattle.candidate_gathering.specs.known.Known.{KnowsIndexes}
 use Rattle.candidate_gathering.proofs.known_lemmas.DirectoryOrders.{GoesOn, follows}
 use Rattle.candidate_gathering.proofs.known_lemmas.TablesThere.{low_is_table, high_is_table}
 use Rattle.candidate_gathering.proofs.known_lemmas.FilePages.{above_some, not_so}
+use Rattle.ghost_model.proofs.LayoutLemmas.Limited.{limited_by}
 
 -- what stands in a slot may stand there, by itself and after those before it
 record IsGood (page : ℕ → List ℕ) (cat : Catalog) (file : File) (place : ℕ) : Type 0 where
@@ -172,7 +172,7 @@ module _ (page : ℕ → List ℕ) (cat : Catalog) (database : Database) (of : I
       (holds : HoldsFiles page cat (hidden_of cat.schema database)) (known : KnowsIndexes page page cat database) where
     cell_good : (table column : ℕ) → is_hidden cat.schema table column ≡ true → (place : ℕ) → place < count_of cat table → IsGood page cat (Cells table column) place
     cell_good table column h place low =
-        let has = columns page cat database of.limited.tree of.is of.counts holds.columns table column h (place + 1) (omega arith) (omega (arith, low)) in
+        let has = columns page cat database (limited_by cat of.proper).tree of.is of.counts holds.columns table column h (place + 1) (omega arith) (omega (arith, low)) in
         let same : place + 1 - 1 ≡ place = omega arith in
         record {
           stands = ap is_some (sym (ap (λ at. spelled (kind_at cat.schema table column) (child_rows cat table column) (record_at page (column_file cat table column) at)) same) ∙ has.on_pages);
@@ -181,7 +181,7 @@ module _ (page : ℕ → List ℕ) (cat : Catalog) (database : Database) (of : I
 
     record_good : (table : ℕ) → is_empty (descendants_of cat.schema table) ≡ false → (place : ℕ) → place < count_of cat table → IsGood page cat (Subtrees table) place
     record_good table below place low =
-        let has = tables page cat database of.limited of.is of.counts holds.subtrees table (high_is_table cat.schema table below) below (place + 1) (omega arith) (omega (arith, low)) in
+        let has = tables page cat database (limited_by cat of.proper) of.is of.counts holds.subtrees table (high_is_table cat.schema table below) below (place + 1) (omega arith) (omega (arith, low)) in
         let same : place + 1 - 1 ≡ place = omega arith in
         record {
           stands =
@@ -207,12 +207,12 @@ module _ (page : ℕ → List ℕ) (cat : Catalog) (database : Database) (of : I
         indexes.code page cat database of table column both.0 index.values index.whole level (ltb-true level (length (levels_of cat.schema table)) both.1) place wrong
     slot_good (IdDirectory table) has place low wrong =
         let above = not_so (is_empty (above_of cat.schema table)) has in
-        let there = low_is_table cat.schema of.limited.tree table above in
+        let there = low_is_table cat.schema (limited_by cat of.proper).tree table above in
         not_wrong page cat (IdDirectory table) place (id_entry_good table there (known.ids table there above).whole place low) wrong
     slot_good (IdLevel table level) has place low wrong =
         let under = ltb-true level (length (above_of cat.schema table)) has in
         let above = above_some (above_of cat.schema table) level under in
-        let there = low_is_table cat.schema of.limited.tree table above in
+        let there = low_is_table cat.schema (limited_by cat of.proper).tree table above in
         indexes.id_code page cat database of table there (known.ids table there above).whole level under place wrong
 
     pub no_damage : (number slot found : ℕ) → IsDamagedSlot cat page number slot found → ⊥

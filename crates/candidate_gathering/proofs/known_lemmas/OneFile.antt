@@ -7,12 +7,12 @@ use Rattle.std.proofs.lemmas.List.Sums.{sum_by_more, sum_by-take-le}
 use Rattle.ghost_model.specs.core.Schema.{is_empty}
 use Rattle.ghost_model.specs.core.Channel.{Catalog}
 use Rattle.ghost_model.specs.forms.Runs.{Run, run_end, run_pages}
-use Rattle.ghost_model.specs.forms.Layout.{is_hidden, levels_of, above_of, descendants_of, File, Cells, Subtrees, IndexHeader, IndexDirectory, IndexLevel, IdDirectory, IdLevel, run_of_file}
+use Rattle.ghost_model.specs.forms.Layout.{is_hidden, levels_of, above_of, descendants_of, File, Cells, Subtrees, IndexHeader, IndexDirectory, IndexLevel, IdDirectory, IdLevel, run_of_file, subtree_table}
 use Rattle.ghost_model.specs.forms.Slots.{has_file}
 use Rattle.ghost_model.specs.laws.LayoutSums as sums
 use Rattle.ghost_model.specs.laws.LayoutLaws.{LieAsSummed, LieInOrder}
 use Rattle.ghost_model.specs.laws.SchemaTrees.{IsTree}
-use Rattle.ghost_model.specs.laws.ShortWords.{column_count, subtree_table}
+use Rattle.ghost_model.specs.laws.ShortWords.{column_count}
 use Rattle.ghost_model.proofs.LayoutLemmas.Order.{sums_rise}
 use Rattle.candidate_gathering.proofs.known_lemmas.TablesThere.{low_is_table, high_is_table}
 

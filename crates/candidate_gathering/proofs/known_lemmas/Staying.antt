@@ -25,6 +25,7 @@ use Rattle.candidate_gathering.specs.known.Reading.{IsReadByForms}
 use Rattle.candidate_gathering.specs.known.Known.{KeepsStatic, KnowsIndexes, IsBadSlotIn, IsListFile, IsReadCrossing}
 use Rattle.candidate_gathering.specs.known.Laws.{KnowledgeStays}
 use Rattle.candidate_gathering.proofs.known_lemmas.FilePages.{above_some, slot_kept, slots_room}
+use Rattle.ghost_model.proofs.LayoutLemmas.Limited.{limited_by}
 
 -- ---- damaged slots
 
@@ -121,7 +122,7 @@ module _ (summed : FilesLieAsSummed) (orders : FilesLieInOrder) (small : LayoutI
   pages : (page now right : ℕ → List ℕ) (cat : Catalog) (database : Database) → KeepsStatic cat page now → KnowsIndexes page right cat database → KnowsIndexes now right cat database
   pages page now right cat database keeps knows =
       let of = knows.is_of in
-      let kept = are_kept cat of.limited.tree page now keeps in
+      let kept = are_kept cat (limited_by cat of.proper).tree page now keeps in
       record {
         is_of = of;
         indexes = λ table column h.
@@ -145,7 +146,7 @@ module _ (summed : FilesLieAsSummed) (orders : FilesLieInOrder) (small : LayoutI
   right_pages : (page right other : ℕ → List ℕ) (cat : Catalog) (database : Database) → KeepsStatic cat right other → KnowsIndexes page right cat database → KnowsIndexes page other cat database
   right_pages page right other cat database keeps knows =
       let of = knows.is_of in
-      let kept = are_kept cat of.limited.tree right other keeps in
+      let kept = are_kept cat (limited_by cat of.proper).tree right other keeps in
       record {
         is_of = of;
         indexes = λ table column h.
@@ -168,7 +169,7 @@ module _ (summed : FilesLieAsSummed) (orders : FilesLieInOrder) (small : LayoutI
       → (table column : ℕ) → is_hidden cat.schema table column ≡ true → (values : List (List ℕ))
       → HoldsIndexBut page cat (hidden_of cat.schema database) table column values → HoldsIndexBut now cat (hidden_of cat.schema database) table column values
   one_index page now cat database of keeps table column h values but =
-      stay.but page now cat database of (are_kept cat of.limited.tree page now keeps) table column h values but
+      stay.but page now cat database of (are_kept cat (limited_by cat of.proper).tree page now keeps) table column h values but
 
   header_same : (page now : ℕ → List ℕ) (cat : Catalog) → IsTree cat.schema → KeepsStatic cat page now
       → (table column : ℕ) → is_hidden cat.schema table column ≡ true → (index : ClimbingIndex) → IsIndexOf cat table column index → header_count now index ≡ header_count page index

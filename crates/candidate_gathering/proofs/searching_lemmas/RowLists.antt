@@ -39,9 +39,10 @@ use Rattle.candidate_gathering.specs.searching.Begun.{AreListsAt, AreRepliesAt, 
 use Rattle.candidate_gathering.specs.searching.Laws.{HaveRows}
 use Rattle.candidate_gathering.specs.searching.Searching.{AreEntries}
 use Rattle.candidate_gathering.proofs.searching_lemmas.Places.{both, in_one, indexed, indexed_above, many, mapped_get, mapped_twice, within_above}
+use Rattle.ghost_model.proofs.LayoutLemmas.Limited.{limited_by}
 
 over_of : {cat : Catalog} {database : Database} → IsOf cat database → IsOver cat database
-over_of of = record { tree = of.limited.tree; is = of.is; counts = of.counts }
+over_of of = record { tree = (limited_by cat of.proper).tree; is = of.is; counts = of.counts }
 
 -- the lists of entries as they come, by the groups and the level that they begin with
 began :

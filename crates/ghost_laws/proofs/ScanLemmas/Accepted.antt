@@ -2,11 +2,10 @@
 use Rattle.std.proofs.Common.{◌≡◌, ℕ, ◌⊎◌, inl, inr, Bool, true, false, not, ◌||◌, List, [], ◌∷◌, map, filter, flat_map, sym, subst, refl, Option, Some, None, option_map, is_none}
 use Rattle.std.specs.Prelude.{option_to_list}
 use Rattle.std.specs.List.{list_all, list_any}
-use Rattle.ghost_model.specs.core.Schema.{Schema, is_table}
+use Rattle.ghost_model.specs.core.Schema.{Schema, is_table, column_named}
 use Rattle.ghost_model.specs.core.Query.{Query, Field, Member, Condition, OneOf, Join, compared, AtMost, AtLeast, top_of, tested}
 use Rattle.ghost_model.specs.refusals.QueryGrammar.{ColumnText, Bare, Qualified, MemberText, ConditionText, Alone, AnyOf, LiesBetween, Joins}
 use Rattle.ghost_model.specs.refusals.QueryMeaning.{field, value_of_literal, table_named, fields_named, meanings, tests_of_member, member_column, members_meant, group_of, conditions_of, resolved, is_reference_to, is_proper, lacks_join, Means}
-use Rattle.ghost_model.specs.laws.ShortWords.{column_named}
 use Rattle.ghost_model.proofs.QueryReadingLemmas.{kept_rules}
 use Rattle.ghost_model.proofs.MeaningLemmas.OneRow.{Among, from_filter, from_map, either_true, neither_true, both_true}
 use Rattle.ghost_model.proofs.SessionLemmas.Accepted.{Each, each_is}

@@ -1,11 +1,10 @@
 -- The columns that an accepted query selects and tests are columns of the schema.
 use Rattle.std.proofs.Common.{◌≡◌, ℕ, suc, ◌+◌, inl, inr, Bool, true, false, List, [], ◌∷◌, filter, sym, ◌∙◌, ap, subst, refl, arith, Option, Some, None, option_map, unwrap_or, slice_get, bytes_eq, if◌then◌else◌}
 use Rattle.std.specs.Prelude.{option_to_list}
-use Rattle.ghost_model.specs.core.Schema.{Schema, Column, columns_of, column_at, places_from, places_where, first_of, is_table}
+use Rattle.ghost_model.specs.core.Schema.{Schema, Column, columns_of, column_at, places_from, places_where, first_of, is_table, column_named}
 use Rattle.ghost_model.specs.core.Query.{Query, Field, Condition}
 use Rattle.ghost_model.specs.refusals.QueryGrammar.{ColumnText, Bare, Qualified, Selection, All, Columns}
 use Rattle.ghost_model.specs.refusals.QueryMeaning.{field, table_named, fields_named, fields_of, meanings, selected_fields, resolved, Means}
-use Rattle.ghost_model.specs.laws.ShortWords.{column_named}
 use Rattle.ghost_model.proofs.MeaningLemmas.OneRow.{Among, from_map}
 use Rattle.ghost_laws.proofs.ScanLemmas.Choices.{from_flat}
 use Rattle.ghost_laws.proofs.ScanLemmas.Accepted.{With, conditions_with}

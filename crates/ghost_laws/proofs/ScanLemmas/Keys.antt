@@ -5,14 +5,13 @@ use Rattle.std.specs.List.{list_all}
 use Rattle.std.specs.Cmp.{int_cmp_is}
 use Rattle.std.specs.declared.cmp.Ordering.TheVariants as order
 use Rattle.std.proofs.lemmas.List.Sums.{sum_by-cons}
-use Rattle.ghost_model.specs.core.Schema.{Schema, Column, Table, column_at, parent, is_table, references_to, first_of, places_from, ancestor}
+use Rattle.ghost_model.specs.core.Schema.{Schema, Column, Table, column_at, parent, is_table, references_to, first_of, places_from, ancestor, IsAtOrBelow}
 use Rattle.ghost_model.specs.laws.SchemaTrees.{IsTree}
 use Rattle.ghost_model.specs.core.Values.{Value, Null, Number, Text, Row, Database}
 use Rattle.ghost_model.specs.core.Query.{Query, Field, Condition, OneOf, Join}
 use Rattle.ghost_model.specs.core.Query as query
 use Rattle.ghost_model.specs.refusals.QueryMeaning.{is_reference_to, is_join_of}
 use Rattle.ghost_model.specs.core.Database.{IsDatabase, row_of, value_at_row, identifier_in, reference_column, points_to, leads}
-use Rattle.ghost_model.specs.laws.MeaningLaws.{IsAtOrBelow}
 use Rattle.ghost_model.specs.core.Meaning.{compares}
 use Rattle.ghost_model.proofs.MeaningLemmas.OneRow.{Among, among-filter, length-without, LeadsUp, leads_once, leads_on, IsLinked, both_true, either_true, any_of, both_are, key_child, held_by, in_table, place_told, not_empty}
 use Rattle.ghost_model.proofs.MeaningLemmas.Leading.{first_step, one_step_more, no_step, different, onwards, to_itself_within, along, landing, points_somewhere}

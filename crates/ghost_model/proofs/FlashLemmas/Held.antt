@@ -16,8 +16,8 @@ use Rattle.ghost_model.specs.forms.Runs.{Run, Stores, record_at, run_end, run_pa
 use Rattle.ghost_model.specs.forms.Gaps.{StoresBytes, level_bytes}
 use Rattle.ghost_model.specs.forms.Catalog.{current_version}
 use Rattle.ghost_model.specs.laws.RunLaws.{AgreeOn}
-use Rattle.ghost_model.specs.forms.Layout.{is_hidden, count_of, levels_of, above_of, descendants_of, catalog_pages, public_pages, gate_page, header_page, fresh_half, files_end}
-use Rattle.ghost_model.specs.laws.ShortWords.{column_count, column_file, subtree_table, index_header, index_directory, index_level, id_directory, id_level}
+use Rattle.ghost_model.specs.forms.Layout.{is_hidden, count_of, levels_of, above_of, descendants_of, catalog_pages, public_pages, gate_page, header_page, fresh_half, files_end, column_file, subtree_table}
+use Rattle.ghost_model.specs.laws.ShortWords.{column_count, index_header, index_directory, index_level, id_directory, id_level}
 use Rattle.ghost_model.specs.laws.LayoutSums.{column_pages, columns_pages, column_begin, column_pages_before, subtree_begin, subtree_pages, directory_width, directory_pages, level_pages, levels_pages, index_begin, index_pages, index_pages_before, indexes_pages, id_index_begin, id_index_pages, id_directory_pages, table_begin, table_pages}
 use Rattle.ghost_model.specs.laws.LayoutSums as sums
 use Rattle.ghost_model.specs.laws.LayoutLaws.{AreNarrow, LieAsSummed, LieInOrder}

@@ -4,8 +4,8 @@ use Rattle.std.specs.Prelude.{◌==◌, nat_lt, option_and_then}
 use Rattle.std.proofs.lemmas.Bool.{cases_lt, cond-true, lt-ltb, le-ltb, and_left, and_right, and_from}
 use Rattle.std.proofs.lemmas.List.{length-replicate, get_or_append_left, get_or-replicate}
 use Rattle.ghost_model.specs.forms.Runs.{Run, Stores}
-use Rattle.ghost_model.specs.forms.Gaps.{code_of, code_in, code_at, gaps_of, filling, with_codes, level_bytes, bytes_before, code_place, rest_at, within, is_filling, past_filling, StoresBytes}
-use Rattle.ghost_model.specs.laws.GapLaws.{HasCode, ReadsCode, CodesAreReadFromPages}
+use Rattle.ghost_model.specs.forms.Gaps.{code_of, code_in, code_at, gaps_of, filling, with_codes, level_bytes, bytes_before, code_place, rest_at, within, is_filling, past_filling, StoresBytes, ReadsCode}
+use Rattle.ghost_model.specs.laws.GapLaws.{HasCode, CodesAreReadFromPages}
 use Rattle.ghost_model.proofs.GapLemmas.Codes.{codes_read, code_short, code_some, code_begins}
 use Rattle.ghost_model.proofs.GapLemmas.Files.{level_joined, fits, fills, in_page, place_is, place_behind, behind, before_within, before_all, stands_behind, stands}
 use Rattle.ghost_model.proofs.GapLemmas.Pages.{part_stands, blank_behind}

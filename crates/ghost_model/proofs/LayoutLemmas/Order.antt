@@ -9,8 +9,8 @@ use Rattle.std.proofs.Math.Nat.{mul-le-mul_right}
 use Rattle.ghost_model.specs.core.Schema.{is_visible}
 use Rattle.ghost_model.specs.core.Channel.{Catalog}
 use Rattle.ghost_model.specs.forms.Runs.{run_pages, run_end}
-use Rattle.ghost_model.specs.forms.Layout.{below, is_hidden, is_below, width_at, first_page, files_end, catalog_pages, public_pages, spool_pages, scratch_count, scratch_pages}
-use Rattle.ghost_model.specs.laws.ShortWords.{column_count, column_file}
+use Rattle.ghost_model.specs.forms.Layout.{below, is_hidden, is_below, width_at, first_page, files_end, catalog_pages, public_pages, spool_pages, scratch_count, scratch_pages, column_file}
+use Rattle.ghost_model.specs.laws.ShortWords.{column_count}
 use Rattle.ghost_model.specs.laws.LayoutSums.{column_pages, column_begin, index_pages, table_pages, table_begin, subtree_begin}
 use Rattle.ghost_model.specs.laws.LayoutLaws.{LieInOrder}
 use Rattle.ghost_model.proofs.LayoutLemmas.Numbers.{more_times}

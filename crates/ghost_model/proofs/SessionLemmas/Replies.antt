@@ -13,7 +13,7 @@ use Rattle.ghost_model.specs.core.Channel.{Catalog, Ask, Journal}
 use Rattle.ghost_model.specs.forms.Catalog.{canonical_text}
 use Rattle.ghost_model.specs.core.Asks.{NumberedAsk, asked, asks_of, asks_of_reading, asked_of}
 use Rattle.ghost_model.specs.core.Moves.{taken}
-use Rattle.ghost_model.specs.core.NextMove.{IsProper, EndedAsk, heard}
+use Rattle.ghost_model.specs.core.NextMove.{IsProper, EndedAsk, heard, ended_of}
 use Rattle.ghost_model.specs.laws.ChannelLaws.{IsDue}
 use Rattle.ghost_model.specs.core.Split.{Public, public_of, hidden_of}
 use Rattle.ghost_model.specs.core.Host.{asks_in_frame}
@@ -22,7 +22,6 @@ use Rattle.ghost_model.specs.core.Honest.{AreReplies, asks_sent, IsHonest, IsSet
 use Rattle.ghost_model.specs.core.Meaning.{answer}
 use Rattle.ghost_model.specs.core.Replies.{replies, reply_for, answer_from}
 use Rattle.ghost_model.specs.core.Lines.{was_refused, all_done}
-use Rattle.ghost_model.specs.laws.ShortWords.{ended_of}
 use Rattle.ghost_model.specs.laws.SessionLaws.{whole_reply, whole_replies}
 use Rattle.ghost_model.proofs.ChannelLemmas.Tests.{false_is_not}
 use Rattle.ghost_model.proofs.ChannelLemmas.Sending.{sent_is_due}

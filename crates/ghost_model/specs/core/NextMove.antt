@@ -5,7 +5,7 @@
 -- breaks a rule of its place. Each valid frame may make a frame of the key due: HELLO at the start, the first ask once
 -- the catalog was welcomed whole, MORE for each ROWS, the next ask for each DONE, the first ask of a later text for each
 -- SORRY, and BYE where no ask is left. Asks have the serials 1, 2, 3, .. in the order in which they are sent.
-use Rattle.std.specs.Prelude.{◌≡◌, ℕ, ◌+◌, ◌-◌, ◌%◌, Bool, true, false, not, ◌&&◌, ◌||◌, ◌==◌, nat_lt, nat_le, List, [], ◌∷◌, ◌++◌, length, take, drop, flat_map, slice_get, if◌then◌else◌, bytes_eq, Option, Some, None, is_some}
+use Rattle.std.specs.Prelude.{◌≡◌, ℕ, ◌+◌, ◌-◌, ◌%◌, Bool, true, false, not, ◌&&◌, ◌||◌, ◌==◌, nat_lt, nat_le, List, [], ◌∷◌, ◌++◌, length, take, drop, filter, flat_map, slice_get, if◌then◌else◌, bytes_eq, Option, Some, None, is_some}
 use Rattle.std.specs.List.{list_any}
 use Rattle.ghost_model.specs.core.Schema.{Schema, Kind, is_empty}
 use Rattle.ghost_model.specs.forms.Cells.{cell_width}
@@ -204,6 +204,10 @@ at_first catalog = record {
 
 abbrev pub heard : Catalog → (asks : List NumberedAsk) → (received : List ℕ) → Heard
 heard catalog asks received = hear_all catalog asks (at_first catalog) received
+
+-- the asks of a text that were ended, whatever ended them
+abbrev pub ended_of : Catalog → (asks : List NumberedAsk) → Journal → (text : ℕ) → List EndedAsk
+ended_of catalog asks journal text = filter (λ end. end.asked.text == text) (heard catalog asks (taken journal)).ended
 
 -- an invalid frame: its first byte, and the number of bytes taken before it
 pub record InvalidFrame : Type 0 where

@@ -1,7 +1,7 @@
 -- A schema: a list of tables, each a list of columns. Tables and columns are numbered by place from 0, in the order
 -- of their declaration; column 0 of each table is its identifier, `id`. A name is a list of bytes in lower case.
 -- A foreign key names its child table; the parent of a table is the table that holds the foreign key to it.
-use Rattle.std.specs.Prelude.{ℕ, ◌+◌, Bool, true, false, not, ◌&&◌, ◌==◌, List, [], ◌∷◌, Option, Some, None, option_map, slice_get, if◌then◌else◌, nat_lt, zero, suc, option_and_then}
+use Rattle.std.specs.Prelude.{◌≡◌, ℕ, ◌+◌, Bool, true, false, not, ◌&&◌, ◌==◌, List, [], ◌∷◌, Option, Some, None, option_map, slice_get, if◌then◌else◌, nat_lt, zero, suc, option_and_then, bytes_eq}
 
 -- what a column holds: 64-bit signed integers, or texts of at most so many bytes; or, beside these, NULL
 pub data Kind : Type 0 where
@@ -69,6 +69,10 @@ abbrev pub first_of : {X : Type 0} → List X → Option X
 first_of [] = None
 first_of (x ∷ _) = Some x
 
+-- the column of a table with that name, by its place
+abbrev pub column_named : Schema → (table : ℕ) → (name : List ℕ) → Option ℕ
+column_named schema table name = first_of (places_where (λ column. bytes_eq column.name name) (columns_of schema table))
+
 -- whether a place, where there is one, is this table's
 abbrev pub is_table : ℕ → Option ℕ → Bool
 is_table table None = false
@@ -97,3 +101,7 @@ is_visible schema table column = nat_lt 0 column && is_shown (column_at schema t
 unfoldable pub ancestor : Schema → (steps table : ℕ) → Option ℕ
 ancestor schema zero table = Some table
 ancestor schema (suc steps) table = option_and_then (parent schema) (ancestor schema steps table)
+
+-- a table is another one or lies below it: following parents from it comes there
+abbrev pub IsAtOrBelow : Schema → (from to : ℕ) → Type 0
+IsAtOrBelow schema from to = (steps : ℕ) × (ancestor schema steps to ≡ Some from)

@@ -5,8 +5,8 @@ use Rattle.ghost_model.specs.core.Channel.{Catalog}
 use Rattle.ghost_model.specs.core.Split.{Hidden, hidden_of}
 use Rattle.ghost_model.specs.forms.Runs.{Stores}
 use Rattle.ghost_model.specs.forms.Gaps.{level_bytes}
-use Rattle.ghost_model.specs.forms.Layout.{levels_of, above_of}
-use Rattle.ghost_model.specs.laws.ShortWords.{column_file, catalog_pages}
+use Rattle.ghost_model.specs.forms.Layout.{levels_of, above_of, column_file}
+use Rattle.ghost_model.specs.laws.ShortWords.{catalog_pages}
 use Rattle.ghost_model.specs.forms.Flash.{Holds, HoldsFresh, catalog_page, hidden_cells, AreValues, value_lists, directory_records, subtree_record, id_lists, ids}
 use Rattle.ghost_model.specs.forms.Work.{public_written, file_pages, pages_built}
 use Rattle.ghost_model.specs.examples.Clinic.{clinic_schema, clinic_catalog, clinic_catalog_one, note_schema, note_catalog, clinic, notes}

@@ -4,8 +4,8 @@ use Rattle.ghost_model.specs.core.Schema.{Table, Integer}
 use Rattle.ghost_model.specs.core.Channel.{Catalog}
 use Rattle.ghost_model.specs.forms.Catalog.{catalog_bytes}
 use Rattle.ghost_model.specs.forms.Runs.{Run, run_pages}
-use Rattle.ghost_model.specs.forms.Layout.{levels_of, descendants_of, hidden_columns, ColumnFile, SubtreeTable, ClimbingIndex, IdIndex, structures, structure_pages, public_pages, header_page, fresh_half, files_end, static_end, count_of, row_room, root_of, largest_count, largest_room, spool_area, spool_end, scratch_area, scratch_end, appended_pages, appended_area, need}
-use Rattle.ghost_model.specs.laws.ShortWords.{static_files, spool_areas, scratch_areas, appended_areas, column_file, subtree_table, index_header, index_directory, index_level, id_directory, id_level}
+use Rattle.ghost_model.specs.forms.Layout.{levels_of, descendants_of, hidden_columns, ColumnFile, SubtreeTable, ClimbingIndex, IdIndex, structures, structure_pages, public_pages, header_page, fresh_half, files_end, static_end, count_of, row_room, root_of, largest_count, largest_room, spool_area, spool_end, scratch_area, scratch_end, appended_pages, appended_area, need, column_file, subtree_table}
+use Rattle.ghost_model.specs.laws.ShortWords.{static_files, spool_areas, scratch_areas, appended_areas, index_header, index_directory, index_level, id_directory, id_level}
 use Rattle.ghost_model.specs.examples.Clinic.{id_column, number_column, key_column, clinic_schema, clinic_catalog, clinic_catalog_one, note_catalog, note_catalog_one}
 
 abbrev pub page_of_run : Run → ℕ

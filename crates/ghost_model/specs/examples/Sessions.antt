@@ -3,7 +3,7 @@
 use Rattle.std.specs.Prelude.{◌≡◌, ℕ, true, false, List, [], ◌∷◌, ◌++◌, take, codes}
 use Rattle.ghost_model.specs.core.Values.{Row, Text, Database}
 use Rattle.ghost_model.specs.core.Channel.{HelloFrame, AskFrame, MoreFrame, ByeFrame, DoneFrame, Frame, Ask, Catalog, Journal, Entry, Take, End}
-use Rattle.ghost_model.specs.core.NextMove.{IsProper, IsFinished, EndedAsk}
+use Rattle.ghost_model.specs.core.NextMove.{IsProper, IsFinished, EndedAsk, ended_of}
 use Rattle.ghost_model.specs.core.Asks.{RowCells, asked_of}
 use Rattle.ghost_model.specs.core.Split.{public_of, hidden_of, Hidden, Public, reply_rows}
 use Rattle.ghost_model.specs.core.Host.{rows_frame, host_of}
@@ -11,7 +11,7 @@ use Rattle.ghost_model.specs.core.Local.{IsServedBy}
 use Rattle.ghost_model.specs.core.Meaning.{answer}
 use Rattle.ghost_model.specs.core.Honest.{IsHonest}
 use Rattle.ghost_model.specs.core.Lines.{AreLines, all_done, broken_word}
-use Rattle.ghost_model.specs.laws.ShortWords.{ended_of, rows_from_replies}
+use Rattle.ghost_model.specs.laws.ShortWords.{rows_from_replies}
 use Rattle.ghost_model.specs.examples.Clinic.{clinic, clinic_schema, clinic_catalog, number, doctor_row, patient_row, visit_row}
 use Rattle.ghost_model.specs.examples.Channel.{hex, cardio_text, cardio_query, cardio_ask, cardio_test, cardio_journal, late_text, name_text, dialled, sends, takes, welcomed, closed}
 use Rattle.ghost_model.specs.core.Printed.{printed}

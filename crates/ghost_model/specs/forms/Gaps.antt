@@ -3,7 +3,7 @@
 -- significant first, with the top bit set in all but the last, and it does not begin with seven bits 0. It lies in one page: one for
 -- which the rest of a page is too short begins the next page, and the bytes left, one or two, are 0x80. Read back, a list gives the
 -- sums of its codes up to the first that is broken: none where no whole code stands.
-use Rattle.std.specs.Prelude.{ℕ, zero, suc, ◌+◌, ◌-◌, ◌*◌, ◌/◌, ◌%◌, ◌&&◌, ◌==◌, Bool, List, [], ◌∷◌, ◌++◌, length, take, drop, map, flat_map, replicate, get_or, slice_get, nat_le, nat_lt, Option, Some, None, option_map, option_and_then, if◌then◌else◌}
+use Rattle.std.specs.Prelude.{◌≡◌, ℕ, zero, suc, ◌+◌, ◌-◌, ◌*◌, ◌/◌, ◌%◌, ◌&&◌, ◌==◌, Bool, List, [], ◌∷◌, ◌++◌, length, take, drop, map, flat_map, replicate, get_or, slice_get, nat_le, nat_lt, Option, Some, None, option_map, option_and_then, if◌then◌else◌}
 use Rattle.ghost_model.specs.forms.Runs.{Run, Stores, id_at, number_in, page_bytes, record_at, run_pages}
 
 -- the code of a number below 2,097,152
@@ -103,6 +103,12 @@ is_filling page first room place =
 
 abbrev pub past_filling : (ℕ → List ℕ) → (first room place : ℕ) → ℕ
 past_filling page first room place = if is_filling page first room place then (place / page_bytes + 1) * page_bytes else place
+
+-- a code of a level file is read at its place, and where the next one stands behind it
+pub record ReadsCode (page : ℕ → List ℕ) (run : Run) (numbers : List ℕ) (k : ℕ) : Type 0 where
+  pub code : code_at page run.first run.count (code_place numbers k) ≡ Some (get_or numbers k 0, length (code_of (get_or numbers k 0)))
+  pub next :
+      past_filling page run.first run.count (code_place numbers k + length (code_of (get_or numbers k 0))) ≡ code_place numbers (k + 1)
 
 -- where reading of a list stands: the place of what is next, and the last identifier, 0 before the first
 pub record Reading : Type 0 where

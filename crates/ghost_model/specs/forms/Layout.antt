@@ -140,6 +140,12 @@ run_of_file cat (IndexLevel table column level) = room_of (run_of cat (ClimbingI
 run_of_file cat (IdDirectory table) = run_of cat (IdIndex table) 0
 run_of_file cat (IdLevel table level) = room_of (run_of cat (IdIndex table) (1 + level))
 
+abbrev pub column_file : Catalog → (table column : ℕ) → Run
+column_file cat table column = run_of_file cat (Cells table column)
+
+abbrev pub subtree_table : Catalog → (table : ℕ) → Run
+subtree_table cat table = run_of_file cat (Subtrees table)
+
 -- the page after the static files
 unfoldable pub files_end : Catalog → ℕ
 files_end cat = public_pages cat + sum_by (structure_pages cat) (structures cat.schema)

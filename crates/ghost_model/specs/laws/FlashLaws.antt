@@ -15,8 +15,8 @@ use Rattle.ghost_model.specs.core.Split.{Hidden, hidden_of, value_at, kind_of_co
 use Rattle.ghost_model.specs.core.Replies.{hidden_places, hidden_value}
 use Rattle.ghost_model.specs.forms.Runs.{number_cell, record_at}
 use Rattle.ghost_model.specs.laws.RunLaws.{AgreeOn}
-use Rattle.ghost_model.specs.forms.Layout.{below, is_hidden, width_at, count_of, levels_of, above_of, catalog_pages, public_pages, files_end}
-use Rattle.ghost_model.specs.laws.ShortWords.{column_file, subtree_table, index_directory, id_directory}
+use Rattle.ghost_model.specs.forms.Layout.{below, is_hidden, width_at, count_of, levels_of, above_of, catalog_pages, public_pages, files_end, column_file, subtree_table}
+use Rattle.ghost_model.specs.laws.ShortWords.{index_directory, id_directory}
 use Rattle.ghost_model.specs.forms.Flash.{HoldsCatalog, HoldsFresh, HoldsColumns, HoldsFiles, hidden_cells, leads_to, subtree_record, directory_record, value_lists, id_lists, hidden_rows}
 
 -- how many hidden columns a table has before a column

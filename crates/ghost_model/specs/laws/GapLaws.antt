@@ -3,7 +3,7 @@
 use Rattle.std.specs.Prelude.{◌≡◌, ℕ, ◌+◌, ◌*◌, ◌<◌, ◌≤◌, List, [], ◌++◌, length, take, get_or, Some}
 use Rattle.std.specs.List.{concat}
 use Rattle.ghost_model.specs.forms.Runs.{Run, page_bytes, pages_of}
-use Rattle.ghost_model.specs.forms.Gaps.{StoresBytes, code_at, code_in, code_of, code_place, gaps_of, level_bytes, list_begin, past_filling}
+use Rattle.ghost_model.specs.forms.Gaps.{StoresBytes, code_at, code_in, code_of, code_place, gaps_of, level_bytes, list_begin, past_filling, ReadsCode}
 
 -- a number that has a code
 pub record HasCode (number : ℕ) : Type 0 where
@@ -38,12 +38,6 @@ abbrev pub ListsBeginAtCodes : Type 0
 ListsBeginAtCodes =
     (lists : List (List ℕ)) (entry : ℕ) → GapsHaveCodes lists → entry < length lists → 0 < length (get_or lists entry [])
     → list_begin lists entry ≡ code_place (gaps_of lists) (length (concat (take entry lists)))
-
--- a code of a level file is read at its place, and where the next one stands behind it
-pub record ReadsCode (page : ℕ → List ℕ) (run : Run) (numbers : List ℕ) (k : ℕ) : Type 0 where
-  pub code : code_at page run.first run.count (code_place numbers k) ≡ Some (get_or numbers k 0, length (code_of (get_or numbers k 0)))
-  pub next :
-      past_filling page run.first run.count (code_place numbers k + length (code_of (get_or numbers k 0))) ≡ code_place numbers (k + 1)
 
 -- a level file that ends before its room does
 abbrev pub CodesAreReadFromPages : Type 0

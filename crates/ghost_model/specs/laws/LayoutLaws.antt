@@ -57,9 +57,9 @@ FollowingRunsStandApart =
 pub record LieAsSummed (cat : Catalog) : Type 0 where
   pub column_file :
       (table column : ℕ) → Layout.is_hidden cat.schema table column ≡ true
-      → (short.column_file cat table column).first ≡ LayoutSums.column_begin cat table column
+      → (Layout.column_file cat table column).first ≡ LayoutSums.column_begin cat table column
   pub subtree_table :
-      (table : ℕ) → table < length cat.schema → (short.subtree_table cat table).first ≡ LayoutSums.subtree_begin cat table
+      (table : ℕ) → table < length cat.schema → (Layout.subtree_table cat table).first ≡ LayoutSums.subtree_begin cat table
   pub index_header :
       (table column : ℕ) → Layout.is_hidden cat.schema table column ≡ true
       → (short.index_header cat table column).first ≡ LayoutSums.index_begin cat table column
@@ -112,19 +112,19 @@ pub record LieInOrder (cat : Catalog) : Type 0 where
   -- the column files of one table
   pub column_files :
       (table column later : ℕ) → Layout.is_hidden cat.schema table column ≡ true → column < later
-      → run_end (short.column_file cat table column) ≤ LayoutSums.column_begin cat table later
+      → run_end (Layout.column_file cat table column) ≤ LayoutSums.column_begin cat table later
   -- those of a table before its other files
   pub within_table :
       (table column : ℕ) → Layout.is_hidden cat.schema table column ≡ true
-      → run_end (short.column_file cat table column) ≤ LayoutSums.subtree_begin cat table
+      → run_end (Layout.column_file cat table column) ≤ LayoutSums.subtree_begin cat table
   -- those of a table before the files of a later one, and before the end
   pub before_tables :
       (table later column : ℕ) → Layout.is_hidden cat.schema table column ≡ true → table < later
-      → run_end (short.column_file cat table column) ≤ LayoutSums.table_begin cat later
-  pub after_public : (table column : ℕ) → Layout.public_pages cat ≤ (short.column_file cat table column).first
+      → run_end (Layout.column_file cat table column) ≤ LayoutSums.table_begin cat later
+  pub after_public : (table column : ℕ) → Layout.public_pages cat ≤ (Layout.column_file cat table column).first
   pub within :
       (table column : ℕ) → Layout.is_hidden cat.schema table column ≡ true
-      → run_end (short.column_file cat table column) ≤ Layout.files_end cat
+      → run_end (Layout.column_file cat table column) ≤ Layout.files_end cat
   pub static : Layout.files_end cat ≤ Layout.static_end cat
   pub spool : Layout.static_end cat ≤ Layout.spool_end cat
   pub scratch : Layout.spool_end cat ≤ Layout.scratch_end cat

@@ -6,7 +6,7 @@ use Rattle.ghost_model.specs.core.Values.{Database}
 use Rattle.ghost_model.specs.core.Channel.{Catalog}
 use Rattle.ghost_model.specs.laws.SchemaTrees.{IsTree}
 use Rattle.ghost_model.specs.core.Database.{IsDatabase, row_counts}
-use Rattle.ghost_model.specs.laws.MeaningLaws.{IsAtOrBelow}
+use Rattle.ghost_model.specs.core.Schema.{IsAtOrBelow}
 use Rattle.ghost_model.specs.core.Split.{Hidden, hidden_of}
 use Rattle.ghost_model.specs.forms.Layout.{is_hidden, count_of}
 use Rattle.ghost_model.specs.forms.Flash.{hidden_cells, ids, value_lists, id_lists, AreValues}

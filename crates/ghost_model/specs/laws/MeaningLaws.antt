@@ -2,7 +2,7 @@
 -- its two parts, and files that keep every rule.
 use Rattle.std.specs.Prelude.{◌≡◌, ℕ, ◌+◌, ◌*◌, ◌≤◌, ◌<◌, List, [], Some, length, map, sum, sum_by, option_and_then}
 use Rattle.std.specs.List.{zip}
-use Rattle.ghost_model.specs.core.Schema.{Schema, Column, parent, ancestor}
+use Rattle.ghost_model.specs.core.Schema.{Schema, Column, parent, ancestor, IsAtOrBelow}
 use Rattle.ghost_model.specs.core.Values.{Row, Database}
 use Rattle.ghost_model.specs.core.Query.{Query, top_of}
 use Rattle.ghost_model.specs.core.Channel.{Catalog}
@@ -15,10 +15,6 @@ use Rattle.ghost_model.specs.refusals.QueryMeaning.{Means}
 use Rattle.ghost_model.specs.refusals.LoadFaults.{FileLimit, place, most_rows, most_bytes, load_faults, file_faults}
 use Rattle.ghost_model.specs.laws.LoadLaws.{IsFirst}
 use Rattle.ghost_model.specs.laws.SchemaTrees.{IsTree}
-
--- a table is another one or lies below it: following parents from it comes there
-abbrev pub IsAtOrBelow : Schema → (from to : ℕ) → Type 0
-IsAtOrBelow schema from to = (steps : ℕ) × (ancestor schema steps to ≡ Some from)
 
 -- a row of a table that another row leads to
 pub record Lands (schema : Schema) (database : Database) (from identifier to : ℕ) : Type 0 where

@@ -13,14 +13,13 @@ use Rattle.ghost_model.specs.core.Meaning.{answer}
 use Rattle.ghost_model.specs.core.Channel.{Catalog, Ask, Journal}
 use Rattle.ghost_model.specs.core.Asks.{asks_of, asked_of}
 use Rattle.ghost_model.specs.core.Moves.{answers, taken, sent}
-use Rattle.ghost_model.specs.core.NextMove.{IsProper, IsFinished, is_stop}
+use Rattle.ghost_model.specs.core.NextMove.{IsProper, IsFinished, is_stop, ended_of}
 use Rattle.ghost_model.specs.core.Split.{Public, public_of, hidden_of, visible_rows}
 use Rattle.ghost_model.specs.core.Host.{Holding, host_of, host_sends}
 use Rattle.ghost_model.specs.core.Local.{IsServedBy}
 use Rattle.ghost_model.specs.core.Honest.{IsSetting, IsCatalogOf, IsHonest}
 use Rattle.ghost_model.specs.core.Replies.{Reply, replies, answer_from}
 use Rattle.ghost_model.specs.core.Lines.{all_done}
-use Rattle.ghost_model.specs.laws.ShortWords.{ended_of}
 
 -- at each point of the session every take was answered in full, and what was taken by then begins what the host sends
 -- for the bytes that the key had sent by then

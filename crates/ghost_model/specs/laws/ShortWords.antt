@@ -40,11 +40,6 @@ moves journal = map (λ entry. entry.move) journal
 abbrev pub due : Catalog → (asks : List NumberedAsk) → (received : List ℕ) → List Frame
 due catalog asks received = (heard catalog asks received).due
 
--- the asks of a text that were ended, whatever ended them
-abbrev pub ended_of : Catalog → (asks : List NumberedAsk) → Journal → (text : ℕ) → List EndedAsk
-ended_of catalog asks journal text =
-    filter (λ end. end.asked.text == text) (heard catalog asks (taken journal)).ended
-
 -- the rows that answer an accepted text from its replies
 abbrev pub rows_from_replies : Catalog → Hidden → (asks : List NumberedAsk) → Journal → (text : ℕ) → Query → List Row
 rows_from_replies catalog kept asks journal text query =
@@ -61,13 +56,7 @@ bad_from held rest frames at stand = bad_with_refusals held rest [] frames at st
 abbrev pub payload_number : List ℕ → ℕ
 payload_number bytes = from_be_bytes w32 (take 4 bytes)
 
--- the static files by name
-abbrev pub column_file : Catalog → (table column : ℕ) → Run
-column_file cat table column = run_of_file cat (Cells table column)
-
-abbrev pub subtree_table : Catalog → (table : ℕ) → Run
-subtree_table cat table = run_of_file cat (Subtrees table)
-
+-- the static files by name, but for those that Layout names
 abbrev pub index_header : Catalog → (table column : ℕ) → Run
 index_header cat table column = run_of_file cat (IndexHeader table column)
 
@@ -125,9 +114,6 @@ welcome_fits missing last part =
 abbrev pub id_faults : (table row : ℕ) → List ℕ → List LoadFault
 id_faults table row text = unless (is_number row (integer_of text)) (BadId (place table (row + 1) 0))
 
-abbrev pub reference_faults : Schema → Database → List LoadFault
-reference_faults schema database = references_from database 0 schema database
-
 -- at which byte a list begins and how long it is, and the first byte that the list after it may begin at, by eight bytes of a directory
 abbrev pub first_listed : List ℕ → ℕ
 first_listed bytes = number_in bytes 0
@@ -182,9 +168,6 @@ has_bad_literal schema tree = list_any (literal_fails schema is_too_large) (reso
 
 abbrev pub names_in : QueryText → List (List ℕ)
 names_in tree = table_names tree ++ map column_name (columns_in tree)
-
-abbrev pub column_named : Schema → ℕ → List ℕ → Option ℕ
-column_named schema table name = first_of (places_where (λ column. bytes_eq column.name name) (columns_of schema table))
 
 abbrev pub is_unknown : SchemaText → Field → Bool
 is_unknown tables field =

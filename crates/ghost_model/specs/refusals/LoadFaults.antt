@@ -112,8 +112,11 @@ unfoldable pub references_from : Database → (table : ℕ) → Schema → List 
 references_from database table schema later =
     flat_map (λ held. table_references database held.0 2 held.1.0.columns held.1.1) (enumerate_from table (zip schema later))
 
+abbrev pub reference_faults : Schema → Database → List LoadFault
+reference_faults schema database = references_from database 0 schema database
+
 abbrev pub load_faults : Schema → (files : List (List ℕ)) → List LoadFault
-load_faults schema files = files_faults 0 schema files ++ references_from (database_of schema files) 0 schema (database_of schema files)
+load_faults schema files = files_faults 0 schema files ++ reference_faults schema (database_of schema files)
 
 -- the fault that is answered; none where the files keep every rule
 abbrev pub load_fault : Schema → (files : List (List ℕ)) → Option LoadFault

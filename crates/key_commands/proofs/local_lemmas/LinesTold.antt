@@ -11,10 +11,10 @@ use Rattle.ghost_model.specs.readings.QueryReading.{reading}
 use Rattle.ghost_model.specs.core.Meaning.{answer}
 use Rattle.ghost_model.specs.core.Printed.{answer_lines, lines_of_reading, lines_of_text, lines_from, printed}
 use Rattle.ghost_model.specs.core.Channel.{Catalog, Journal}
-use Rattle.ghost_model.specs.core.NextMove.{Standing}
+use Rattle.ghost_model.specs.core.NextMove.{Standing, ended_of}
 use Rattle.ghost_model.specs.core.Split.{hidden_of}
 use Rattle.ghost_model.specs.core.Lines.{Reason, WasRefused, WasBroken, WasAnswered, MetFault, OnFlash, OnDamage, AreLinesFor, all_done, session_text}
-use Rattle.ghost_model.specs.laws.ShortWords.{ended_of, rows_from_replies}
+use Rattle.ghost_model.specs.laws.ShortWords.{rows_from_replies}
 use Rattle.key_session.specs.Counting.{is_flash, is_damage, is_broken}
 use Rattle.key_lines.specs.Handing.{Hands}
 use Rattle.key_session.specs.Reasons.{HasAnswerLines}

@@ -10,8 +10,8 @@ use Rattle.ghost_model.specs.core.Schema.{places_from, ancestor}
 use Rattle.ghost_model.specs.core.Database.{leads_within}
 use Rattle.ghost_model.specs.forms.Runs.{Run, number_cell, record_at, records_in, Stores}
 use Rattle.ghost_model.specs.forms.Gaps.{StoresBytes, with_codes, with_lists, level_bytes}
-use Rattle.ghost_model.specs.forms.Layout.{levels_of, above_of, is_hidden, first_page}
-use Rattle.ghost_model.specs.laws.ShortWords.{column_file, subtree_table, index_header, index_directory, index_level, id_directory, id_level}
+use Rattle.ghost_model.specs.forms.Layout.{levels_of, above_of, is_hidden, first_page, column_file, subtree_table}
+use Rattle.ghost_model.specs.laws.ShortWords.{index_header, index_directory, index_level, id_directory, id_level}
 use Rattle.ghost_model.specs.forms.Flash.{HoldsCatalog, HoldsFresh, HoldsColumns, HoldsSubtrees, HoldsIndex, HoldsIdIndexes, AreValues, catalog_page, hidden_cells, subtree_record, ids, directory_records, value_lists, id_lists}
 use Rattle.ghost_model.specs.examples.Clinic.{clinic_schema, clinic_catalog}
 use Rattle.ghost_model.specs.examples.Flash.{hidden_clinic, countries, names, purposes, doctors, key, doctor_files, patient_files, visit_files, small, of_gate, filled, clinic_page, changed}

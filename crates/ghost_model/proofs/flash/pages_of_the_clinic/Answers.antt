@@ -4,7 +4,7 @@ use Rattle.ghost_model.specs.core.Schema.{places_from, ancestor}
 use Rattle.ghost_model.specs.forms.Runs.{Run, record_at, HasBlankRest}
 use Rattle.ghost_model.specs.core.Database.{leads_within}
 use Rattle.ghost_model.specs.forms.Gaps.{with_codes, with_lists}
-use Rattle.ghost_model.specs.laws.ShortWords.{column_file}
+use Rattle.ghost_model.specs.forms.Layout.{column_file}
 use Rattle.ghost_model.specs.forms.Flash.{hidden_cells}
 use Rattle.ghost_model.specs.forms.Work.{with_value, values_among}
 use Rattle.ghost_model.specs.examples.Clinic.{clinic_schema, clinic_catalog}

@@ -1,7 +1,6 @@
 use Rattle.std.specs.FinMap as map
 use Rattle.std.proofs.Common.{◌≡◌, ℕ, List, ◌++◌, [], ◌∙◌, sym, subst, ap₂, Some}
 use Rattle.std.proofs.lemmas.Result.{err_from_is_err_and}
-use Rattle.ghost_model.specs.laws.ShortWords as short
 use Rattle.ghost_model.specs.core.Database as database
 use Rattle.ghost_model.specs.refusals.LoadFaults as faults
 use Rattle.ghost_model.specs.core.Schema.{Schema}
@@ -54,7 +53,7 @@ returns-clause-database g c =
     let read = c.in_ok-tables.ensures.read in
     let tree = c.schemas_are_trees.ensures c.in_ok-schema.schema c.tables-tables.ensures.declared in
     let are : database.database_of c.in_ok-schema.schema read.read ≡ c.in_ok-tables.tables = sym read.spelled in
-    let keys : short.reference_faults c.in_ok-schema.schema (database.database_of c.in_ok-schema.schema read.read) ≡ [] = rw are c.in_ok-check_keys.ensures.judged in
+    let keys : faults.reference_faults c.in_ok-schema.schema (database.database_of c.in_ok-schema.schema read.read) ≡ [] = rw are c.in_ok-check_keys.ensures.judged in
     let none : faults.load_faults c.in_ok-schema.schema read.read ≡ [] = ap₂ (λ front back. front ++ back) read.clean keys in
     let P : Database → Type 0 = λ tables. database.IsDatabase c.in_ok-schema.schema tables in
     subst P are (c.files_spell_a_database.ensures c.in_ok-schema.schema read.read tree read.many none)

@@ -55,9 +55,8 @@ print_counts-failed-requires-clause-as_many g c =
     let database = drawn_database words in
     let page = (g.F.Flash.state c.make_flash.new.flash).page in
     let made = c.in_default-make_flash.ensures in
-    let limited = c.catalogs_are_limited.ensures cat is.stored.proper in
     let counts = c.hold-held.ensures.ran database is.stored is.hosted (λ t.
-    c.held_pages_are_known.ensures.known words.plan g.F.Flash.told page cat database t is.stored.is_database is.stored.counts_are limited
+    c.held_pages_are_known.ensures.known words.plan g.F.Flash.told page cat database t is.stored.is_database is.stored.counts_are is.stored.proper
     (part_stands page cat clinic_schema database c.in-Ok.ready.prepared.hidden is.cat is.hidden (made.holds t)).files) None 0 0 in
     let told : length (told_in c.hold-held.result.session.told) ≡ length (texts_of c.deref.result.now) =
     all_told words.plan g.F.Flash.told cat database (texts_of c.deref.result.now) None c.hold-held.result.session.end _ _ (told_in c.hold-held.result.session.told) counts.ran in
@@ -80,7 +79,7 @@ returns-clause-ends g c = λ files faults appends.
     let middle = outside files faults appends (g.F.Flash.state c.make_flash.new.flash) (g.O.Sink.written c.args.out.now) (g.O.Sink.faults c.args.out.now) in
     let after = outside files faults appends (g.F.Flash.state c.hold-held.new.flash) (g.O.Sink.written c.print_counts-failed.new.out) (g.O.Sink.faults c.print_counts-failed.new.out) in
     let counts = c.hold-held.ensures.ran database is.stored is.hosted (λ t.
-    c.held_pages_are_known.ensures.known words.plan g.F.Flash.told page cat database t is.stored.is_database is.stored.counts_are limited
+    c.held_pages_are_known.ensures.known words.plan g.F.Flash.told page cat database t is.stored.is_database is.stored.counts_are is.stored.proper
     (part_stands page cat clinic_schema database hidden is.cat is.hidden (made.holds t)).files) files faults appends in
     let mine : RanCounted words.plan g.F.Flash.told cat database (drawn_texts words) held (outside files faults appends (g.F.Flash.state c.make_flash.new.flash) None 0) (outside files faults appends (g.F.Flash.state c.hold-held.new.flash) None 0) =
     subst (λ (texts : List (List ℕ)). RanCounted words.plan g.F.Flash.told cat database texts held (outside files faults appends (g.F.Flash.state c.make_flash.new.flash) None 0) (outside files faults appends (g.F.Flash.state c.hold-held.new.flash) None 0))
@@ -121,9 +120,8 @@ returns-clause-complete g c = λ calm written.
     let database = drawn_database words in
     let page = (g.F.Flash.state c.make_flash.new.flash).page in
     let made = c.in_default-make_flash.ensures in
-    let limited = c.catalogs_are_limited.ensures cat is.stored.proper in
     let counts = c.hold-held.ensures.ran database is.stored is.hosted (λ t.
-    c.held_pages_are_known.ensures.known words.plan g.F.Flash.told page cat database t is.stored.is_database is.stored.counts_are limited
+    c.held_pages_are_known.ensures.known words.plan g.F.Flash.told page cat database t is.stored.is_database is.stored.counts_are is.stored.proper
     (part_stands page cat clinic_schema database c.in-Ok.ready.prepared.hidden is.cat is.hidden (made.holds t)).files) None 0 0 in
     drawn_faultless g.F.Flash.told c.end_of.result c.hold-held.result.session.end
     (outside None 0 0 (g.F.Flash.state c.args.flash.now) (g.O.Sink.written c.args.out.now) (g.O.Sink.faults c.args.out.now))

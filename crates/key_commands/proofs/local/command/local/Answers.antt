@@ -156,7 +156,7 @@ returns-clause-ends g c = λ files told.
     subst (λ (script : List ℕ). EndsLocal g.F.Flash.told (subject schema database (texts_of script) words) (Ok c.run.result) before after) c.deref.ensures.value
     (ran_of g.F.Flash.told schema database (texts_of c.deref.result.now) words c.run.result.end (told_in c.run.result.told) cat before middle after was.cat
     (c.run.ensures.ran database was.stored was.hosted (λ t.
-    c.held_pages_are_known.ensures.known c.args.words.now.plan g.F.Flash.told page cat database t was.stored.is_database was.stored.counts_are limited
+    c.held_pages_are_known.ensures.known c.args.words.now.plan g.F.Flash.told page cat database t was.stored.is_database was.stored.counts_are was.stored.proper
     (part_stands page cat schema database prepared.hidden was.cat was.hidden (made.holds t)).files))
     (made.no_flash (λ e. let bad : ⊥ = cc in bad)) (c.begin_journal.ensures.appends ∙ c.in-Ok.ensures.appends) refl refl c.in-Ok-begin_journal.ensures.begun made.named
     (subst (λ (part : Hidden). Counts (load_calls cat part) (g.F.Flash.state c.args.flash.now).calls (g.F.Flash.state c.make_flash.new.flash).calls) was.hidden made.exact)
@@ -183,7 +183,7 @@ returns-clause-ran g c =
     subst (λ (script : List ℕ). EndsLocal g.F.Flash.told (subject schema database (texts_of script) words) (Ok c.run.result) before after) c.deref.ensures.value
     (ran_of g.F.Flash.told schema database (texts_of c.deref.result.now) words c.run.result.end (told_in c.run.result.told) cat before middle after was.cat
     (c.run.ensures.ran database was.stored was.hosted (λ t.
-    c.held_pages_are_known.ensures.known c.args.words.now.plan g.F.Flash.told page cat database t was.stored.is_database was.stored.counts_are limited
+    c.held_pages_are_known.ensures.known c.args.words.now.plan g.F.Flash.told page cat database t was.stored.is_database was.stored.counts_are was.stored.proper
     (part_stands page cat schema database prepared.hidden was.cat was.hidden (made.holds t)).files))
     (made.no_flash (λ e. let bad : ⊥ = cc in bad)) (c.begin_journal.ensures.appends ∙ c.in-Ok.ensures.appends) refl refl c.in-Ok-begin_journal.ensures.begun made.named
     (subst (λ (part : Hidden). Counts (load_calls cat part) (g.F.Flash.state c.args.flash.now).calls (g.F.Flash.state c.make_flash.new.flash).calls) was.hidden made.exact)
@@ -210,7 +210,7 @@ returns-clause-complete g c = λ files input held no_depot no_flash no_sink spel
     subst (λ (script : List ℕ). EndsLocal g.F.Flash.told (subject schema database (texts_of script) words) (Ok c.run.result) before after) c.deref.ensures.value
     (ran_of g.F.Flash.told schema database (texts_of c.deref.result.now) words c.run.result.end (told_in c.run.result.told) cat before middle after was.cat
     (c.run.ensures.ran database was.stored was.hosted (λ t.
-    c.held_pages_are_known.ensures.known c.args.words.now.plan g.F.Flash.told page cat database t was.stored.is_database was.stored.counts_are limited
+    c.held_pages_are_known.ensures.known c.args.words.now.plan g.F.Flash.told page cat database t was.stored.is_database was.stored.counts_are was.stored.proper
     (part_stands page cat schema database prepared.hidden was.cat was.hidden (made.holds t)).files))
     (made.no_flash (λ e. let bad : ⊥ = cc in bad)) (c.begin_journal.ensures.appends ∙ c.in-Ok.ensures.appends) refl refl c.in-Ok-begin_journal.ensures.begun made.named
     (subst (λ (part : Hidden). Counts (load_calls cat part) (g.F.Flash.state c.args.flash.now).calls (g.F.Flash.state c.make_flash.new.flash).calls) was.hidden made.exact)
