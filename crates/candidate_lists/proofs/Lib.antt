@@ -15,5 +15,6 @@ pub mod Pigeonholes
 pub mod Joins
 pub mod Costs
 pub mod Turning
+pub mod Groups
 pub mod Regions
 pub mod Passes

@@ -14,7 +14,7 @@ turned_lists scratch first (inl is) = inl is
 turned_lists scratch first (inr (inl is)) = inl is
 turned_lists scratch first (inr (inr is)) = inr is
 
-swapped : {first end other other_end : ℕ} → AreApart first end other other_end → AreApart other other_end first end
+pub swapped : {first end other other_end : ℕ} → AreApart first end other other_end → AreApart other other_end first end
 swapped (inl before) = inr before
 swapped (inr behind) = inl behind
 

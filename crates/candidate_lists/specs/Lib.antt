@@ -16,3 +16,4 @@ pub mod JoiningWork
 pub mod ReducingWork
 pub mod Steps
 pub mod Unites
+pub mod Groups

@@ -1,4 +1,4 @@
-use Rattle.candidate_lists.proofs.Giving.{may_be_fewer, may_exchange, may_turn}
+use Rattle.candidate_lists.proofs.Giving.{may_be_fewer, may_exchange, may_group, may_turn}
 use Rattle.candidate_lists.proofs.Turning.{has_turned, turned_is_outside, turns_again}
 use Rattle.candidate_lists.proofs.scratch.turned_areas.Goals as goal
 
@@ -16,6 +16,9 @@ returns-clause-may c = may_turn
 
 pub returns-clause-exchanged : goal.returns-clause-exchanged
 returns-clause-exchanged c = may_exchange
+
+pub returns-clause-grouped : goal.returns-clause-grouped
+returns-clause-grouped c = may_group
 
 pub returns-clause-fewer : goal.returns-clause-fewer
 returns-clause-fewer c = may_be_fewer
