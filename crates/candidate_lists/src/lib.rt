@@ -9,7 +9,8 @@
 //! The lists of several sources are taken in as one union too. Where all fit the buffers, they are opened behind the cursors in hand one
 //! source after another, before the union is one of those (`Uniting`). Otherwise the union is gathered as candidates of its own, which
 //! begin as no row (`Candidates::none`) and are united with the lists of one source after another (`unite` in place of `end`): these are
-//! opened or merged as beside any candidates, and what is united so far is written as one list where it takes too many buffers.
+//! opened or merged as beside any candidates, and what is united so far is written as one list where it takes too many buffers. The
+//! candidates before stand as a list meanwhile, in an area that is not written (`Scratch::grouped`).
 #![tactic(auto)]
 
 pub mod candidates;

@@ -86,6 +86,7 @@ fn sifted(
     let scratch = Scratch {
         candidates: first + 64,
         spare: first + 64,
+        group: first + 64,
         lists: first + 64,
         other_lists: first,
         places: first + 64,

@@ -39,6 +39,7 @@ fn came(alloc: Global, drawn: &Lists, members: &[Member]) -> Result<Came, Attach
     let scratch = Scratch {
         candidates: free,
         spare: free,
+        group: free,
         lists: free,
         other_lists: free,
         places: free,
