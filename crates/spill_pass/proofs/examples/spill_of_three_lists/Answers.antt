@@ -5,7 +5,7 @@ use Rattle.ghost_base.specs.Runs.{run_of}
 use Rattle.spill_pass.specs.Grouping.{AreRowLists, IsRowList, places_of}
 use Rattle.spill_pass.specs.Merging.{AreAscending, IsOneOf}
 use Rattle.spill_pass.specs.PassContents.{InLists}
-use Rattle.spill_pass.specs.Examples.{three_lists, two_lists, one_list, placed, united, run, spilled_page}
+use Rattle.spill_pass.specs.Examples.{three_lists, two_lists, one_list, placed, united, spilled_page}
 use Rattle.spill_pass.proofs.examples.spill_of_three_lists.Goals as goal
 
 once : (P : ℕ → Type 0) → P 0 → (i : ℕ) → i < 1 → P i
