@@ -1,5 +1,5 @@
 -- Areas for a group's candidates: they are there, lie outside of a region, and are given back.
-use Rattle.std.proofs.Common.{◌≡◌, ◌∙◌, ℕ, ◌+◌, inl, inr, ap, sym, refl, subst}
+use Rattle.std.proofs.Common.{ℕ, ◌+◌, inl, inr, ap, sym, refl, subst}
 use Rattle.edge_traits.specs.Devices.{Device}
 use Rattle.spill_pass.specs.Merging.{area_pages}
 use Rattle.candidate_lists.specs.declared.scratch.Scratch.{Scratch}

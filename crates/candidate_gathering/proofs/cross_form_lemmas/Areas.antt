@@ -1,7 +1,7 @@
 -- Where lists of candidates stand, and that they stay there.
 use Rattle.std.proofs.Common.{◌≡◌, ℕ, ◌+◌, ◌≤◌, inl, inr, List, arith}
 use Rattle.ghost_model.specs.core.Channel.{Catalog}
-use Rattle.ghost_model.specs.forms.Layout.{count_of, largest_count, scratch_end, spool_end}
+use Rattle.ghost_model.specs.forms.Layout.{count_of, largest_count, spool_end}
 use Rattle.edge_traits.specs.Devices.{ChangesOnly, Device}
 use Rattle.id_merge.specs.declared.merge.Merge.{Merge}
 use Rattle.spill_pass.specs.Merging.{area_pages}
