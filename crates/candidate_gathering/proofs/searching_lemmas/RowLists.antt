@@ -42,7 +42,7 @@ use Rattle.candidate_gathering.proofs.searching_lemmas.Places.{both, in_one, ind
 use Rattle.ghost_model.proofs.LayoutLemmas.Limited.{limited_by}
 
 over_of : {cat : Catalog} {database : Database} → IsOf cat database → IsOver cat database
-over_of of = record { tree = (limited_by cat of.proper).tree; is = of.is; counts = of.counts }
+over_of {cat = cat} of = record { tree = (limited_by cat of.proper).tree; is = of.is; counts = of.counts }
 
 -- the lists of entries as they come, by the groups and the level that they begin with
 began :
