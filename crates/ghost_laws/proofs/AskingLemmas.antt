@@ -1,5 +1,5 @@
--- Which conditions of a query are the key's: each that is tested is gathered or left, and none is both; visible groups and joins
--- are neither.
+-- Which conditions of a query are the key's: each that is tested is gathered or left, and none is both; a group that is gathered has
+-- no visible column, and a member alone is not left. Visible groups and joins are neither.
 use Rattle.std.proofs.Common.{◌≡◌, refl, sym, ap, ◌∙◌, ℕ, Bool, true, false, not, ◌&&◌, ◌||◌, List, [], ◌∷◌, filter, if◌then◌else◌}
 use Rattle.std.specs.List.{list_all}
 use Rattle.ghost_model.specs.core.Schema.{Schema, is_visible}
@@ -30,6 +30,33 @@ pub never_both : (schema : Schema) (c : Condition) → (is_gathered schema c && 
 never_both schema (OneOf first []) = and_none (not (is_visible schema first.field.table first.field.column))
 never_both schema (OneOf first (next ∷ others)) = refl
 never_both schema (Join one other) = refl
+
+pub gathered_is_kept : (schema : Schema) (first : Member) (others : List Member) → is_gathered schema (OneOf first others) ≡ true
+    → each_of (λ one. not (is_visible schema one.field.table one.field.column)) first others ≡ true
+gathered_is_kept schema first [] e = e
+gathered_is_kept schema first (next ∷ others) e = absurd (true_is_not (sym e))
+
+pub alone_is_not_left : (schema : Schema) (only : Member) → is_left schema (OneOf only []) ≡ false
+alone_is_not_left schema only = refl
+
+-- what follows uses no more of the two than these say
+pub left_is_tested : (schema : Schema) (c : Condition) → is_left schema c ≡ true → is_tested schema c ≡ true
+left_is_tested schema c e = tested_is_either schema c ∙ or_right (is_gathered schema c) (is_left schema c) e
+  where
+    or_right : (a b : Bool) → b ≡ true → (a || b) ≡ true
+    or_right true b h = refl
+    or_right false b h = h
+
+-- a group that is tested and not left has no visible column
+pub unleft_is_kept : (schema : Schema) (first : Member) (others : List Member) → is_tested schema (OneOf first others) ≡ true → is_left schema (OneOf first others) ≡ false
+    → each_of (λ one. not (is_visible schema one.field.table one.field.column)) first others ≡ true
+unleft_is_kept schema first others tested unleft =
+    gathered_is_kept schema first others
+    (first_of (is_gathered schema (OneOf first others)) (is_left schema (OneOf first others)) unleft (sym (tested_is_either schema (OneOf first others)) ∙ tested))
+  where
+    first_of : (a b : Bool) → b ≡ false → (a || b) ≡ true → a ≡ true
+    first_of true b e h = refl
+    first_of false b e h = absurd (true_is_not (sym h ∙ e))
 
 -- a group is tested where not all of its columns are visible
 not_each : (a b c : Bool) → b ≡ not c → (not a || b) ≡ not (a && c)
@@ -84,14 +111,20 @@ one_apart holds x all some rest tested false true e never h =
 one_apart holds x all some rest tested false false e never h =
     ap (λ (b : Bool). list_all holds (if b then x ∷ all else all)) e ∙ h
 
+-- what is either of two and never both, apart
+pub parts_apart : (whole one other : Condition → Bool) → ((c : Condition) → whole c ≡ (one c || other c)) → ((c : Condition) → (one c && other c) ≡ false)
+    → (holds : Condition → Bool) (conditions : List Condition)
+    → list_all holds (filter whole conditions) ≡ (list_all holds (filter one conditions) && list_all holds (filter other conditions))
+parts_apart whole one other either never holds [] = refl
+parts_apart whole one other either never holds (c ∷ conditions) =
+    one_apart holds c (filter whole conditions) (filter one conditions) (filter other conditions) (whole c) (one c) (other c) (either c) (never c)
+    (parts_apart whole one other either never holds conditions)
+
 pub tested_apart : (schema : Schema) (holds : Condition → Bool) (conditions : List Condition)
     → list_all holds (filter (is_tested schema) conditions)
     ≡ (list_all holds (filter (is_gathered schema) conditions) && list_all holds (filter (is_left schema) conditions))
-tested_apart schema holds [] = refl
-tested_apart schema holds (c ∷ conditions) =
-    one_apart holds c (filter (is_tested schema) conditions) (filter (is_gathered schema) conditions) (filter (is_left schema) conditions)
-    (is_tested schema c) (is_gathered schema c) (is_left schema c) (tested_is_either schema c) (never_both schema c)
-    (tested_apart schema holds conditions)
+tested_apart schema holds conditions =
+    parts_apart (is_tested schema) (is_gathered schema) (is_left schema) (tested_is_either schema) (never_both schema) holds conditions
 
 -- the conditions of a query without its groups that are left
 kept_twice : {X : Type 0} (p keep : X → Bool) (xs : List X) → ((x : X) → p x ≡ true → keep x ≡ true) → filter p (filter keep xs) ≡ filter p xs
