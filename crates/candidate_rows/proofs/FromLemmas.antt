@@ -41,10 +41,10 @@ use Rattle.candidate_rows.specs.declared.work.RowWork.{RowWork}
 use Rattle.candidate_rows.specs.declared.plan.Known.{Known}
 use Rattle.candidate_rows.specs.Orders.{is_look_up, looks_up}
 use Rattle.ghost_model.specs.forms.Left.{is_same_field, new_fields}
-use Rattle.ghost_laws.specs.Asking.{is_asked, is_tested, is_gathered, is_left, members_left, columns_left, without_left, is_shown_of, is_compared_of}
-use Rattle.ghost_laws.proofs.AskingLemmas.{tested_apart, tested_is_either, never_both, tested_is_not_visible}
+use Rattle.ghost_laws.specs.Asking.{is_asked, is_tested, is_gathered, is_left, columns_left, without_left, is_shown_of, is_compared_of}
+use Rattle.ghost_laws.proofs.AskingLemmas.{tested_apart, parts_apart, tested_is_either, never_both, left_is_tested, tested_is_not_visible}
 use Rattle.flash_layout.specs.Ranges.{IsRowOf, Suffices}
-use Rattle.candidate_rows.specs.Plans.{IsPlan, IsHop, IsHopOrNone, AreHops, HasWays, test_meets, check_meets, conditions_tested, has_below, is_below_top, needs_below, columns_needed}
+use Rattle.candidate_rows.specs.Plans.{IsPlan, IsHop, IsHopOrNone, AreHops, HasWays, test_meets, check_meets, conditions_tested, is_by_itself, is_settled, is_left_by, members_left_by, has_below, is_below_top, needs_below, columns_needed}
 use Rattle.candidate_rows.specs.Working.{Knows, StandsFor, IsWorking, IsLedTo, IsSifted, HasKeysBut, passes, told, look_of, reached_at, way_to, way_by, along_hop, from_row, go_on, spread_from, is_replied}
 use Rattle.candidate_rows.specs.Steps.{row_known}
 use Rattle.candidate_rows.specs.Laws.{TestsAreThoseOfAnswers, RowsSiftedOutAreNoAnswers, RowsThatStandNotAreNoAnswers, LeftGroupsAddNoRows}
@@ -166,11 +166,11 @@ group_columns schema asked text read top follows =
 
 -- ---- the columns that are needed
 
--- what each member of a group that is left passes, all of them do
-module _ (schema : Schema) (p : Member → Bool) where
+-- what each member of a group that a plan leaves passes, all of them do
+module _ (schema : Schema) (sifted : Bool) (p : Member → Bool) where
   abbrev EachLeft : List Condition → Type 0
   EachLeft conditions =
-      (first : Member) (others : List Member) → Among (OneOf first others) conditions → is_left schema (OneOf first others) ≡ true
+      (first : Member) (others : List Member) → Among (OneOf first others) conditions → is_left_by schema sifted (OneOf first others) ≡ true
       → (one : Member) → Among one (first ∷ others) → p one ≡ true
 
   members_pass : (first : Member) (others : List Member) (rest : List GroupMember) → ((one : Member) → Among one (first ∷ others) → p one ≡ true)
@@ -179,14 +179,14 @@ module _ (schema : Schema) (p : Member → Bool) where
   members_pass first (next ∷ others) rest each all =
       ap₂ (λ a b. a && b) (each first (inl refl)) (members_pass next others rest (λ one a. each one (inr a)) all)
 
-  pub left_pass : (conditions : List Condition) → EachLeft conditions → list_all (λ (one : GroupMember). p one.member) (members_in (filter (is_left schema) conditions)) ≡ true
+  pub left_pass : (conditions : List Condition) → EachLeft conditions → list_all (λ (one : GroupMember). p one.member) (members_in (filter (is_left_by schema sifted) conditions)) ≡ true
   left_pass [] each = refl
   left_pass (OneOf first others ∷ conditions) each =
-      by (is_left schema (OneOf first others)) refl (left_pass conditions (λ f os a. each f os (inr a)))
+      by (is_left_by schema sifted (OneOf first others)) refl (left_pass conditions (λ f os a. each f os (inr a)))
     where
-      by : (b : Bool) → is_left schema (OneOf first others) ≡ b → list_all (λ (one : GroupMember). p one.member) (members_in (filter (is_left schema) conditions)) ≡ true
-          → list_all (λ (one : GroupMember). p one.member) (members_in (if b then OneOf first others ∷ filter (is_left schema) conditions else filter (is_left schema) conditions)) ≡ true
-      by true e rest = members_pass first others (members_in (filter (is_left schema) conditions)) (each first others (inl refl) e) rest
+      by : (b : Bool) → is_left_by schema sifted (OneOf first others) ≡ b → list_all (λ (one : GroupMember). p one.member) (members_in (filter (is_left_by schema sifted) conditions)) ≡ true
+          → list_all (λ (one : GroupMember). p one.member) (members_in (if b then OneOf first others ∷ filter (is_left_by schema sifted) conditions else filter (is_left_by schema sifted) conditions)) ≡ true
+      by true e rest = members_pass first others (members_in (filter (is_left_by schema sifted) conditions)) (each first others (inl refl) e) rest
       by false e rest = rest
   left_pass (Join one other ∷ conditions) each = left_pass conditions (λ f os a. each f os (inr a))
 
@@ -207,12 +207,13 @@ mapped_pass p (one ∷ members) all =
     let both = both_true (p one.member.field) (list_all (λ (one : GroupMember). p one.member.field) members) all in
     ap₂ (λ a b. a && b) both.0 (mapped_pass p members both.1)
 
-pub needed_pass : (schema : Schema) (asked : Query) (p : Field → Bool) → list_all p asked.select ≡ true → EachLeft schema (λ one. p one.field) asked.conditions
-    → list_all p (columns_needed schema asked) ≡ true
-needed_pass schema asked p all each =
-    all_both p asked.select (columns_left schema asked) all
-    (new_pass p asked.select (map (λ (one : GroupMember). one.member.field) (members_left schema asked))
-    (mapped_pass p (members_left schema asked) (left_pass schema (λ one. p one.field) asked.conditions each)))
+pub needed_pass : (schema : Schema) (asked : Query) (sifted : Bool) (p : Field → Bool) → list_all p asked.select ≡ true
+    → EachLeft schema sifted (λ one. p one.field) asked.conditions → list_all p (columns_needed schema asked sifted) ≡ true
+needed_pass schema asked sifted p all each =
+    let members = members_left_by schema asked sifted in
+    let fields = map (λ (one : GroupMember). one.member.field) members in
+    all_both p asked.select (new_fields asked.select fields) all
+    (new_pass p asked.select fields (mapped_pass p members (left_pass schema sifted (λ one. p one.field) asked.conditions each)))
 
 -- ---- look-ups
 
@@ -307,31 +308,27 @@ untested_holds schema value (OneOf first others) e =
     shown false e = cc
 untested_holds schema value (Join one other) e = refl
 
-pub left_is_tested : (schema : Schema) (condition : Condition) → is_left schema condition ≡ true → is_tested schema condition ≡ true
-left_is_tested schema condition e = tested_is_either schema condition ∙ or_right (is_gathered schema condition) (is_left schema condition) e
-
-left_holds_along : (schema : Schema) (value : Field → Option Value) (condition : Condition) → is_left schema condition ≡ true
+tested_holds_along : (schema : Schema) (value : Field → Option Value) (condition : Condition) → is_tested schema condition ≡ true
     → holds_or_asked_along schema value condition ≡ holds_along value condition
-left_holds_along schema value (OneOf first others) e =
+tested_holds_along schema value (OneOf first others) e =
     ap (λ b. if b then true else some_of (λ one. meets_test one.test (value one.field)) first others)
-    (not_shown (each_of (λ one. is_visible schema one.field.table one.field.column) first others)
-    (sym (tested_is_not_visible schema first others) ∙ left_is_tested schema (OneOf first others) e))
+    (not_shown (each_of (λ one. is_visible schema one.field.table one.field.column) first others) (sym (tested_is_not_visible schema first others) ∙ e))
   where
     not_shown : (b : Bool) → not b ≡ true → b ≡ false
     not_shown true e = cc
     not_shown false e = refl
-left_holds_along schema value (Join one other) e = absurd (cc (e))
+tested_holds_along schema value (Join one other) e = absurd (cc (e))
 
-left_along : (schema : Schema) (value : Field → Option Value) (conditions : List Condition)
-    → list_all (holds_or_asked_along schema value) (filter (is_left schema) conditions) ≡ list_all (holds_along value) (filter (is_left schema) conditions)
-left_along schema value [] = refl
-left_along schema value (condition ∷ conditions) = by (is_left schema condition) refl (left_along schema value conditions)
+left_along : (schema : Schema) (value : Field → Option Value) (left : Condition → Bool) → ((c : Condition) → left c ≡ true → is_tested schema c ≡ true)
+    → (conditions : List Condition) → list_all (holds_or_asked_along schema value) (filter left conditions) ≡ list_all (holds_along value) (filter left conditions)
+left_along schema value left within [] = refl
+left_along schema value left within (condition ∷ conditions) = by (left condition) refl (left_along schema value left within conditions)
   where
-    by : (b : Bool) → is_left schema condition ≡ b
-        → list_all (holds_or_asked_along schema value) (filter (is_left schema) conditions) ≡ list_all (holds_along value) (filter (is_left schema) conditions)
-        → list_all (holds_or_asked_along schema value) (if b then condition ∷ filter (is_left schema) conditions else filter (is_left schema) conditions)
-        ≡ list_all (holds_along value) (if b then condition ∷ filter (is_left schema) conditions else filter (is_left schema) conditions)
-    by true e rest = ap₂ (λ a b. a && b) (left_holds_along schema value condition e) rest
+    by : (b : Bool) → left condition ≡ b
+        → list_all (holds_or_asked_along schema value) (filter left conditions) ≡ list_all (holds_along value) (filter left conditions)
+        → list_all (holds_or_asked_along schema value) (if b then condition ∷ filter left conditions else filter left conditions)
+        ≡ list_all (holds_along value) (if b then condition ∷ filter left conditions else filter left conditions)
+    by true e rest = ap₂ (λ a b. a && b) (tested_holds_along schema value condition (within condition e)) rest
     by false e rest = rest
 
 pub conditions_apart : (schema : Schema) (value : Field → Option Value) (conditions : List Condition)
@@ -340,7 +337,64 @@ pub conditions_apart : (schema : Schema) (value : Field → Option Value) (condi
 conditions_apart schema value conditions =
     sym (all_filtered (holds_or_asked_along schema value) (is_tested schema) conditions (λ c a e. untested_holds schema value c e))
     ∙ tested_apart schema (holds_or_asked_along schema value) conditions
-    ∙ ap (λ b. list_all (holds_or_asked_along schema value) (filter (is_gathered schema) conditions) && b) (left_along schema value conditions)
+    ∙ ap (λ b. list_all (holds_or_asked_along schema value) (filter (is_gathered schema) conditions) && b)
+    (left_along schema value (is_left schema) (left_is_tested schema) conditions)
+
+-- ---- conditions that are settled before the values are there, and groups that a plan leaves
+
+settled_is_tested : (schema : Schema) (sifted : Bool) (condition : Condition) → is_settled schema sifted condition ≡ true → is_tested schema condition ≡ true
+settled_is_tested schema true condition e = tested_is_either schema condition ∙ or_left (is_gathered schema condition) (is_left schema condition) e
+settled_is_tested schema false (OneOf first []) e = e
+settled_is_tested schema false (OneOf first (next ∷ others)) e = absurd (cc (e))
+settled_is_tested schema false (Join one other) e = e
+
+pub left_by_is_tested : (schema : Schema) (sifted : Bool) (condition : Condition) → is_left_by schema sifted condition ≡ true → is_tested schema condition ≡ true
+left_by_is_tested schema sifted condition e = (both_true (is_tested schema condition) (not (is_settled schema sifted condition)) e).0
+
+conditions_by : (schema : Schema) (sifted : Bool) (value : Field → Option Value) (conditions : List Condition)
+    → list_all (holds_or_asked_along schema value) conditions
+    ≡ (list_all (holds_or_asked_along schema value) (filter (is_settled schema sifted) conditions) && list_all (holds_along value) (filter (is_left_by schema sifted) conditions))
+conditions_by schema sifted value conditions =
+    sym (all_filtered (holds_or_asked_along schema value) (is_tested schema) conditions (λ c a e. untested_holds schema value c e))
+    ∙ parts_apart (is_tested schema) (is_settled schema sifted) (is_left_by schema sifted)
+    (λ c. either (is_tested schema c) (is_settled schema sifted c) (settled_is_tested schema sifted c))
+    (λ c. never (is_tested schema c) (is_settled schema sifted c)) (holds_or_asked_along schema value) conditions
+    ∙ ap (λ b. list_all (holds_or_asked_along schema value) (filter (is_settled schema sifted) conditions) && b)
+    (left_along schema value (is_left_by schema sifted) (left_by_is_tested schema sifted) conditions)
+  where
+    either : (a b : Bool) → (b ≡ true → a ≡ true) → a ≡ (b || (a && not b))
+    either true true within = refl
+    either true false within = refl
+    either false true within = within refl
+    either false false within = refl
+
+    never : (a b : Bool) → (b && (a && not b)) ≡ false
+    never true true = refl
+    never true false = refl
+    never false true = refl
+    never false false = refl
+
+-- a plan whose rows are known to meet what the indexes have the rows of leaves the groups that are left by them
+left_by_sifted : (schema : Schema) (conditions : List Condition) → filter (is_left_by schema true) conditions ≡ filter (is_left schema) conditions
+left_by_sifted schema [] = refl
+left_by_sifted schema (condition ∷ conditions) =
+    ap₂ (λ (b : Bool) (later : List Condition). if b then condition ∷ later else later)
+    (same (is_tested schema condition) (is_gathered schema condition) (is_left schema condition) (tested_is_either schema condition) (never_both schema condition))
+    (left_by_sifted schema conditions)
+  where
+    same : (a b c : Bool) → a ≡ (b || c) → (b && c) ≡ false → (a && not b) ≡ c
+    same a true c e n = ap (λ t. t && false) e ∙ sym n
+    same a false c e n = by a c e
+      where
+        by : (a c : Bool) → a ≡ c → (a && true) ≡ c
+        by true c e = e
+        by false c e = e
+
+pub needed_sifted : (schema : Schema) (asked : Query) (sifted : Bool) → sifted ≡ true → columns_needed schema asked sifted ≡ asked.select ++ columns_left schema asked
+needed_sifted schema asked true e =
+    ap (λ (conditions : List Condition). asked.select ++ new_fields asked.select (map (λ (one : GroupMember). one.member.field) (members_in conditions)))
+    (left_by_sifted schema asked.conditions)
+needed_sifted schema asked false e = absurd (cc (e))
 
 -- a query without its groups that are left has all conditions that the indexes have the rows of
 pub gathered_stay : (schema : Schema) (conditions : List Condition)
@@ -394,8 +448,8 @@ module _ (cat : Catalog) (asked : Query) (plan : RowPlan) (plan_is : IsPlan cat 
       (all_each (is_among asked.from) (filter (is_asked cat.schema asked) asked.from)
       (λ x a. among_is x asked.from (from_filter (is_asked cat.schema asked) x asked.from a).0))
       (conditions_pass cat.schema asked (is_from asked.from) plan.sifted
-      (all_each (is_from asked.from) (filter (is_gathered cat.schema) asked.conditions)
-      (λ c a. pass_each (is_from asked.from) asked.conditions conditions_from c (from_filter (is_gathered cat.schema) c asked.conditions a).0)))
+      (all_each (is_from asked.from) (filter (is_by_itself cat.schema) asked.conditions)
+      (λ c a. pass_each (is_from asked.from) asked.conditions conditions_from c (from_filter (is_by_itself cat.schema) c asked.conditions a).0)))
 
   test_from : (test : Test) → test_meets (is_among asked.from) (is_from asked.from) test ≡ true → is_among asked.from test.known.field.table ≡ true
   test_from test met = by test.check refl
@@ -419,13 +473,13 @@ module _ (cat : Catalog) (asked : Query) (plan : RowPlan) (plan_is : IsPlan cat 
       (some_true (λ other. is_shown_of cat.schema one.field.table other.field) one first others a
       (ap₂ (λ b c. b && c) (itself_equal one.field.table) visible)))
 
-  needed_from : (i : ℕ) (field : Field) → slice_get (columns_needed cat.schema asked) i ≡ Some field → is_among asked.from field.table ≡ true
+  needed_from : (i : ℕ) (field : Field) → slice_get (columns_needed cat.schema asked plan.sifted) i ≡ Some field → is_among asked.from field.table ≡ true
   needed_from i field there =
       let all : list_all (is_column_from cat.schema asked.from) asked.select ≡ true =
       ap (λ (q : Query). list_all (is_column_from cat.schema q.from) q.select) read.once ∙ follows.selected in
       (both_true (is_among asked.from field.table) _
-      (holds_at_place (is_column_from cat.schema asked.from) (columns_needed cat.schema asked) i field
-      (needed_pass cat.schema asked (is_column_from cat.schema asked.from) all (λ first others among left one a. member_from first others among one a)) there)).0
+      (holds_at_place (is_column_from cat.schema asked.from) (columns_needed cat.schema asked plan.sifted) i field
+      (needed_pass cat.schema asked plan.sifted (is_column_from cat.schema asked.from) all (λ first others among left one a. member_from first others among one a)) there)).0
 
   abbrev asked_if_shown : Field → Bool
   asked_if_shown field = not (is_visible cat.schema field.table field.column) || is_asked cat.schema asked field.table
@@ -442,12 +496,12 @@ module _ (cat : Catalog) (asked : Query) (plan : RowPlan) (plan_is : IsPlan cat 
       ap (λ b. b || list_any (is_compared_of cat.schema field.table) asked.conditions)
       (any_among (is_shown_of cat.schema field.table) asked.select field among (ap₂ (λ b c. b && c) (itself_equal field.table) visible))
 
-  needed_asked : (i : ℕ) (field : Field) → slice_get (columns_needed cat.schema asked) i ≡ Some field → is_visible cat.schema field.table field.column ≡ true
+  needed_asked : (i : ℕ) (field : Field) → slice_get (columns_needed cat.schema asked plan.sifted) i ≡ Some field → is_visible cat.schema field.table field.column ≡ true
       → is_asked cat.schema asked field.table ≡ true
   needed_asked i field there visible =
       by (is_visible cat.schema field.table field.column) visible
-      (holds_at_place asked_if_shown (columns_needed cat.schema asked) i field
-      (needed_pass cat.schema asked asked_if_shown (all_each asked_if_shown asked.select (λ one a. if_shown one (selected_asked one a)))
+      (holds_at_place asked_if_shown (columns_needed cat.schema asked plan.sifted) i field
+      (needed_pass cat.schema asked plan.sifted asked_if_shown (all_each asked_if_shown asked.select (λ one a. if_shown one (selected_asked one a)))
       (λ first others among left one a. if_shown one.field (member_asked first others among one a))) there)
     where
       by : (b : Bool) → b ≡ true → (not b || is_asked cat.schema asked field.table) ≡ true → is_asked cat.schema asked field.table ≡ true
@@ -458,7 +512,7 @@ module _ (cat : Catalog) (asked : Query) (plan : RowPlan) (plan_is : IsPlan cat 
   pub selected_looked_up : (place : ℕ) (known : Known) → slice_get plan.columns.items place ≡ Some known → is_replied known.source ≡ true
       → list_any (looks_up known.field.table) plan.tests.items ≡ true
   selected_looked_up place known held replied =
-      let at = known_at cat (columns_needed cat.schema asked) plan.columns.items place known plan_is.columns held in
+      let at = known_at cat (columns_needed cat.schema asked plan.sifted) plan.columns.items place known plan_is.columns held in
       let table = known.field.table in
       let same : at.field.table ≡ table = ap (λ (f : Field). f.table) (sym at.is.field_is) in
       let visible = seen cat table known.field.column known.source at.is.source_is ∙ replied in
@@ -482,7 +536,7 @@ module _ (cat : Catalog) (asked : Query) (plan : RowPlan) (plan_is : IsPlan cat 
       subst (IsAtOrBelow cat.schema plan.top) e
       (below_top test.known.field.table (test_from test (holds_at_place (test_meets (is_among asked.from) (is_from asked.from)) plan.tests.items work.at test tests_from there)))
   wanted_below work table (selected known there e) =
-      let at = known_at cat (columns_needed cat.schema asked) plan.columns.items work.put known plan_is.columns there in
+      let at = known_at cat (columns_needed cat.schema asked plan.sifted) plan.columns.items work.put known plan_is.columns there in
       let same : at.field.table ≡ table = ap (λ (f : Field). f.table) (sym at.is.field_is) ∙ e in
       subst (IsAtOrBelow cat.schema plan.top) same (below_top at.field.table (needed_from work.put at.field at.there))
 
@@ -499,20 +553,24 @@ module _ (cat : Catalog) (asked : Query) (plan : RowPlan) (plan_is : IsPlan cat 
         let lands = keys.lands plan.top table identifier top_row.0 below top_row.1 in
         ap₂ is_kept_row lands.led (knows.of_asked table none)
 
-    -- the conditions of which there are tests hold exactly where all of these do
+    -- the conditions of which there are tests, and the groups that are left by the plan, hold exactly where all conditions do
     conditions_along : (b : Bool)
         → (b ≡ true → list_all (holds_or_asked_along cat.schema (known_along cat.schema database given plan.top identifier)) (filter (is_gathered cat.schema) asked.conditions) ≡ true)
-        → list_all (holds_or_asked_along cat.schema (known_along cat.schema database given plan.top identifier)) (conditions_tested cat.schema asked b)
-        ≡ list_all (holds_or_asked_along cat.schema (known_along cat.schema database given plan.top identifier)) (filter (is_gathered cat.schema) asked.conditions)
-    conditions_along true held = sym (held refl)
-    conditions_along false held = refl
+        → list_all (holds_or_asked_along cat.schema (known_along cat.schema database given plan.top identifier)) asked.conditions
+        ≡ (list_all (holds_or_asked_along cat.schema (known_along cat.schema database given plan.top identifier)) (conditions_tested cat.schema asked b)
+        && list_all (holds_along (known_along cat.schema database given plan.top identifier)) (filter (is_left_by cat.schema b) asked.conditions))
+    conditions_along true held =
+        conditions_by cat.schema true (known_along cat.schema database given plan.top identifier) asked.conditions
+        ∙ ap (λ b. b && list_all (holds_along (known_along cat.schema database given plan.top identifier)) (filter (is_left_by cat.schema true) asked.conditions)) (held refl)
+    conditions_along false held = conditions_by cat.schema false (known_along cat.schema database given plan.top identifier) asked.conditions
 
     tests_same : list_all (passes cat.schema database given plan.top identifier) plan.tests.items
         ≡ (list_all (stands_along cat.schema database given plan.top identifier) asked.from
-        && list_all (holds_or_asked_along cat.schema (known_along cat.schema database given plan.top identifier)) (filter (is_gathered cat.schema) asked.conditions))
+        && list_all (holds_or_asked_along cat.schema (known_along cat.schema database given plan.top identifier)) (conditions_tested cat.schema asked plan.sifted))
     tests_same =
         plan_is.tests (stands_along cat.schema database given plan.top identifier) (holds_or_asked_along cat.schema (known_along cat.schema database given plan.top identifier))
-        ∙ ap₂ (λ a b. a && b) (all_filtered (stands_along cat.schema database given plan.top identifier) (is_asked cat.schema asked) asked.from unasked_stands) (conditions_along plan.sifted sifted)
+        ∙ ap (λ b. b && list_all (holds_or_asked_along cat.schema (known_along cat.schema database given plan.top identifier)) (conditions_tested cat.schema asked plan.sifted))
+        (all_filtered (stands_along cat.schema database given plan.top identifier) (is_asked cat.schema asked) asked.from unasked_stands)
 
     -- a row that meets all tests stands in all replies
     pub all_stand : list_all (passes cat.schema database given plan.top identifier) plan.tests.items ≡ true
@@ -521,16 +579,16 @@ module _ (cat : Catalog) (asked : Query) (plan : RowPlan) (plan_is : IsPlan cat 
 
     pub same_row : row_known cat asked database given identifier plan
         ≡ (if list_all (passes cat.schema database given plan.top identifier) plan.tests.items
-        && list_all (holds_along (known_along cat.schema database given plan.top identifier)) (filter (is_left cat.schema) asked.conditions)
+        && list_all (holds_along (known_along cat.schema database given plan.top identifier)) (filter (is_left_by cat.schema plan.sifted) asked.conditions)
         then told (known_along cat.schema database given plan.top identifier) asked.select ∷ [] else [])
     same_row =
         let value = known_along cat.schema database given plan.top identifier in
         let stands = list_all (stands_along cat.schema database given plan.top identifier) asked.from in
-        let gathered = list_all (holds_or_asked_along cat.schema value) (filter (is_gathered cat.schema) asked.conditions) in
-        let left = list_all (holds_along value) (filter (is_left cat.schema) asked.conditions) in
+        let of_tests = list_all (holds_or_asked_along cat.schema value) (conditions_tested cat.schema asked plan.sifted) in
+        let left = list_all (holds_along value) (filter (is_left_by cat.schema plan.sifted) asked.conditions) in
         ap (λ b. if b then told value asked.select ∷ [] else [])
-        (ap (λ b. stands && b) (conditions_apart cat.schema value asked.conditions)
-        ∙ in_turn stands gathered left
+        (ap (λ b. stands && b) (conditions_along plan.sifted sifted)
+        ∙ in_turn stands of_tests left
         ∙ ap (λ b. b && left) (sym tests_same))
       where
         in_turn : (a b c : Bool) → (a && (b && c)) ≡ ((a && b) && c)

@@ -51,7 +51,7 @@ use Rattle.candidate_rows.specs.declared.plan.SubtreeFile.{SubtreeFile}
 use Rattle.candidate_rows.specs.Orders.{is_look_up, looks_up}
 use Rattle.ghost_model.specs.forms.Left.{is_same_field, new_fields}
 use Rattle.ghost_laws.specs.Asking.{is_asked, is_gathered, is_left, members_left, columns_left, without_left, is_shown_of, is_compared_of}
-use Rattle.candidate_rows.specs.Plans.{IsPlan, IsPlanOfCandidates, IsSource, AreKnowns, test_meets, check_meets, conditions_tested, needs_below, needs_ways, has_below, is_below_top, columns_needed}
+use Rattle.candidate_rows.specs.Plans.{IsPlan, IsPlanOfCandidates, IsSource, AreKnowns, test_meets, check_meets, conditions_tested, needs_below, needs_ways, has_below, is_below_top}
 use Rattle.candidate_rows.specs.Rows.{HoldsReplies}
 use Rattle.flash_layout.specs.Ranges.{IsRowOf}
 use Rattle.candidate_rows.specs.Working.{Knows, told}
@@ -60,7 +60,7 @@ use Rattle.candidate_rows.specs.Laws.{RecordsAreWanted, is_of_other, compares_ot
 use Rattle.candidate_rows.specs.Costs.{look_calls, value_calls, source_calls, check_calls, test_calls, most_ways, row_calls}
 use Rattle.candidate_rows.specs.CostLaws.{is_visible_group, AreAllRows, RowsCostTheirWork, RowsThatMeetAllAreAnswers, HonestAnswersAreWhole}
 use Rattle.candidate_rows.proofs.AskLemmas.{none_about, mapped, asked_by, ask_stands, no_tests}
-use Rattle.candidate_rows.proofs.FromLemmas.{all_each, is_from, conditions_of, follows, from_same, below_top, joins_pass, or_left, or_right, of_either, among_of, any_among, unasked_stands, conditions_apart, gathered_stay, none_left}
+use Rattle.candidate_rows.proofs.FromLemmas.{all_each, is_from, conditions_of, follows, from_same, below_top, joins_pass, or_left, or_right, of_either, among_of, any_among, unasked_stands, conditions_apart, needed_sifted, gathered_stay, none_left}
 use Rattle.candidate_rows.proofs.WholeLemmas.{row_same as whole_row}
 use Rattle.ghost_laws.proofs.ScanLemmas.Rows.{same_for_identifiers}
 use Rattle.candidate_rows.proofs.TestLemmas.{count_cons}
@@ -276,6 +276,11 @@ few_ways (Some file) hops none = omega arith
 few_ways None [] none = omega arith
 few_ways None (hop ∷ hops) none = absurd (cc (none))
 
+columns_sifted : (cat : Catalog) (asked : Query) (plan : RowPlan) → IsPlanOfCandidates cat asked plan
+    → AreKnowns cat (asked.select ++ columns_left cat.schema asked) plan.columns.items
+columns_sifted cat asked plan is =
+    subst (λ (fields : List Field). AreKnowns cat fields plan.columns.items) (needed_sifted cat.schema asked plan.sifted is.is_sifted) is.is.columns
+
 module _ (cat : Catalog) (asked : Query) (plan : RowPlan) (is : IsPlanOfCandidates cat asked plan) where
   abbrev tables : List ℕ
   tables = filter (is_asked cat.schema asked) asked.from
@@ -323,7 +328,7 @@ module _ (cat : Catalog) (asked : Query) (plan : RowPlan) (is : IsPlanOfCandidat
       row_costs =
           sums (tests_within half (asks_of cat.schema asked) plan.tests.items all_look looked_once)
           (sum_same (λ (ask : Ask). look_calls half ask.table) (λ ask. bits (length (honest_rows cat.schema database ask)) + 3) (asks_of cat.schema asked) look_costs)
-          (values_within cat (columns_needed cat.schema asked) plan.columns.items is.is.columns) (few_ways plan.keys plan.hops.items is.no_hops)
+          (values_within cat (asked.select ++ columns_left cat.schema asked) plan.columns.items (columns_sifted cat asked plan is)) (few_ways plan.keys plan.hops.items is.no_hops)
         where
           sums : {t l h v s w : ℕ} → t ≤ l → l ≡ h → v ≤ s → w ≤ 1 → t + v + w + 1 ≤ 2 + (s + h)
           sums tests looks values ways = omega (arith, tests, looks, values, ways)
@@ -437,7 +442,7 @@ left_other schema top (OneOf first others ∷ conditions) e = by (is_left schema
     by false left rest h = or_right (compares_other schema top (OneOf first others)) (list_any (compares_other schema top) conditions) (rest h)
 left_other schema top (Join one other ∷ conditions) e = left_other schema top conditions e
 
-needed_other : (schema : Schema) (asked : Query) (top : ℕ) → list_any (is_of_other top) (columns_needed schema asked) ≡ true → wants_below schema asked top ≡ true
+needed_other : (schema : Schema) (asked : Query) (top : ℕ) → list_any (is_of_other top) (asked.select ++ columns_left schema asked) ≡ true → wants_below schema asked top ≡ true
 needed_other schema asked top e =
     by (list_any (is_of_other top) asked.select) (sym (any_either (is_of_other top) asked.select (columns_left schema asked)) ∙ e)
   where
@@ -488,7 +493,7 @@ records_wanted cat asked plan file is there =
         (looks_met cat asked plan is) tested in
         one_wanted found.one found.first found.second)
     by false tested h =
-        needed_other cat.schema asked plan.top (sym (others_selected cat plan.top (columns_needed cat.schema asked) plan.columns.items is.is.columns) ∙ h)
+        needed_other cat.schema asked plan.top (sym (others_selected cat plan.top (asked.select ++ columns_left cat.schema asked) plan.columns.items (columns_sifted cat asked plan is)) ∙ h)
 
 -- ---- replies by their tables
 

@@ -6,11 +6,10 @@ use Rattle.ghost_model.specs.core.Values.{Value}
 use Rattle.ghost_model.specs.core.Query.{Field, Member, GroupMember, members_of_group, Condition, OneOf, Join, members_in}
 use Rattle.ghost_model.specs.core.Groups.{some_of, before_first, groups_of, each_group}
 use Rattle.ghost_model.specs.core.Meaning.{meets_test}
-use Rattle.ghost_model.specs.forms.Left.{is_left}
 use Rattle.ghost_laws.specs.Scans.{holds_along}
 use Rattle.ghost_base.specs.declared.value.Value.{Value as Literal}
 use Rattle.candidate_rows.specs.declared.plan.LeftMember.{LeftMember}
-use Rattle.candidate_rows.specs.Plans.{AreLeftMembers}
+use Rattle.candidate_rows.specs.Plans.{AreLeftMembers, is_left_by}
 use Rattle.ghost_model.proofs.MeaningLemmas.OneRow.{both_true}
 use Rattle.candidate_rows.specs.Working.{value_in, value_or_zero, meets_in, left_hold}
 
@@ -118,18 +117,18 @@ module _ (value : Field → Option Value) where
       ∙ ap (λ b. b && pass_from says_more (meets_along value) false rest)
       (sym (or_behind met (meets_test first.test (value first.field)) (some_of (λ one. meets_test one.test (value one.field)) next others)))
 
-  left_from : (schema : Schema) (conditions : List Condition)
-      → pass_from says_more (meets_along value) false (members_in (filter (is_left schema) conditions)) ≡ list_all (holds_along value) (filter (is_left schema) conditions)
+  left_from : (schema : Schema) (sifted : Bool) (conditions : List Condition)
+      → pass_from says_more (meets_along value) false (members_in (filter (is_left_by schema sifted) conditions)) ≡ list_all (holds_along value) (filter (is_left_by schema sifted) conditions)
   unfolding pass_from
-  left_from schema [] = refl
-  left_from schema (OneOf first others ∷ conditions) =
-      elim (is_left schema (OneOf first others)) as (λ b. pass_from says_more (meets_along value) false (members_in (if b then OneOf first others ∷ filter (is_left schema) conditions else filter (is_left schema) conditions))
-      ≡ list_all (holds_along value) (if b then OneOf first others ∷ filter (is_left schema) conditions else filter (is_left schema) conditions)) [
-        | true ↦ group_from false first others (members_in (filter (is_left schema) conditions))
-            ∙ ap (λ b. some_of (λ one. meets_test one.test (value one.field)) first others && b) (left_from schema conditions)
-        | false ↦ left_from schema conditions
+  left_from schema sifted [] = refl
+  left_from schema sifted (OneOf first others ∷ conditions) =
+      elim (is_left_by schema sifted (OneOf first others)) as (λ b. pass_from says_more (meets_along value) false (members_in (if b then OneOf first others ∷ filter (is_left_by schema sifted) conditions else filter (is_left_by schema sifted) conditions))
+      ≡ list_all (holds_along value) (if b then OneOf first others ∷ filter (is_left_by schema sifted) conditions else filter (is_left_by schema sifted) conditions)) [
+        | true ↦ group_from false first others (members_in (filter (is_left_by schema sifted) conditions))
+            ∙ ap (λ b. some_of (λ one. meets_test one.test (value one.field)) first others && b) (left_from schema sifted conditions)
+        | false ↦ left_from schema sifted conditions
       ]
-  left_from schema (Join one other ∷ conditions) = left_from schema conditions
+  left_from schema sifted (Join one other ∷ conditions) = left_from schema sifted conditions
 
   -- by the values in their places
   abbrev pub are_there : List GroupMember → Bool
@@ -164,10 +163,10 @@ module _ (value : Field → Option Value) where
         ∙ ap₂ (λ a b. if says_more wanted && not (is_empty members) then a else (met || meets_along value wanted) && b)
         (same_from (met || meets_along value wanted) members left are.1 both.1) (same_from false members left are.1 both.1)
 
-    pub left_holds : (schema : Schema) (conditions : List Condition) (left : List LeftMember) → AreLeftMembers columns (members_in (filter (is_left schema) conditions)) left
-        → are_there (members_in (filter (is_left schema) conditions)) ≡ true
-        → left_hold values left ≡ list_all (holds_along value) (filter (is_left schema) conditions)
-    left_holds schema conditions left are there =
+    pub left_holds : (schema : Schema) (sifted : Bool) (conditions : List Condition) (left : List LeftMember) → AreLeftMembers columns (members_in (filter (is_left_by schema sifted) conditions)) left
+        → are_there (members_in (filter (is_left_by schema sifted) conditions)) ≡ true
+        → left_hold values left ≡ list_all (holds_along value) (filter (is_left_by schema sifted) conditions)
+    left_holds schema sifted conditions left are there =
         sym (group_by_group (λ (one : LeftMember). one.more) (meets_in values) left)
-        ∙ same_from false (members_in (filter (is_left schema) conditions)) left are there
-        ∙ left_from schema conditions
+        ∙ same_from false (members_in (filter (is_left_by schema sifted) conditions)) left are there
+        ∙ left_from schema sifted conditions

@@ -26,7 +26,7 @@ use Rattle.ghost_model.proofs.SessionLemmas.Whole.{stands_in_is, known_is}
 use Rattle.ghost_laws.specs.Asking.{is_left, without_left}
 use Rattle.ghost_laws.specs.Followed.{IsFollowed, is_column_from, is_condition_from}
 use Rattle.ghost_laws.specs.Scans.{led_value, known_along, stands_along, is_kept_row, holds_along, holds_or_asked_along, known_row, row_along}
-use Rattle.ghost_laws.proofs.AskingLemmas.{visible_is_neither, tested_is_not_visible}
+use Rattle.ghost_laws.proofs.AskingLemmas.{unleft_is_kept, visible_is_neither, tested_is_not_visible}
 use Rattle.ghost_laws.proofs.ScanLemmas.Accepted.{pass_each}
 use Rattle.ghost_laws.proofs.ScanLemmas.OneChoice.{values_same}
 use Rattle.ghost_laws.proofs.ScanLemmas.Values.{field_stands, all_found}
@@ -143,24 +143,31 @@ module _ (schema : Schema) (database : Database) (tree : IsTree schema) (is : Is
       ap₂ (λ b c. b && c) (ap (λ t. t == first.field.table) same ∙ itself first.field.table)
       (ap (λ t. is_visible schema t one.field.column) (sym same) ∙ each_true (λ m. is_visible schema m.field.table m.field.column) one first others visible a))
 
-  first_from : (first : Member) (others : List Member) → Among (OneOf first others) asked.conditions → is_among asked.from first.field.table ≡ true
-  first_from first others among =
-      (both_true (is_among asked.from first.field.table) _
-      (each_true (λ one. is_column_from schema asked.from one.field) first first others (pass_each (is_condition_from schema asked.from) asked.conditions follow.conditions (OneOf first others) among) (inl refl))).0
+  member_table : (first : Member) (others : List Member) → Among (OneOf first others) asked.conditions → (one : Member) → Among one (first ∷ others)
+      → is_among asked.from one.field.table ≡ true
+  member_table first others among one a =
+      (both_true (is_among asked.from one.field.table) _
+      (each_true (λ m. is_column_from schema asked.from m.field) one first others (pass_each (is_condition_from schema asked.from) asked.conditions follow.conditions (OneOf first others) among) a)).0
 
-  -- a condition that is neither visible nor left is a member alone, whose column is not visible
-  alone_same : (first : Member) (others : List Member) → Among (OneOf first others) asked.conditions → not (is_left schema (OneOf first others)) ≡ true
+  first_from : (first : Member) (others : List Member) → Among (OneOf first others) asked.conditions → is_among asked.from first.field.table ≡ true
+  first_from first others among = member_table first others among first (inl refl)
+
+  -- a condition that is neither visible nor left has no visible column, so that all its values are known
+  kept_same : (first : Member) (others : List Member) → Among (OneOf first others) asked.conditions → not (is_left schema (OneOf first others)) ≡ true
       → each_of (λ one. is_visible schema one.field.table one.field.column) first others ≡ false
       → some_of (λ one. meets_test one.test (known one.field)) first others ≡ some_of (λ one. meets_test one.test (led one.field)) first others
-  alone_same first [] among stays hidden =
-      ap (meets_test first.test)
-      (known_agrees first.field.table (first_from first [] among) (reached first.field.table (first_from first [] among)) first.field.column (λ visible. absurd (clash visible hidden)))
-  alone_same first (next ∷ others) among stays hidden =
-      absurd (both_ways (is_left schema (OneOf first (next ∷ others))) (tested_is_not_visible schema first (next ∷ others) ∙ ap not hidden) stays)
+  kept_same first others among stays hidden =
+      let none_shown = unleft_is_kept schema first others (tested_is_not_visible schema first others ∙ ap not hidden) (not_true (is_left schema (OneOf first others)) stays) in
+      some_agree (λ one. meets_test one.test (known one.field)) (λ one. meets_test one.test (led one.field)) first others
+      (λ one a.
+      let from = member_table first others among one a in
+      ap (meets_test one.test)
+      (known_agrees one.field.table from (reached one.field.table from) one.field.column
+      (λ visible. absurd (clash visible (not_true (is_visible schema one.field.table one.field.column) (each_true (λ m. not (is_visible schema m.field.table m.field.column)) one first others none_shown a))))))
     where
-      both_ways : (b : Bool) → b ≡ true → not b ≡ true → ⊥
-      both_ways true e h = cc
-      both_ways false e h = cc
+      not_true : (b : Bool) → not b ≡ true → b ≡ false
+      not_true true e = cc
+      not_true false e = refl
 
   module _ (stand : list_all (stands_along schema database (whole_replies schema (public_of schema database) asked) top identifier) asked.from ≡ true) where
     table_holds : (table : ℕ) (from : is_among asked.from table ≡ true) → list_all (holds_of schema table (reached table from).row) asked.conditions ≡ true
@@ -178,7 +185,7 @@ module _ (schema : Schema) (database : Database) (tree : IsTree schema) (is : Is
             → (b : Bool) → each_of (λ one. is_visible schema one.field.table one.field.column) first others ≡ b
             → (if b then true else some_of (λ one. meets_test one.test (known one.field)) first others) ≡ true
             → some_of (λ one. meets_test one.test (led one.field)) first others ≡ true
-        by among stays false e h = sym (alone_same first others among stays e) ∙ h
+        by among stays false e h = sym (kept_same first others among stays e) ∙ h
         by among stays true e h =
             let from = first_from first others among in
             let shown = all_shown first others among e in
@@ -251,7 +258,7 @@ module _ (schema : Schema) (database : Database) (tree : IsTree schema) (is : Is
             → (b : Bool) → each_of (λ one. is_visible schema one.field.table one.field.column) first others ≡ b
             → (if b then true else some_of (λ one. meets_test one.test (known one.field)) first others) ≡ true
         by found stays true e = refl
-        by found stays false e = alone_same first others found stays e ∙ pass_each (holds_along led) kept hold (OneOf first others) among
+        by found stays false e = kept_same first others found stays e ∙ pass_each (holds_along led) kept hold (OneOf first others) among
 
   conditions_same : (list_all (stands_along schema database (whole_replies schema (public_of schema database) asked) top identifier) asked.from && list_all (holds_or_asked_along schema known) kept)
       ≡ list_all (holds_along led) kept

@@ -17,13 +17,13 @@ use Rattle.visible_spool.specs.declared.half.Half.{Half}
 use Rattle.visible_spool.specs.Sparing.{AreInHalf, SparesHalf}
 use Rattle.candidate_rows.specs.declared.work.RowWork.{RowWork}
 use Rattle.ghost_laws.specs.Asking.{is_asked, is_gathered, is_left, without_left}
-use Rattle.candidate_rows.specs.Plans.{IsPlan, IsPlanOfCandidates}
+use Rattle.candidate_rows.specs.Plans.{IsPlan, IsPlanOfCandidates, is_left_by}
 use Rattle.candidate_rows.specs.Rows.{AreAllAsked}
 use Rattle.flash_layout.specs.Ranges.{IsRowOf}
 use Rattle.candidate_rows.specs.Working.{Knows, StandsFor, IsWorking, IsSifted, passes, told, steps_left, most_left}
 use Rattle.candidate_rows.specs.Steps.{row_known}
 
--- The tests of a plan and the groups that are left are exactly those of the answer: a row is in it where it meets them all, with the
+-- The tests of a plan and the groups that it leaves are exactly those of the answer: a row is in it where it meets them all, with the
 -- selected values. Where the plan has no tests of the conditions that the indexes have the rows of, the row is one that meets these.
 abbrev pub TestsAreThoseOfAnswers : Type 0
 TestsAreThoseOfAnswers =
@@ -32,7 +32,7 @@ TestsAreThoseOfAnswers =
     → IsSifted cat asked database given identifier plan
     → row_known cat asked database given identifier plan
     ≡ (if list_all (passes cat.schema database given plan.top identifier) plan.tests.items
-    && list_all (holds_along (known_along cat.schema database given plan.top identifier)) (filter (is_left cat.schema) asked.conditions)
+    && list_all (holds_along (known_along cat.schema database given plan.top identifier)) (filter (is_left_by cat.schema plan.sifted) asked.conditions)
     then told (known_along cat.schema database given plan.top identifier) asked.select ∷ [] else [])
 
 -- a row of the top table along which a condition that the indexes have the rows of does not hold, or that does not stand along some

@@ -1,5 +1,5 @@
 -- The slot of a column that the next step of work on a candidate needs is one whose value the query needs.
-use Rattle.std.proofs.Common.{◌≡◌, ◌∙◌, inl, inr, ◌⊎◌, ℕ, ◌≤◌, Bool, true, false, ◌&&◌, List, slice_get, filter, Option, Some, None, refl, sym, ap, ap₂, subst}
+use Rattle.std.proofs.Common.{◌≡◌, ◌∙◌, inl, inr, ◌⊎◌, ℕ, ◌≤◌, Bool, true, false, not, ◌&&◌, ◌||◌, List, slice_get, filter, Option, Some, None, refl, sym, ap, ap₂, subst}
 use Rattle.std.specs.Prelude.{⊤}
 use Rattle.std.specs.List.{list_all, list_any}
 use Rattle.ghost_model.specs.core.Channel.{Catalog}
@@ -23,8 +23,9 @@ use Rattle.candidate_rows.specs.declared.next.Next.{Next}
 use Rattle.candidate_rows.specs.declared.next.Next.TheVariants as next
 use Rattle.candidate_rows.specs.declared.work.RowWork.{RowWork}
 use Rattle.candidate_rows.specs.Laws.{RecordsAreWanted, wants_below}
-use Rattle.ghost_laws.specs.Asking.{is_asked}
-use Rattle.candidate_rows.specs.Plans.{columns_needed, conditions_tested, IsPlanOfCandidates, IsFile, IsSource, test_meets, check_meets}
+use Rattle.ghost_laws.specs.Asking.{is_asked, is_tested, is_gathered}
+use Rattle.ghost_laws.proofs.AskingLemmas.{tested_is_either}
+use Rattle.candidate_rows.specs.Plans.{columns_needed, conditions_tested, is_left_by, IsPlanOfCandidates, IsFile, IsSource, test_meets, check_meets}
 use Rattle.flash_layout.specs.Ranges.{IsRowOf}
 use Rattle.candidate_rows.specs.Working.{IsWorking, Need, NoNeed, OfSlot, OfRow, OfRecord, need_by, need_of, next_slot, next_look, next_record, record_of, spread_from, way_by, way_for, way_to, go_on, next_test, next_value, with_row, reached_at, source_slot, check_slot, check_look}
 use Rattle.candidate_gathering.specs.known.Known.{is_at, is_left_of, is_member_of, needs_value, selects}
@@ -37,19 +38,31 @@ member_of : (table column : ℕ) (condition : Condition) → compares (is_at tab
 member_of table column (OneOf first others) h = h
 member_of table column (Join one other) h = h
 
-value_is_needed : (schema : Schema) (asked : Query) (table column : ℕ) → list_any (is_at table column) (columns_needed schema asked) ≡ true
-    → needs_value schema asked table column ≡ true
-value_is_needed schema asked table column h =
-    by (either (list_any (is_at table column) asked.select) (list_any (λ c. is_left schema c && compares (is_at table column) c) asked.conditions)
-    (needed_of schema asked (is_at table column) h))
+-- a group that a plan for candidates leaves is left
+left_by_is_left : (schema : Schema) (condition : Condition) → is_left_by schema true condition ≡ true → is_left schema condition ≡ true
+left_by_is_left schema condition h =
+    by (is_tested schema condition) (is_gathered schema condition) (is_left schema condition) (tested_is_either schema condition) h
   where
-    by : (list_any (is_at table column) asked.select ≡ true) ⊎ (list_any (λ c. is_left schema c && compares (is_at table column) c) asked.conditions ≡ true)
+    by : (tested gathered left : Bool) → tested ≡ (gathered || left) → (tested && not gathered) ≡ true → left ≡ true
+    by true false left e h = sym e
+    by true true left e h = absurd (cc (h))
+    by false gathered left e h = absurd (cc (h))
+
+value_is_needed : (schema : Schema) (asked : Query) (sifted : Bool) → sifted ≡ true → (table column : ℕ) → list_any (is_at table column) (columns_needed schema asked sifted) ≡ true
+    → needs_value schema asked table column ≡ true
+value_is_needed schema asked false is table column h = absurd (cc (is))
+value_is_needed schema asked true is table column h =
+    by (either (list_any (is_at table column) asked.select) (list_any (λ c. is_left_by schema true c && compares (is_at table column) c) asked.conditions)
+    (needed_of schema asked true (is_at table column) h))
+  where
+    by : (list_any (is_at table column) asked.select ≡ true) ⊎ (list_any (λ c. is_left_by schema true c && compares (is_at table column) c) asked.conditions ≡ true)
         → needs_value schema asked table column ≡ true
     by (inl here) = or_first (selects asked table column) (list_any (is_left_of schema table column) asked.conditions) here
     by (inr behind) =
         or_later (selects asked table column) (list_any (is_left_of schema table column) asked.conditions)
-        (any_weaker (λ c. is_left schema c && compares (is_at table column) c) (is_left_of schema table column)
-        (λ c g. let it = both (is_left schema c) (compares (is_at table column) c) g in ap₂ (λ a b. a && b) it.0 (member_of table column c it.1)) asked.conditions behind)
+        (any_weaker (λ c. is_left_by schema true c && compares (is_at table column) c) (is_left_of schema table column)
+        (λ c g. let it = both (is_left_by schema true c) (compares (is_at table column) c) g in
+        ap₂ (λ a b. a && b) (left_by_is_left schema c it.0) (member_of table column c it.1)) asked.conditions behind)
 
 -- the slot of a row in the file of a column whose value is needed
 pub record IsNeededSlot (cat : Catalog) (asked : Query) (slot : Slot) : Type 0 where
@@ -125,9 +138,9 @@ module _ (wanted : RecordsAreWanted) (cat : Catalog) (asked : Query) (device : D
       → IsChosenNext (with_row row (next.Put known) (way_for plan work known.field.table))
   at_value known there None reached = any_way known.field.table plan.keys
   at_value known there (Some identifier) reached =
-      let is = known_at cat (columns_needed cat.schema asked) plan.columns.items work.put known plan_is.is.columns there in
+      let is = known_at cat (columns_needed cat.schema asked plan.sifted) plan.columns.items work.put known plan_is.is.columns there in
       from_source known.field.table known.field.column identifier known.source is.0 (w.rows known.field.table identifier reached)
-      (value_is_needed cat.schema asked known.field.table known.field.column is.1)
+      (value_is_needed cat.schema asked plan.sifted plan_is.is_sifted known.field.table known.field.column is.1)
 
   any_value : (found : Option Known) → slice_get plan.columns.items work.put ≡ found → IsChosenNext (next_value plan work found)
   any_value None is = tt

@@ -10,7 +10,7 @@ use Rattle.ghost_model.specs.core.Schema.{Schema, parent, ancestor, IsAtOrBelow}
 use Rattle.ghost_model.specs.core.Channel.{Catalog}
 use Rattle.ghost_model.specs.core.Groups.{some_of}
 use Rattle.ghost_model.specs.core.Query.{Query, Field, Member, GroupMember, Condition, OneOf, Join, members_of_group, members_of, members_in}
-use Rattle.ghost_model.specs.forms.Left.{is_left, is_same_field, new_fields, members_left, columns_left}
+use Rattle.ghost_model.specs.forms.Left.{is_same_field, new_fields}
 use Rattle.ghost_model.specs.forms.Layout.{count_of}
 use Rattle.edge_traits.specs.Devices.{Device}
 use Rattle.visible_spool.specs.declared.half.Half.{Half}
@@ -28,8 +28,8 @@ use Rattle.candidate_rows.specs.declared.next.Slot.{Slot}
 use Rattle.candidate_rows.specs.declared.next.Next.{Next}
 use Rattle.candidate_rows.specs.declared.next.Next.TheVariants as next
 use Rattle.candidate_rows.specs.declared.work.RowWork.{RowWork}
-use Rattle.ghost_laws.specs.Asking.{is_asked, is_shown_of, is_compared_of, is_gathered}
-use Rattle.candidate_rows.specs.Plans.{columns_needed, conditions_tested, IsPlanOf, IsFile, IsHop, IsHopOrNone, AreHops, IsSource, HaveSources, IsKnown, AreKnowns, test_meets, check_meets}
+use Rattle.ghost_laws.specs.Asking.{is_asked, is_shown_of, is_compared_of}
+use Rattle.candidate_rows.specs.Plans.{columns_needed, members_left_by, conditions_tested, is_by_itself, is_left_by, IsPlanOf, IsFile, IsHop, IsHopOrNone, AreHops, IsSource, HaveSources, IsKnown, AreKnowns, test_meets, check_meets}
 use Rattle.flash_layout.specs.Ranges.{IsRowOf}
 use Rattle.candidate_rows.specs.Working.{IsWorking, Need, NoNeed, OfSlot, OfRow, OfRecord, need_by, need_of, next_slot, next_look, next_record, way_by, way_for, next_test, next_value, with_row, go_on, way_to, along_hop, from_row, reached_at, source_slot, check_slot, check_look}
 use Rattle.key_exec.specs.ReadFor.{IsReadFor, AsColumn, AsKey, uses, compares, is_at, is_of}
@@ -171,32 +171,35 @@ some_left p left (c ∷ conditions) h = by (some_left p left conditions) (left c
     by rest true is g = with_it rest is g
     by rest false is g = or_later (left c && compares p c) (list_any (λ c. left c && compares p c) conditions) (rest g)
 
--- a column that is needed is selected, or stands in a group that is left
-pub needed_of : (schema : Schema) (asked : Query) (p : Field → Bool) → list_any p (columns_needed schema asked) ≡ true
-    → (list_any p asked.select || list_any (λ c. is_left schema c && compares p c) asked.conditions) ≡ true
-needed_of schema asked p h =
-    by (either (list_any p asked.select) (list_any p (columns_left schema asked)) (sym (list_any-append p asked.select (columns_left schema asked)) ∙ h))
+-- a column that is needed is selected, or stands in a group that the plan leaves
+pub needed_of : (schema : Schema) (asked : Query) (sifted : Bool) (p : Field → Bool) → list_any p (columns_needed schema asked sifted) ≡ true
+    → (list_any p asked.select || list_any (λ c. is_left_by schema sifted c && compares p c) asked.conditions) ≡ true
+needed_of schema asked sifted p h =
+    by (either (list_any p asked.select) (list_any p behind) (sym (list_any-append p asked.select behind) ∙ h))
   where
-    by : (list_any p asked.select ≡ true) ⊎ (list_any p (columns_left schema asked) ≡ true)
-        → (list_any p asked.select || list_any (λ c. is_left schema c && compares p c) asked.conditions) ≡ true
-    by (inl here) = or_first (list_any p asked.select) (list_any (λ c. is_left schema c && compares p c) asked.conditions) here
-    by (inr behind) =
-        or_later (list_any p asked.select) (list_any (λ c. is_left schema c && compares p c) asked.conditions)
-        (some_left p (is_left schema) asked.conditions (new_are_some p asked.select (map field_in (members_left schema asked)) behind))
+    behind : List Field
+    behind = new_fields asked.select (map field_in (members_left_by schema asked sifted))
 
-needed_is_used : (schema : Schema) (asked : Query) (table column : ℕ) → list_any (is_at table column) (columns_needed schema asked) ≡ true
+    by : (list_any p asked.select ≡ true) ⊎ (list_any p behind ≡ true)
+        → (list_any p asked.select || list_any (λ c. is_left_by schema sifted c && compares p c) asked.conditions) ≡ true
+    by (inl here) = or_first (list_any p asked.select) (list_any (λ c. is_left_by schema sifted c && compares p c) asked.conditions) here
+    by (inr later) =
+        or_later (list_any p asked.select) (list_any (λ c. is_left_by schema sifted c && compares p c) asked.conditions)
+        (some_left p (is_left_by schema sifted) asked.conditions (new_are_some p asked.select (map field_in (members_left_by schema asked sifted)) later))
+
+needed_is_used : (schema : Schema) (asked : Query) (sifted : Bool) (table column : ℕ) → list_any (is_at table column) (columns_needed schema asked sifted) ≡ true
     → uses asked (is_at table column) ≡ true
-needed_is_used schema asked table column h =
-    by (either (list_any (is_at table column) asked.select) (list_any (λ c. is_left schema c && compares (is_at table column) c) asked.conditions)
-    (needed_of schema asked (is_at table column) h))
+needed_is_used schema asked sifted table column h =
+    by (either (list_any (is_at table column) asked.select) (list_any (λ c. is_left_by schema sifted c && compares (is_at table column) c) asked.conditions)
+    (needed_of schema asked sifted (is_at table column) h))
   where
-    by : (list_any (is_at table column) asked.select ≡ true) ⊎ (list_any (λ c. is_left schema c && compares (is_at table column) c) asked.conditions ≡ true)
+    by : (list_any (is_at table column) asked.select ≡ true) ⊎ (list_any (λ c. is_left_by schema sifted c && compares (is_at table column) c) asked.conditions ≡ true)
         → uses asked (is_at table column) ≡ true
     by (inl here) = or_first (list_any (is_at table column) asked.select) (list_any (compares (is_at table column)) asked.conditions) here
     by (inr behind) =
         or_later (list_any (is_at table column) asked.select) (list_any (compares (is_at table column)) asked.conditions)
-        (any_weaker (λ c. is_left schema c && compares (is_at table column) c) (compares (is_at table column))
-        (λ c g. (both (is_left schema c) (compares (is_at table column) c) g).1) asked.conditions behind)
+        (any_weaker (λ c. is_left_by schema sifted c && compares (is_at table column) c) (compares (is_at table column))
+        (λ c g. (both (is_left_by schema sifted c) (compares (is_at table column) c) g).1) asked.conditions behind)
 
 -- a column of a table
 of_column : (asked : Query) (table column : ℕ) → uses asked (is_at table column) ≡ true → uses asked (is_of table) ≡ true
@@ -345,7 +348,7 @@ module _ (cat : Catalog) (asked : Query) (device : Device) (half : Half) (plan :
     (w : IsWorking cat asked device half plan work) where
   tests_are : (stands : ℕ → Bool) (holds : Condition → Bool)
       → list_all (test_meets stands holds) plan.tests.items
-      ≡ (list_all stands (filter (is_asked cat.schema asked) asked.from) && list_all holds (filter (is_gathered cat.schema) asked.conditions))
+      ≡ (list_all stands (filter (is_asked cat.schema asked) asked.from) && list_all holds (filter (is_by_itself cat.schema) asked.conditions))
   tests_are stands holds =
       plan_is.is.tests stands holds
       ∙ ap (λ (sifted : Bool). list_all stands (filter (is_asked cat.schema asked) asked.from) && list_all holds (conditions_tested cat.schema asked sifted)) plan_is.not_sifted
@@ -353,7 +356,7 @@ module _ (cat : Catalog) (asked : Query) (device : Device) (half : Half) (plan :
   sources_are : HaveSources cat plan.tests.items
   sources_are = plan_is.is.sources
 
-  columns_are : AreKnowns cat (columns_needed cat.schema asked) plan.columns.items
+  columns_are : AreKnowns cat (columns_needed cat.schema asked plan.sifted) plan.columns.items
   columns_are = plan_is.is.columns
 
   abbrev IsReadNext : Next → Type 0
@@ -409,7 +412,7 @@ module _ (cat : Catalog) (asked : Query) (device : Device) (half : Half) (plan :
       let misses : test_meets stands (λ _. true) test ≡ false = ap (check_meets stands (λ _. true) test.known.field) check ∙ ap not (itself_equal table) in
       kept_table (is_asked cat.schema asked) table asked.from
       (left_false _ _ (sym (tests_are stands (λ _. true)) ∙ unmet (test_meets stands (λ _. true)) plan.tests.items work.at test there misses)
-      (all_true (filter (is_gathered cat.schema) asked.conditions)))
+      (all_true (filter (is_by_itself cat.schema) asked.conditions)))
 
   -- a column that is tested is compared
   tested : (test : Test) → slice_get plan.tests.items work.at ≡ Some test → (check : Check) → test.check ≡ check
@@ -422,7 +425,7 @@ module _ (cat : Catalog) (asked : Query) (device : Device) (half : Half) (plan :
       ap (check_meets (λ _. true) holds test.known.field) e
       ∙ ap not (ap₂ (λ a b. a && b) (itself_equal test.known.field.table) (itself_equal test.known.field.column)) in
       or_later (list_any is asked.select) (list_any (compares is) asked.conditions)
-      (kept_condition (is_gathered cat.schema) is asked.conditions
+      (kept_condition (is_by_itself cat.schema) is asked.conditions
       (right_false _ _ (sym (tests_are (λ _. true) holds) ∙ unmet (test_meets (λ _. true) holds) plan.tests.items work.at test there misses)
       (all_true (filter (is_asked cat.schema asked) asked.from))))
 
@@ -446,12 +449,12 @@ module _ (cat : Catalog) (asked : Query) (device : Device) (half : Half) (plan :
   at_value : (known : Known) → slice_get plan.columns.items work.put ≡ Some known → (row : Option ℕ) → reached_at work known.field.table ≡ row
       → IsReadNext (with_row row (next.Put known) (way_for plan work known.field.table))
   at_value known there None e =
-      let is = known_at cat (columns_needed cat.schema asked) plan.columns.items work.put known columns_are there in
-      way_read known.field.table (of_column asked known.field.table known.field.column (needed_is_used cat.schema asked known.field.table known.field.column is.1))
+      let is = known_at cat (columns_needed cat.schema asked plan.sifted) plan.columns.items work.put known columns_are there in
+      way_read known.field.table (of_column asked known.field.table known.field.column (needed_is_used cat.schema asked plan.sifted known.field.table known.field.column is.1))
   at_value known there (Some identifier) e =
-      let is = known_at cat (columns_needed cat.schema asked) plan.columns.items work.put known columns_are there in
+      let is = known_at cat (columns_needed cat.schema asked plan.sifted) plan.columns.items work.put known columns_are there in
       from_source known.field.table known.field.column identifier known.source is.0 (w.rows known.field.table identifier e)
-      (needed_is_used cat.schema asked known.field.table known.field.column is.1)
+      (needed_is_used cat.schema asked plan.sifted known.field.table known.field.column is.1)
 
   any_value : (found : Option Known) → slice_get plan.columns.items work.put ≡ found → IsReadNext (next_value plan work found)
   any_value None e = tt
