@@ -3,6 +3,7 @@ pub mod BoundLemmas
 pub mod GroupLemmas
 pub mod KindLemmas
 pub mod RowLemmas
+pub mod LoneLemmas
 pub mod MeetLemmas
 pub mod FilterLemmas
 pub mod UnionLemmas

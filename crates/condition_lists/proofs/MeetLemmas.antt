@@ -1,5 +1,5 @@
 -- Rows of the top table meet terms exactly where conditions hold along them.
-use Rattle.std.proofs.Common.{◌≡◌, ◌∙◌, refl, ap, ap₂, sym, ℕ, zero, suc, ◌+◌, ◌-◌, pos, Bool, true, false, ◌&&◌, nat_eq, nat_lt, List, [], ◌∷◌, slice_get, Option, Some, None, option_and_then, if◌then◌else◌, arith}
+use Rattle.std.proofs.Common.{◌≡◌, ◌∙◌, refl, ap, ap₂, sym, ℕ, zero, suc, ◌+◌, ◌-◌, pos, Bool, true, false, ◌&&◌, nat_eq, nat_lt, List, [], ◌∷◌, filter, slice_get, Option, Some, None, option_and_then, if◌then◌else◌, arith}
 use Rattle.std.specs.Prelude.{◌||◌, not}
 use Rattle.std.proofs.lemmas.Bool.{lt-ltb}
 use Rattle.std.proofs.lemmas.Bool.Decides.{nat_tests}
@@ -11,7 +11,7 @@ use Rattle.ghost_model.specs.core.Channel.{Catalog}
 use Rattle.ghost_model.specs.core.Database.{holds, leads, row_of, value_at_row}
 use Rattle.ghost_model.specs.core.Meaning.{compares, meets_test}
 use Rattle.ghost_model.specs.core.Asks.{kind_at, kind_or_none}
-use Rattle.ghost_model.specs.core.Query.{Field, Operator, Test, Compared, IsNull, IsNotNull, Condition, OneOf, Join, compared, tested}
+use Rattle.ghost_model.specs.core.Query.{Field, Operator, Test, Compared, IsNull, IsNotNull, Condition, OneOf, Join, members_in, compared, tested}
 use Rattle.ghost_model.specs.core.Replies as replies
 use Rattle.ghost_model.specs.core.Replies.{known_value, hidden_value, replied_value}
 use Rattle.ghost_model.specs.core.Split.{hidden_of}
@@ -20,6 +20,7 @@ use Rattle.ghost_model.specs.forms.Layout.{is_hidden}
 use Rattle.ghost_model.specs.laws.LayoutLaws.{LevelsAreAncestors}
 use Rattle.ghost_model.specs.laws.MeaningLaws.{LeadsFollowKeys}
 use Rattle.ghost_model.specs.laws.FlashLaws.{HiddenValuesOfDatabases}
+use Rattle.ghost_model.proofs.MeaningLemmas.OneRow.{both_true}
 use Rattle.ghost_model.proofs.MeaningLemmas.Leading.{get_within, place_within}
 use Rattle.ghost_laws.specs.Scans.{led_value, known_along, holds_or_asked_along, stands_along}
 use Rattle.climbing_index.specs.declared.index.ClimbingIndex.{ClimbingIndex}
@@ -28,12 +29,15 @@ use Rattle.climbing_index.specs.declared.search.Group.{Group}
 use Rattle.flash_layout.specs.Ranges.{IsRowOf}
 use Rattle.condition_lists.specs.declared.bounds.Bounds.{Bounds}
 use Rattle.condition_lists.specs.declared.term.Term.{Term}
+use Rattle.condition_lists.specs.declared.term.GroupTerm.{GroupTerm}
 use Rattle.condition_lists.specs.declared.term.Term.TheVariants.{Ranges, Entries, Identifiers, TopReply, Reply}
 use Rattle.condition_lists.specs.Bounds.{AreBoundsOf, lies_within}
-use Rattle.condition_lists.specs.Terms.{AreRangesOf, AreNoRanges, AreEntriesOf, AreIdentifiersOf, IsRangesTerm, IsIdentifiersTerm, IsTermOf, IsTermOfTest, IsReplyTermOf, AreTermsOf, is_in_one, meets, nothing}
+use Rattle.condition_lists.specs.Terms.{AreRangesOf, AreNoRanges, AreEntriesOf, AreIdentifiersOf, IsRangesTerm, IsIdentifiersTerm, IsTermOfTest, IsReplyTermOf, AreTermsOf, is_in_one, is_listed, listed_members, meets, meets_all, nothing}
 use Rattle.condition_lists.specs.Laws.{IsOver}
 use Rattle.condition_lists.proofs.RowLemmas.{unseen, some_column, never_hidden, never_null, null_if_allowed, below_by, is_row, led}
 use Rattle.condition_lists.proofs.GroupLemmas.{none_in}
+use Rattle.condition_lists.proofs.TermLemmas.{all_listed}
+use Rattle.condition_lists.proofs.LoneLemmas.{each_alone, lone_terms}
 
 none_met : (test : Test) → meets_test test None ≡ false
 none_met (Compared operator literal) = refl
@@ -216,11 +220,6 @@ module _ (cat : Catalog) (database : Database) (over : IsOver cat database) (giv
   met_test wanted test TopReply is = absurd is
   met_test wanted test (Reply table index level) is = absurd is
 
-  met_term : (condition : Condition) (term : Term) → IsTermOf cat top condition term → meets cat.schema database given top identifier term ≡ holds_here condition
-  met_term (OneOf first []) term is = met_test first.field first.test term is
-  met_term (OneOf first (next ∷ others)) term is = absurd is
-  met_term (Join one other) term is = absurd is
-
   met_reply : (table : ℕ) (term : Term) → IsReplyTermOf cat top table term
       → meets cat.schema database given top identifier term ≡ stands_along cat.schema database given top identifier table
   met_reply table TopReply is = ap (stands_along cat.schema database given top identifier) (sym is)
@@ -229,19 +228,30 @@ module _ (cat : Catalog) (database : Database) (over : IsOver cat database) (giv
   met_reply table (Entries other column index level bounds) is = absurd is
   met_reply table (Identifiers other index level first second) is = absurd is
 
-  pub all_met : (conditions : List Condition) (tables : List ℕ) (terms : List Term) → AreTermsOf cat top conditions tables terms
-      → list_all (meets cat.schema database given top identifier) terms
-      ≡ (list_all (holds_or_asked_along cat.schema (known_along cat.schema database given top identifier)) conditions
-      && list_all (stands_along cat.schema database given top identifier) tables)
-  all_met [] [] [] are = refl
-  all_met [] [] (term ∷ terms) are = absurd are
-  all_met [] (table ∷ tables) [] are = absurd are
-  all_met [] (table ∷ tables) (term ∷ terms) are = ap₂ (λ a b. a && b) (met_reply table term are.0) (all_met [] tables terms are.1)
-  all_met (condition ∷ conditions) tables [] are = absurd are
-  all_met (condition ∷ conditions) tables (term ∷ terms) are =
-      ap₂ (λ a b. a && b) (met_term condition term are.0) (all_met conditions tables terms are.1)
-      ∙ grouped (holds_here condition) _ _
+  each_met : (conditions : List Condition) → list_all (is_listed cat.schema top) conditions ≡ true → (tables : List ℕ) (terms : List GroupTerm)
+      → AreTermsOf cat top (members_in conditions) tables terms
+      → list_all (λ (one : GroupTerm). meets cat.schema database given top identifier one.term) terms
+      ≡ (list_all holds_here conditions && list_all (stands_along cat.schema database given top identifier) tables)
+  each_met [] listed [] [] are = refl
+  each_met [] listed [] (term ∷ terms) are = absurd are
+  each_met [] listed (table ∷ tables) [] are = absurd are
+  each_met [] listed (table ∷ tables) (term ∷ terms) are = ap₂ (λ a b. a && b) (met_reply table term.term are.0.is) (each_met [] refl tables terms are.1)
+  each_met (OneOf first [] ∷ conditions) listed tables [] are = absurd are
+  each_met (OneOf first [] ∷ conditions) listed tables (term ∷ terms) are =
+      ap₂ (λ a b. a && b) (met_test first.field first.test term.term are.0.is)
+      (each_met conditions (both_true (is_listed cat.schema top (OneOf first [])) (list_all (is_listed cat.schema top) conditions) listed).1 tables terms are.1)
+      ∙ grouped (holds_here (OneOf first [])) _ _
     where
       grouped : (a b c : Bool) → (a && (b && c)) ≡ ((a && b) && c)
       grouped true b c = refl
       grouped false b c = refl
+  each_met (OneOf first (next ∷ others) ∷ conditions) listed tables terms are = absurd (cc (listed))
+  each_met (Join one other ∷ conditions) listed tables terms are = absurd (cc (listed))
+
+  pub all_met : (conditions : List Condition) (tables : List ℕ) (terms : List GroupTerm) → AreTermsOf cat top (listed_members cat.schema top conditions) tables terms
+      → meets_all cat.schema database given top identifier terms
+      ≡ (list_all (holds_or_asked_along cat.schema (known_along cat.schema database given top identifier)) (filter (is_listed cat.schema top) conditions)
+      && list_all (stands_along cat.schema database given top identifier) tables)
+  all_met conditions tables terms are =
+      each_alone (λ (one : GroupTerm). meets cat.schema database given top identifier one.term) terms (lone_terms cat top conditions tables terms are)
+      ∙ each_met (filter (is_listed cat.schema top) conditions) (all_listed cat.schema top conditions) tables terms are

@@ -26,8 +26,8 @@ use Rattle.ghost_laws.specs.Scans.{known_along, holds_or_asked_along, is_kept_ro
 use Rattle.spj_parse.specs.Resolved.{IsMeant}
 use Rattle.leakless_plan.specs.declared.form.Form.{Form}
 use Rattle.flash_layout.specs.Ranges.{IsRowOf}
-use Rattle.condition_lists.specs.declared.term.Term.{Term}
-use Rattle.condition_lists.specs.Terms.{AreTableTerms, AreTermsBy, AreTermsOf, has_level, has_lists, is_compared, is_listed, is_replied, is_united, level_in, meets, unites_whole}
+use Rattle.condition_lists.specs.declared.term.GroupTerm.{GroupTerm}
+use Rattle.condition_lists.specs.Terms.{AreTableTerms, AreTermsBy, AreTermsOf, has_level, has_lists, is_compared, is_listed, is_replied, is_united, level_in, listed_members, meets_all, unites_whole}
 use Rattle.condition_lists.specs.Laws.{IsOver, LeadsInto, leads_into}
 use Rattle.condition_lists.proofs.FilterLemmas.{compared_there, filters_agree, follows, leveled, listed_without_left}
 use Rattle.condition_lists.proofs.MeetLemmas.{all_met}
@@ -87,10 +87,10 @@ module _ (schema : Schema) (tree : IsTree schema) (levels : LevelsAreAncestors) 
 pub terms_by : (cat : Catalog) (tree : IsTree cat.schema) (levels : LevelsAreAncestors) (text : List ℕ) (asked : Query) (read : IsMeant cat.schema text asked)
     (one : OneReading) (accepted : AcceptedQueriesAreFollowed) (top : ℕ) → top_of cat.schema asked ≡ Some top
     → (table : ℕ) → Contains asked.from table → is_compared cat.schema asked table ≡ true
-    → (terms : List Term) → AreTableTerms cat asked table terms → AreTermsBy cat asked [] (Some table) terms
+    → (terms : List GroupTerm) → AreTableTerms cat asked table terms → AreTermsBy cat asked [] (Some table) terms
 terms_by cat tree levels text asked read one accepted top top_is table held compared terms are =
     let followed = follows cat.schema tree levels top text asked read one accepted top_is in
-    subst (λ (tables : List ℕ). AreTermsOf cat table (filter (is_listed cat.schema table) asked.conditions) tables terms)
+    subst (λ (tables : List ℕ). AreTermsOf cat table (listed_members cat.schema table asked.conditions) tables terms)
     (sym (table_alone cat.schema tree levels asked table compared held (ap (λ (q : Query). has_repeat q.from) read.once ∙ followed.once))) are
 
 pub among_from : (asked : Query) (table : ℕ) → Contains asked.from table → is_among asked.from table ≡ true
@@ -159,13 +159,13 @@ module _ (cat : Catalog) (database : Database) (over : IsOver cat database) (giv
           ap₂ (λ a b. a && b) (stands_alike other parts.1) later
       by later false e = later
 
-  pub unmet_there : (asked : Query) (forms : List (Option Form)) (terms : List Term) → AreTermsBy cat asked forms (Some table) terms
-      → list_all (meets cat.schema database given table reached) terms ≡ false → known_row cat.schema database (without_left cat.schema asked) given top identifier ≡ []
+  pub unmet_there : (asked : Query) (forms : List (Option Form)) (terms : List GroupTerm) → AreTermsBy cat asked forms (Some table) terms
+      → meets_all cat.schema database given table reached terms ≡ false → known_row cat.schema database (without_left cat.schema asked) given top identifier ≡ []
   unmet_there asked forms terms are unmet =
       let shown = map (λ one. unwrap_or (known_along cat.schema database given top identifier one) no_value) asked.select in
       let listed = filter (is_listed cat.schema table) asked.conditions in
       let replied = filter (is_replied cat.schema asked forms table) asked.from in
-      let failed = sym (all_met cat database over given table reached row_is levels keys values listed replied terms are) ∙ unmet in
+      let failed = sym (all_met cat database over given table reached row_is levels keys values asked.conditions replied terms are) ∙ unmet in
       let kept = (without_left cat.schema asked).conditions in
       no_rows (shown ∷ []) (list_all stands_above asked.from && list_all holds_above kept)
       (elim (either_fails (list_all holds_there listed) (list_all stands_there replied) failed) [
@@ -179,13 +179,13 @@ module _ (cat : Catalog) (database : Database) (over : IsOver cat database) (giv
 module _ (cat : Catalog) (database : Database) (over : IsOver cat database) (given : List replies.Reply) (top identifier : ℕ) (row : IsRowOf cat top identifier)
     (levels : LevelsAreAncestors) (keys : LeadsFollowKeys cat.schema database) (values : HiddenValuesOfDatabases)
     (asked : Query) (table : ℕ) (below : IsAtOrBelow cat.schema top table)
-    (forms : List (Option Form)) (terms : List Term) (are : AreTermsBy cat asked forms (Some table) terms) where
+    (forms : List (Option Form)) (terms : List GroupTerm) (are : AreTermsBy cat asked forms (Some table) terms) where
   pub outside_set : leads_into cat.schema database given top identifier table terms ≡ false → known_row cat.schema database (without_left cat.schema asked) given top identifier ≡ []
   outside_set e =
       let lands = led cat database over keys top table identifier below row in
       unmet_there cat database over given top identifier row levels keys values table below lands.reached lands.led
       (is_row cat database over table lands.reached lands.row lands.stands) asked forms terms are
-      (sym (ap (λ o. option_map_or (λ reached. list_all (meets cat.schema database given table reached) terms) o false) lands.led) ∙ e)
+      (sym (ap (λ o. option_map_or (λ reached. meets_all cat.schema database given table reached terms) o false) lands.led) ∙ e)
 
   pub inside_set : known_row cat.schema database (without_left cat.schema asked) given top identifier ≢ [] → LeadsInto cat database given top identifier table terms
   inside_set some = by (leads_into cat.schema database given top identifier table terms) refl
@@ -197,6 +197,6 @@ module _ (cat : Catalog) (database : Database) (over : IsOver cat database) (giv
             reached = lands.reached;
             row = is_row cat database over table lands.reached lands.row lands.stands;
             led = lands.led;
-            met = sym (ap (λ o. option_map_or (λ reached. list_all (meets cat.schema database given table reached) terms) o false) lands.led) ∙ e;
+            met = sym (ap (λ o. option_map_or (λ reached. meets_all cat.schema database given table reached terms) o false) lands.led) ∙ e;
           }
       by false e = absurd (some (outside_set e))

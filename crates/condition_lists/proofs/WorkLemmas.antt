@@ -2,7 +2,7 @@
 use Rattle.std.proofs.Common.{◌≡◌, ◌∙◌, refl, ap, ap₂, sym, subst, ℕ, zero, suc, ◌+◌, ◌-◌, ◌<◌, ◌≤◌, inl, inr, pos, Bool, true, false, ◌&&◌, nat_eq, List, [], ◌∷◌, ◌++◌, length, filter, map, slice_get, Option, Some, None, option_and_then, if◌then◌else◌, arith}
 use Rattle.std.specs.Prelude.{◌==◌, ◌||◌, not, count_by, sum_by, is_some}
 use Rattle.std.specs.Option.{option_map_or}
-use Rattle.std.specs.List.{range_with_len, list_any}
+use Rattle.std.specs.List.{range_with_len, list_all, list_any}
 use Rattle.std.proofs.lemmas.Bool.{eqb-true}
 use Rattle.std.proofs.lemmas.Bool.Decides.{nat_tests}
 use Rattle.std.proofs.lemmas.Cmp.{nat_eq_equiv}
@@ -15,7 +15,7 @@ use Rattle.ghost_model.specs.core.Groups.{each_of}
 use Rattle.ghost_model.specs.core.Meaning.{compares, meets_test}
 use Rattle.ghost_model.specs.core.Asks.{asks_of, ask_for, is_needed, is_shown, column_test, kind_at}
 use Rattle.ghost_model.specs.laws.ShortWords.{tests_of, is_from, values_met, rows_met, search_work}
-use Rattle.ghost_model.specs.core.Query.{Query, Field, Operator, Test, Compared, IsNull, IsNotNull, Member, members_of_group, Condition, OneOf, Join, compared, tested}
+use Rattle.ghost_model.specs.core.Query.{Query, Field, Operator, Test, Compared, IsNull, IsNotNull, Member, GroupMember, members_of_group, members_of, members_in, Condition, OneOf, Join, compared, tested}
 use Rattle.ghost_model.specs.core.Replies as replies
 use Rattle.ghost_model.specs.core.Replies.{reply_about, row_replied}
 use Rattle.ghost_model.specs.core.Split.{RowValues, public_of, visible_places, public_rows, replied, meets_tests, replies_from}
@@ -37,9 +37,10 @@ use Rattle.leakless_plan.specs.Choices.{compares_visible}
 use Rattle.flash_layout.specs.Ranges.{IsRowOf}
 use Rattle.condition_lists.specs.declared.bounds.Bounds.{Bounds}
 use Rattle.condition_lists.specs.declared.term.Term.{Term}
+use Rattle.condition_lists.specs.declared.term.GroupTerm.{GroupTerm}
 use Rattle.condition_lists.specs.declared.term.Term.TheVariants.{Ranges, Entries, Identifiers, TopReply, Reply}
 use Rattle.condition_lists.specs.Bounds.{lies_within}
-use Rattle.condition_lists.specs.Terms.{AreEntriesOf, AreIdentifiersOf, IsIdentifiersTerm, IsTermOf, IsTermOfTest, IsReplyTermOf, AreTermsOf, IsIdIndexAt, is_in_one, is_compared}
+use Rattle.condition_lists.specs.Terms.{AreEntriesOf, AreIdentifiersOf, IsIdentifiersTerm, IsTermOf, IsTermOfTest, IsReplyTermOf, AreTermsOf, IsIdIndexAt, is_in_one, is_compared, is_listed, listed_members}
 use Rattle.condition_lists.specs.Laws.{IsOver}
 use Rattle.ghost_model.specs.forms.QueryWork.{union_work, values_of, count_values, rows_leading, is_range, condition_work, honest_rows, reply_work}
 use Rattle.condition_lists.specs.Costs.{rows_meeting, values_within, replied_count, term_cost}
@@ -48,7 +49,8 @@ use Rattle.condition_lists.proofs.CountLemmas.{ranges_once, among_map, counted, 
 use Rattle.condition_lists.proofs.CostLemmas.{entries_in, in_groups, ends_within, both_many, row_among}
 use Rattle.condition_lists.proofs.ListLemmas.{in_column, replied_some}
 use Rattle.condition_lists.proofs.MeetLemmas.{by_value}
-use Rattle.condition_lists.proofs.MemberLemmas.{mapped_many}
+use Rattle.condition_lists.proofs.MemberLemmas.{among_of, mapped_many}
+use Rattle.condition_lists.proofs.TermLemmas.{all_listed}
 use Rattle.condition_lists.proofs.RowLemmas.{never_hidden, null_if_allowed, rows_are, row_there, below_by, is_row, led}
 
 module _ (cat : Catalog) (database : Database) (over : IsOver cat database) (levels : LevelsAreAncestors) (keys : LeadsFollowKeys cat.schema database)
@@ -204,11 +206,18 @@ module _ (cat : Catalog) (database : Database) (over : IsOver cat database) (lev
   test_cost wanted test TopReply is = absurd is
   test_cost wanted test (Reply table index level) is = absurd is
 
-  pub condition_cost : (condition : Condition) (term : Term) → IsTermOf cat top condition term
+  pub member_cost : (one : Member) (term : Term) → IsTermOfTest cat top one.field one.test term
+      → term_cost cat database given top term ≤ condition_work cat.schema database top (OneOf one [])
+  member_cost one term is = test_cost one.field one.test term is
+
+  pub condition_cost : (condition : Condition) → is_listed cat.schema top condition ≡ true → (term : Term) → IsTermOf cat top condition term
       → term_cost cat database given top term ≤ condition_work cat.schema database top condition
-  condition_cost (OneOf first []) term is = test_cost first.field first.test term is
-  condition_cost (OneOf first (next ∷ others)) term is = absurd is
-  condition_cost (Join one other) term is = absurd is
+  condition_cost (OneOf first []) listed term is = elim (among_of (members_of (OneOf first [])) is.one is.among) [
+    | inl same ↦ member_cost first term (subst (λ (one : GroupMember). IsTermOfTest cat top one.member.field one.member.test term) (sym same) is.is)
+    | inr later ↦ absurd later
+  ]
+  condition_cost (OneOf first (next ∷ others)) listed term is = absurd (cc (listed))
+  condition_cost (Join one other) listed term is = absurd (cc (listed))
 
   -- ---- replies
 
@@ -344,27 +353,40 @@ sum_of_some f p (x ∷ xs) = by (p x) (sum_of_some f p xs)
     by true rest = let a = sum_by-cons f x xs in let b = sum_by-cons f x (filter p xs) in omega (arith, rest, a, b)
     by false rest = let a = sum_by-cons f x xs in omega (arith, rest, a)
 
-pub sum_terms : (cat : Catalog) (top : ℕ) (cost : Term → ℕ) (work : Condition → ℕ) (reply : ℕ → ℕ) (conditions : List Condition) (tables : List ℕ) (terms : List Term)
-    → AreTermsOf cat top conditions tables terms
-    → ((condition : Condition) (term : Term) → IsTermOf cat top condition term → cost term ≤ work condition)
-    → ((table : ℕ) (term : Term) → Among table tables → IsReplyTermOf cat top table term → cost term ≤ reply table)
-    → sum_by cost terms ≤ sum_by work conditions + sum_by reply tables
-sum_terms cat top cost work reply [] [] [] are one other = omega arith
-sum_terms cat top cost work reply [] [] (term ∷ terms) are one other = absurd are
-sum_terms cat top cost work reply [] (table ∷ tables) [] are one other = absurd are
-sum_terms cat top cost work reply [] (table ∷ tables) (term ∷ terms) are one other =
-    let rest = sum_terms cat top cost work reply [] tables terms are.1 one (λ t term among. other t term (inr among)) in
-    let here = other table term (inl refl) are.0 in
-    let a = sum_by-cons cost term terms in
-    let b = sum_by-cons reply table tables in
-    omega (arith, rest, here, a, b)
-sum_terms cat top cost work reply (condition ∷ conditions) tables [] are one other = absurd are
-sum_terms cat top cost work reply (condition ∷ conditions) tables (term ∷ terms) are one other =
-    let rest = sum_terms cat top cost work reply conditions tables terms are.1 one other in
-    let here = one condition term are.0 in
-    let a = sum_by-cons cost term terms in
-    let b = sum_by-cons work condition conditions in
-    omega (arith, rest, here, a, b)
+module _ (cat : Catalog) (top : ℕ) (cost : Term → ℕ) (work : Condition → ℕ) (reply : ℕ → ℕ) where
+  abbrev cost_of : GroupTerm → ℕ
+  cost_of one = cost one.term
+
+  sum_listed : (conditions : List Condition) → list_all (is_listed cat.schema top) conditions ≡ true → (tables : List ℕ) (terms : List GroupTerm)
+      → AreTermsOf cat top (members_in conditions) tables terms
+      → ((one : Member) (term : Term) → IsTermOfTest cat top one.field one.test term → cost term ≤ work (OneOf one []))
+      → ((table : ℕ) (term : Term) → Among table tables → IsReplyTermOf cat top table term → cost term ≤ reply table)
+      → sum_by cost_of terms ≤ sum_by work conditions + sum_by reply tables
+  sum_listed [] listed [] [] are one other = omega arith
+  sum_listed [] listed [] (term ∷ terms) are one other = absurd are
+  sum_listed [] listed (table ∷ tables) [] are one other = absurd are
+  sum_listed [] listed (table ∷ tables) (term ∷ terms) are one other =
+      let rest = sum_listed [] refl tables terms are.1 one (λ t term among. other t term (inr among)) in
+      let here = other table term.term (inl refl) are.0.is in
+      let a = sum_by-cons cost_of term terms in
+      let b = sum_by-cons reply table tables in
+      omega (arith, rest, here, a, b)
+  sum_listed (OneOf first [] ∷ conditions) listed tables [] are one other = absurd are
+  sum_listed (OneOf first [] ∷ conditions) listed tables (term ∷ terms) are one other =
+      let rest = sum_listed conditions (both_true (is_listed cat.schema top (OneOf first [])) (list_all (is_listed cat.schema top) conditions) listed).1 tables terms are.1 one other in
+      let here = one first term.term are.0.is in
+      let a = sum_by-cons cost_of term terms in
+      let b = sum_by-cons work (OneOf first []) conditions in
+      omega (arith, rest, here, a, b)
+  sum_listed (OneOf first (next ∷ others) ∷ conditions) listed tables terms are one other = absurd (cc (listed))
+  sum_listed (Join left right ∷ conditions) listed tables terms are one other = absurd (cc (listed))
+
+  pub sum_terms : (conditions : List Condition) (tables : List ℕ) (terms : List GroupTerm) → AreTermsOf cat top (listed_members cat.schema top conditions) tables terms
+      → ((one : Member) (term : Term) → IsTermOfTest cat top one.field one.test term → cost term ≤ work (OneOf one []))
+      → ((table : ℕ) (term : Term) → Among table tables → IsReplyTermOf cat top table term → cost term ≤ reply table)
+      → sum_by (λ (one : GroupTerm). cost one.term) terms ≤ sum_by work (filter (is_listed cat.schema top) conditions) + sum_by reply tables
+  sum_terms conditions tables terms are one other =
+      sum_listed (filter (is_listed cat.schema top) conditions) (all_listed cat.schema top conditions) tables terms are one other
 
 module _ (schema : Schema) (database : Database) (asked : Query) (top : ℕ) where
   abbrev work_of : ℕ → ℕ

@@ -1,5 +1,5 @@
 -- Laws of costs: what the lists of a term are is within the term's cost, and the terms of an accepted query cost at most its work.
-use Rattle.std.specs.Prelude.{◌≡◌, ℕ, ◌+◌, ◌-◌, ◌*◌, ◌/◌, ◌<◌, ◌≤◌, false, List, [], ◌++◌, length, get_or, map, sum_by, Contains, Option, Some, Ok}
+use Rattle.std.specs.Prelude.{◌≡◌, ℕ, ◌+◌, ◌-◌, ◌*◌, ◌/◌, ◌<◌, ◌≤◌, true, false, List, [], ◌++◌, length, get_or, map, Contains, Option, Some, Ok}
 use Rattle.std.specs.List.{concat}
 use Rattle.ghost_model.specs.core.Schema.{Schema, is_empty}
 use Rattle.ghost_model.specs.core.Values.{Value, Database}
@@ -25,11 +25,12 @@ use Rattle.spj_parse.specs.Resolved.{IsMeant, linked}
 use Rattle.leakless_plan.specs.declared.form.Form.{Form}
 use Rattle.condition_lists.specs.declared.bounds.Bounds.{Bounds}
 use Rattle.condition_lists.specs.declared.term.Term.{Term}
+use Rattle.condition_lists.specs.declared.term.GroupTerm.{GroupTerm}
 use Rattle.condition_lists.specs.declared.term.Term.TheVariants.{Entries, Identifiers, Reply}
 use Rattle.condition_lists.specs.Bounds.{AreOfKind}
-use Rattle.condition_lists.specs.Terms.{AreIdsOf, AreTermsBy, IsIndexAt, IsIdIndexAt, IsBehind, IsTermOf, IsReplyTermOf}
+use Rattle.condition_lists.specs.Terms.{AreIdsOf, AreTermsBy, IsIndexAt, IsIdIndexAt, IsBehind, IsTermOf, IsReplyTermOf, is_listed}
 use Rattle.condition_lists.specs.Laws.{IsOver, IsMet, AreGroupsOf, AreReplied, lists_in, replied_ids}
-use Rattle.condition_lists.specs.Costs.{rows_meeting, values_within, replied_count, term_cost}
+use Rattle.condition_lists.specs.Costs.{rows_meeting, values_within, replied_count, term_cost, terms_cost}
 use Rattle.ghost_model.specs.forms.QueryWork.{bits, union_work, values_of, count_values, condition_work, reply_work, row_work, work}
 use Rattle.ghost_model.specs.laws.ShortWords.{search_work}
 
@@ -112,12 +113,12 @@ AreHonest cat database asked given =
     (ask : Ask) → Contains (asks_of cat.schema asked) ask
     → reply_about ask.table given ≡ Some (whole_reply cat.schema (public_of cat.schema database) ask)
 
--- A term costs at most the work of its condition, or of the ask whose reply it is of. So the terms of an accepted query, with what
--- its rows take, cost at most its work.
+-- A term costs at most the work of the condition that is a term, or of the ask whose reply it is of. So the terms of an accepted
+-- query, with what its rows take, cost at most its work.
 pub record TermsCostTheirWork : Type 0 where
   pub condition :
       (cat : Catalog) (database : Database) → IsOver cat database
-      → (given : List replies.Reply) (top : ℕ) (condition : Condition) (term : Term) → IsTermOf cat top condition term
+      → (given : List replies.Reply) (top : ℕ) (condition : Condition) → is_listed cat.schema top condition ≡ true → (term : Term) → IsTermOf cat top condition term
       → term_cost cat database given top term ≤ condition_work cat.schema database top condition
   pub reply :
       (cat : Catalog) (database : Database) → IsOver cat database
@@ -128,7 +129,7 @@ pub record TermsCostTheirWork : Type 0 where
       (cat : Catalog) (database : Database) → IsOver cat database
       → (text : List ℕ) (asked : Query) → IsMeant cat.schema text asked
       → (top : ℕ) → top_of cat.schema asked ≡ Some top
-      → (forms : List (Option Form)) (terms : List Term) → AreTermsBy cat asked forms (Some top) terms
+      → (forms : List (Option Form)) (terms : List GroupTerm) → AreTermsBy cat asked forms (Some top) terms
       → (given : List replies.Reply) → AreHonest cat database asked given
-      → 64 + (sum_by (term_cost cat database given top) terms + length (answer cat.schema database (without_left cat.schema asked)) * row_work cat.schema database asked)
+      → 64 + (terms_cost cat database given top terms + length (answer cat.schema database (without_left cat.schema asked)) * row_work cat.schema database asked)
       ≤ work cat.schema database asked

@@ -1,5 +1,5 @@
 -- What the lists of a term cost: how many calls of the flash at most it takes to find them, and to have one list of them.
-use Rattle.std.specs.Prelude.{ℕ, ◌+◌, List, length, count_by, filter}
+use Rattle.std.specs.Prelude.{ℕ, ◌+◌, List, length, count_by, sum_by, filter}
 use Rattle.std.specs.Option.{option_map_or}
 use Rattle.ghost_model.specs.core.Values.{Database}
 use Rattle.ghost_model.specs.core.Channel.{Catalog}
@@ -11,6 +11,7 @@ use Rattle.ghost_model.specs.forms.Flash.{ids}
 use Rattle.ghost_model.specs.refusals.QueryMeaning.{field}
 use Rattle.condition_lists.specs.declared.bounds.Bounds.{Bounds}
 use Rattle.condition_lists.specs.declared.term.Term.{Term}
+use Rattle.condition_lists.specs.declared.term.GroupTerm.{GroupTerm}
 use Rattle.condition_lists.specs.declared.term.Term.TheVariants.{Ranges, Entries, Identifiers, TopReply, Reply}
 use Rattle.condition_lists.specs.Bounds.{lies_within}
 use Rattle.condition_lists.specs.Terms.{meets}
@@ -42,3 +43,6 @@ term_cost cat database given top (Identifiers table index level first second) =
 term_cost cat database given top TopReply = union_work (replied_count given top) (replied_count given top)
 term_cost cat database given top (Reply table index level) =
     union_work (replied_count given table) (rows_meeting cat database given top (Reply table index level))
+
+abbrev pub terms_cost : Catalog → Database → List replies.Reply → (top : ℕ) → List GroupTerm → ℕ
+terms_cost cat database given top terms = sum_by (λ (one : GroupTerm). term_cost cat database given top one.term) terms

@@ -1,6 +1,6 @@
 //! Laws of terms.
 
-ghost use Rattle.condition_lists.specs.Laws.{BoundsAreOfValues, EachTermIsOfTheQuery, EachTableTermIsOfTheQuery, TableTermsAreTermsBy, TermsAreThoseOfQueries, TermsSiftRows, AllAreUnited, RowsOutsideRepliesAreNoAnswers, RowsOutsideSetsAreNoAnswers, ListsAreOfTerms, ListsComeInOrder, GroupsAscend};
+ghost use Rattle.condition_lists.specs.Laws.{BoundsAreOfValues, EachTermIsOfTheQuery, EachTableTermIsOfTheQuery, TableTermsAreTermsBy, TermsAreLone, TermsAreThoseOfQueries, TermsSiftRows, AllAreUnited, RowsOutsideRepliesAreNoAnswers, RowsOutsideSetsAreNoAnswers, ListsAreOfTerms, ListsComeInOrder, GroupsAscend};
 
 /// Cells lie between bounds of their kind as their values do, and identifiers as the numbers that they are.
 pub fn bounds_are_of_values()
@@ -29,6 +29,11 @@ pub fn table_terms_are_terms_by()
     ghost_model::layout::levels_are_ancestors();
     ghost_laws::followed::accepted_queries_are_followed();
 }
+
+/// No term of a query says that the next one is of its group, as long as no group of several is a term. So each is a group by itself.
+pub fn terms_are_lone()
+    ensures { TermsAreLone }
+{}
 
 /// A row of the top table meets all terms of an accepted query exactly where all groups whose rows the indexes have hold along it, and
 /// it stands along each table with visible groups whose reply is united.

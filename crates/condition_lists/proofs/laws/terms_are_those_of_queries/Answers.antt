@@ -13,7 +13,7 @@ returns c = λ cat database over text asked read top top_is forms terms are give
     let keys = c.rows_lead_to_rows.ensures cat.schema database over.tree over.is in
     let values = c.hidden_values_of_databases.ensures in
     let holds = holds_or_asked_along cat.schema (known_along cat.schema database given top identifier) in
-    all_met cat database over given top identifier row levels keys values _ _ terms are
+    all_met cat database over given top identifier row levels keys values asked.conditions _ terms are
     ∙ ap₂ (λ b ts. b && list_all (stands_along cat.schema database given top identifier) ts)
     (conditions_hold cat.schema over.tree levels top text asked read one accepted top_is holds (always_held cat database over given top identifier row levels keys values))
     (tables_are cat.schema over.tree levels top text asked read one accepted top_is forms)
