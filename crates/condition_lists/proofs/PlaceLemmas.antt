@@ -1,12 +1,12 @@
 -- Each term is that of a member of one of the conditions, or that of the reply of one of the tables.
-use Rattle.std.proofs.Common.{◌≡◌, ◌∙◌, refl, ap, sym, subst, ℕ, Bool, true, false, zero, suc, inl, inr, List, [], ◌∷◌, ◌++◌, flat_map, slice_get, Some}
+use Rattle.std.proofs.Common.{◌≡◌, ◌∙◌, refl, ap, sym, subst, ℕ, Bool, true, false, zero, suc, inl, inr, List, [], ◌∷◌, slice_get, Some}
 use Rattle.std.specs.Prelude.{◌⊎◌, ◌||◌}
 use Rattle.ghost_model.specs.core.Channel.{Catalog}
 use Rattle.ghost_model.specs.core.Query.{Member, GroupMember, members_of_group, members_of, Condition, members_in}
 use Rattle.ghost_model.specs.core.Groups.{some_of}
 use Rattle.ghost_model.proofs.MeaningLemmas.OneRow.{Among, from_append}
 use Rattle.condition_lists.specs.declared.term.GroupTerm.{GroupTerm}
-use Rattle.condition_lists.specs.Terms.{AreTermsOf, IsTermOf, IsTermOfMember, IsLoneReplyTermOf, IsReplyTermOf}
+use Rattle.condition_lists.specs.Terms.{AreTermsOf, IsTermOf, IsTermOfMember, IsLoneReplyTermOf}
 use Rattle.condition_lists.proofs.MemberLemmas.{contains_of}
 
 same : {a b : GroupTerm} → Some a ≡ Some b → a ≡ b
