@@ -7,7 +7,7 @@ use Rattle.std.proofs.lemmas.Bool.{and_parts, eqb-true, eq-eqb, le-leb, lt-ltb, 
 use Rattle.std.proofs.lemmas.Option.{slice_get_within}
 use Rattle.ghost_model.specs.core.Schema.{Schema, is_empty}
 use Rattle.ghost_model.specs.core.Channel.{Catalog}
-use Rattle.ghost_model.specs.core.Query.{Condition, Field, Member, Query, Test, Compared, IsNull, IsNotNull, OneOf, Join}
+use Rattle.ghost_model.specs.core.Query.{Condition, Field, Member, GroupMember, members_of, Query, Test, Compared, IsNull, IsNotNull, OneOf, Join}
 use Rattle.ghost_model.specs.forms.Layout.{above_of, count_of, is_below, is_hidden, levels_of, scratch_end, spool_end, File, IndexHeader, IndexDirectory, IndexLevel, IdDirectory, IdLevel, run_of_file}
 use Rattle.ghost_model.specs.forms.Runs.{Run, id_at, number_in, page_of}
 use Rattle.ghost_model.specs.forms.Slots.{has_file}
@@ -37,16 +37,18 @@ use Rattle.visible_spool.specs.Sparing.{IsHalf}
 use Rattle.entry_lists.specs.Entries.{level_run}
 use Rattle.entry_lists.specs.Given.{IndexMay}
 use Rattle.entry_lists.proofs.ValueLists.{file_at}
+use Rattle.condition_lists.specs.declared.term.GroupTerm.{GroupTerm}
 use Rattle.condition_lists.specs.declared.term.Term.{Term}
 use Rattle.condition_lists.specs.declared.term.Term.TheVariants.{Ranges, Entries, Identifiers, TopReply, Reply}
-use Rattle.condition_lists.specs.Terms.{AreTableTerms, AreTermsBy, IsIndexAt, IsIdIndexAt, IsReplyTermOf, IsIdentifiersTerm, IsTermOf, IsTermOfTest, has_level, is_compared, is_listed, is_replied, is_united, unites_whole}
+use Rattle.condition_lists.specs.Terms.{AreTableTerms, AreTermsBy, IsIndexAt, IsIdIndexAt, IsReplyTermOf, IsIdentifiersTerm, IsTermOf, IsTermOfTest, has_level, is_compared, is_listed, is_replied, is_united, listed_members, unites_whole}
 use Rattle.condition_lists.proofs.FilterLemmas.{term_is_gathered}
 use Rattle.condition_lists.proofs.PathLemmas.{joined}
-use Rattle.condition_lists.proofs.PlaceLemmas.{found}
+use Rattle.condition_lists.proofs.MemberLemmas.{among_of}
+use Rattle.condition_lists.proofs.PlaceLemmas.{found, its_condition, member_passes}
 use Rattle.candidate_gathering.specs.searching.Begun.{rows_list}
 use Rattle.candidate_gathering.specs.searching.Given.{SearchMay}
 use Rattle.candidate_gathering.proofs.searching_lemmas.Places.{some_above, within_above}
-use Rattle.candidate_gathering.specs.known.Known.{compares, is_gathered_of}
+use Rattle.candidate_gathering.specs.known.Known.{compares, is_at, is_gathered_of, is_member_of}
 use Rattle.candidate_gathering.specs.known.Laws.{RunsMay}
 use Rattle.candidate_gathering.specs.known.May.{ReplyMay, TermMay, TermsMay, files_in, is_column, is_run_read, is_same_run, lies_in, may_blame, since_for}
 use Rattle.candidate_gathering.specs.known.Reading.{AreTaken, IsReadByForms, MayTake, crosses_at, has_ids, has_lists, has_set, is_read_by, may_unite, seeks_by}
@@ -241,13 +243,19 @@ any_some : {X : Type 0} (test : X → Bool) (xs : List X) → list_any test xs �
 any_some test [] any = absurd (cc any)
 any_some test (x ∷ xs) any = refl
 
-compared_by : (schema : Schema) (asked : Query) (member : Member) → Among (OneOf member []) asked.conditions → is_gathered schema (OneOf member []) ≡ true
-    → compares schema asked member.field.table member.field.column ≡ true
-compared_by schema asked member among gathered =
-    let wanted = member.field in
-    any_among (is_gathered_of schema wanted.table wanted.column) asked.conditions (OneOf member []) among
-    (both (is_gathered schema (OneOf member [])) (nat_eq wanted.table wanted.table && nat_eq wanted.column wanted.column) gathered
-    (both (nat_eq wanted.table wanted.table) (nat_eq wanted.column wanted.column) (eq-eqb wanted.table wanted.table refl) (eq-eqb wanted.column wanted.column refl)))
+is_member : (condition : Condition) (one : GroupMember) → Among one (members_of condition) → is_member_of one.member.field.table one.member.field.column condition ≡ true
+is_member (Join left right) one among = absurd among
+is_member (OneOf first others) one among =
+    let wanted = one.member.field in
+    member_passes (λ (m : Member). is_at wanted.table wanted.column m.field) first others one among
+    (both (nat_eq wanted.table wanted.table) (nat_eq wanted.column wanted.column) (eq-eqb wanted.table wanted.table refl) (eq-eqb wanted.column wanted.column refl))
+
+compared_by : (schema : Schema) (asked : Query) (condition : Condition) (one : GroupMember) → Among condition asked.conditions → Among one (members_of condition)
+    → is_gathered schema condition ≡ true → compares schema asked one.member.field.table one.member.field.column ≡ true
+compared_by schema asked condition one among held gathered =
+    let wanted = one.member.field in
+    any_among (is_gathered_of schema wanted.table wanted.column) asked.conditions condition among
+    (both (is_gathered schema condition) (is_member_of wanted.table wanted.column condition) gathered (is_member condition one held))
 
 level_there : (schema : Schema) (top table : ℕ) → has_level schema top table ≡ true → table < length schema
 level_there schema top table has = by (nat_lt table (length schema)) refl has
@@ -321,10 +329,9 @@ module _ (orders : FilesLieInOrder) (levels : LevelsAreAncestors) (told : Bool) 
 
     condition_may : (condition : Condition) (term : Term) → Among condition asked.conditions → is_listed cat.schema at condition ≡ true → IsTermOf cat at condition term
         → TermMay S half device.page at (count_of cat at) term
-    condition_may (Join one other) term among listed is = absurd is
-    condition_may (OneOf member []) term among listed is =
-        test_may member.field member.test term (compared_by cat.schema asked member among (term_is_gathered cat.schema at (OneOf member []) listed)) is
-    condition_may (OneOf member (next ∷ others)) term among listed is = absurd is
+    condition_may condition term among listed is =
+        test_may is.one.member.field is.one.member.test term
+        (compared_by cat.schema asked condition is.one among (among_of (members_of condition) is.one is.among) (term_is_gathered cat.schema at condition listed)) is.is
 
   -- the reply of the table itself
   own_reply_may : (at : ℕ) → at < length cat.schema → ReplyMay S half device.page (count_of cat at) at
@@ -359,23 +366,27 @@ module _ (orders : FilesLieInOrder) (levels : LevelsAreAncestors) (told : Bool) 
       united true e u = let I : ℕ → Type 0 = λ t. IsIdIndexAt cat top t index level in absurd (no_return top level index (subst I (eqb-true table top e) is.1))
       united false e u = by_form (get_or forms table None) refl u
 
-  terms_may : (forms : List (Option Form)) (terms : List Term) → AreTaken cat.schema asked forced forms → AreTermsBy cat asked forms (Some top) terms → TermsMay S half device.page top (count_of cat top) terms
+  terms_may : (forms : List (Option Form)) (terms : List GroupTerm) → AreTaken cat.schema asked forced forms → AreTermsBy cat asked forms (Some top) terms → TermsMay S half device.page top (count_of cat top) terms
   terms_may forms terms taken are place term at =
-      elim (found cat top (filter (is_listed cat.schema top) asked.conditions) (filter (is_replied cat.schema asked forms top) asked.from) terms are place term at) [
-        | inl one ↦ condition_may top (inl refl) one.condition term (from_filter (is_listed cat.schema top) one.condition asked.conditions one.among).0
-            (from_filter (is_listed cat.schema top) one.condition asked.conditions one.among).1 one.is
-        | inr other ↦ united_may forms taken other.table term (from_filter (is_replied cat.schema asked forms top) other.table asked.from other.among).1 other.is
+      elim (found cat top (listed_members cat.schema top asked.conditions) (filter (is_replied cat.schema asked forms top) asked.from) terms are place term at) [
+        | inl of ↦ (
+            let one = its_condition cat top (filter (is_listed cat.schema top) asked.conditions) term of in
+            let from = from_filter (is_listed cat.schema top) one.condition asked.conditions one.among in
+            condition_may top (inl refl) one.condition term.term from.0 from.1 one.is)
+        | inr other ↦ united_may forms taken other.table term.term (from_filter (is_replied cat.schema asked forms top) other.table asked.from other.among).1 other.is.is
       ]
 
-  set_may : (table : ℕ) (terms : List Term) → has_set cat.schema asked forced top table ≡ true → AreTableTerms cat asked table terms → TermsMay S half device.page table (count_of cat table) terms
+  set_may : (table : ℕ) (terms : List GroupTerm) → has_set cat.schema asked forced top table ≡ true → AreTableTerms cat asked table terms → TermsMay S half device.page table (count_of cat table) terms
   set_may table terms set are place term at =
-      elim (found cat table (filter (is_listed cat.schema table) asked.conditions) (table ∷ []) terms are place term at) [
-        | inl one ↦ condition_may table (inr set) one.condition term (from_filter (is_listed cat.schema table) one.condition asked.conditions one.among).0
-            (from_filter (is_listed cat.schema table) one.condition asked.conditions one.among).1 one.is
+      elim (found cat table (listed_members cat.schema table asked.conditions) (table ∷ []) terms are place term at) [
+        | inl of ↦ (
+            let one = its_condition cat table (filter (is_listed cat.schema table) asked.conditions) term of in
+            let from = from_filter (is_listed cat.schema table) one.condition asked.conditions one.among in
+            condition_may table (inr set) one.condition term.term from.0 from.1 one.is)
         | inr other ↦ (
             let own : table ≡ other.table = elim other.among [ inl e ↦ e | inr none ↦ absurd none ] in
-            let I : ℕ → Type 0 = λ t. IsReplyTermOf cat table t term in
-            own_may_at term (subst I (sym own) other.is))
+            let I : ℕ → Type 0 = λ t. IsReplyTermOf cat table t term.term in
+            own_may_at term.term (subst I (sym own) other.is.is))
       ]
     where
       there : table < length cat.schema
@@ -477,5 +488,5 @@ runs_may orders levels = record {
       (both (is_compared cat.schema asked table) (crosses_at cat.schema asked forced table) compared (may.crosses crossing));
   taken = taken_by;
   reply_stays = reply_still;
-  stay = λ since half page now top rows terms keeps may place term at. term_still since half page now top rows keeps term (may place term at);
+  stay = λ since half page now top rows terms keeps may place term at. term_still since half page now top rows keeps term.term (may place term at);
 }

@@ -1,10 +1,10 @@
 -- Candidates by terms that are taken in one after another.
-use Rattle.std.proofs.Common.{◌≡◌, ◌∙◌, refl, ap, sym, ℕ, zero, suc, ◌+◌, ◌-◌, ◌≤◌, inl, inr, Bool, true, false, ◌&&◌, List, [], ◌∷◌, length, take, slice_get, Some, arith}
+use Rattle.std.proofs.Common.{◌≡◌, ◌∙◌, refl, ap, sym, ℕ, ◌+◌, ◌-◌, ◌≤◌, inl, inr, Bool, true, false, ◌&&◌, List, [], ◌∷◌, length, take, arith}
 use Rattle.std.specs.Prelude.{◌↔◌, ◌⊎◌, ◌||◌, ⊤}
-use Rattle.std.specs.List.{list_all}
 use Rattle.std.proofs.lemmas.Bool.{and_parts}
 use Rattle.ghost_model.specs.core.Values.{Database}
 use Rattle.ghost_model.specs.core.Channel.{Catalog}
+use Rattle.ghost_model.specs.core.Groups.{groups_of}
 use Rattle.ghost_model.specs.core.Replies as replies
 use Rattle.ghost_model.specs.forms.Layout.{count_of}
 use Rattle.ghost_model.proofs.MeaningLemmas.OneRow.{either_true}
@@ -12,58 +12,42 @@ use Rattle.climbing_index.specs.declared.search.Group.{Group}
 use Rattle.climbing_index.specs.Searches.{IsIn}
 use Rattle.candidate_lists.specs.Held.{IsRow}
 use Rattle.flash_layout.specs.Ranges.{IsRowOf}
+use Rattle.condition_lists.specs.declared.term.GroupTerm.{GroupTerm}
 use Rattle.condition_lists.specs.declared.term.Term.{Term}
 use Rattle.condition_lists.specs.Laws.{IsEntryOf, IsMet}
-use Rattle.condition_lists.specs.Terms.{is_in, meets}
+use Rattle.condition_lists.specs.Terms.{is_in, meets, IsAloneAt, meets_all}
 use Rattle.condition_lists.proofs.GroupLemmas.{in_group, to_group}
+use Rattle.condition_lists.proofs.LoneLemmas.{one_group_more}
 use Rattle.candidate_gathering.specs.searching.Gathered.{InGroups, MeetsFirst}
 
-one_more : (p : Term → Bool) (terms : List Term) (at : ℕ) (term : Term) → slice_get terms at ≡ Some term → list_all p (take (suc at) terms) ≡ (list_all p (take at terms) && p term)
-one_more p [] at term e = absurd (cc (e))
-one_more p (x ∷ terms) zero term e = let same : x ≡ term = cc in right_true (p x) ∙ ap p same
-  where
-    right_true : (b : Bool) → (b && true) ≡ b
-    right_true true = refl
-    right_true false = refl
-one_more p (x ∷ terms) (suc at) term e = ap (λ b. p x && b) (one_more p terms at term e) ∙ joined (p x) (list_all p (take at terms)) (p term)
-  where
-    joined : (a b c : Bool) → (a && (b && c)) ≡ ((a && b) && c)
-    joined true b c = refl
-    joined false b c = refl
-
-all_taken : (terms : List Term) → take (length terms) terms ≡ terms
+all_taken : (terms : List GroupTerm) → take (length terms) terms ≡ terms
 all_taken [] = refl
 all_taken (x ∷ terms) = ap (λ rest. x ∷ rest) (all_taken terms)
 
 and_holds : (a b : Bool) → a ≡ true → b ≡ true → (a && b) ≡ true
 and_holds a b one other = ap (λ c. c && b) one ∙ other
 
-module _ (cat : Catalog) (database : Database) (given : List replies.Reply) (top : ℕ) (terms : List Term) where
+module _ (cat : Catalog) (database : Database) (given : List replies.Reply) (top : ℕ) (terms : List GroupTerm) where
   -- a candidate that is also in the union of a term
   pub taken :
-      (at : ℕ) (term : Term) → slice_get terms at ≡ Some term → (rows identifier : ℕ) (now was in_union : Type 0) → rows ≡ count_of cat top
+      (at : ℕ) (term : Term) → IsAloneAt terms at term → (rows identifier : ℕ) (now was in_union : Type 0) → rows ≡ count_of cat top
       → was ↔ MeetsFirst cat database given top terms at identifier → in_union ↔ IsMet cat database given top term identifier
       → now ↔ (IsRow rows identifier × (was × in_union)) → now ↔ MeetsFirst cat database given top terms (at + 1) identifier
   taken at term there rows identifier now was in_union rows_are before union all = (to, from)
     where
-      p : Term → Bool
-      p = meets cat.schema database given top identifier
-
-      next : at + 1 ≡ suc at
-      next = omega arith
-
-      more : list_all p (take (at + 1) terms) ≡ (list_all p (take at terms) && p term)
-      more = ap (λ n. list_all p (take n terms)) next ∙ one_more p terms at term there
+      more : meets_all cat.schema database given top identifier (take (at + 1) terms)
+          ≡ (meets_all cat.schema database given top identifier (take at terms) && meets cat.schema database given top identifier term)
+      more = one_group_more (λ (one : GroupTerm). meets cat.schema database given top identifier one.term) terms at term there
 
       to : now → MeetsFirst cat database given top terms (at + 1) identifier
       to is =
           let has = all.0 is in
           let first = before.0 has.1.0 in
-          record { row = first.row; met = more ∙ and_holds (list_all p (take at terms)) (p term) first.met (union.0 has.1.1).met }
+          record { row = first.row; met = more ∙ and_holds (meets_all cat.schema database given top identifier (take at terms)) (meets cat.schema database given top identifier term) first.met (union.0 has.1.1).met }
 
       from : MeetsFirst cat database given top terms (at + 1) identifier → now
       from first =
-          let parts = and_parts (list_all p (take at terms)) (p term) (sym more ∙ first.met) in
+          let parts = and_parts (meets_all cat.schema database given top identifier (take at terms)) (meets cat.schema database given top identifier term) (sym more ∙ first.met) in
           all.1 (
             record { some = first.row.some; within = omega (arith, first.row.within, rows_are) },
             (before.1 (record { row = first.row; met = parts.0 }), union.1 (record { row = first.row; met = parts.1 })),
@@ -71,6 +55,7 @@ module _ (cat : Catalog) (database : Database) (given : List replies.Reply) (top
 
   pub begun :
       (rows identifier : ℕ) (now : Type 0) → rows ≡ count_of cat top → now ↔ (IsRow rows identifier × ⊤) → now ↔ MeetsFirst cat database given top terms 0 identifier
+  unfolding groups_of
   begun rows identifier now rows_are all = (
     λ is. let has = (all.0 is).0 in record { row = record { some = has.some; within = omega (arith, has.within, rows_are) }; met = refl },
     λ first. all.1 (record { some = first.row.some; within = omega (arith, first.row.within, rows_are) }, tt),
@@ -86,10 +71,10 @@ module _ (cat : Catalog) (database : Database) (given : List replies.Reply) (top
 
   pub whole :
       (identifier : ℕ) (now : Type 0) → now ↔ MeetsFirst cat database given top terms (length terms) identifier → IsRowOf cat top identifier
-      → now ↔ (list_all (meets cat.schema database given top identifier) terms ≡ true)
+      → now ↔ (meets_all cat.schema database given top identifier terms ≡ true)
   whole identifier now all row =
-      let p : Term → Bool = meets cat.schema database given top identifier in
-      let same : list_all p (take (length terms) terms) ≡ list_all p terms = ap (λ ts. list_all p ts) (all_taken terms) in
+      let same : meets_all cat.schema database given top identifier (take (length terms) terms) ≡ meets_all cat.schema database given top identifier terms =
+      ap (meets_all cat.schema database given top identifier) (all_taken terms) in
       (λ is. sym same ∙ (all.0 is).met, λ met. all.1 (record { row = row; met = same ∙ met }))
 
 -- the ranges of groups
