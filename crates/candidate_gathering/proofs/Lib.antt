@@ -34,3 +34,4 @@ pub mod Endings
 pub mod StagesStay
 pub mod Paying
 pub mod cross_form_lemmas
+pub mod group_lemmas

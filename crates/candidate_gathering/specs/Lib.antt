@@ -12,3 +12,4 @@ pub mod Steps
 pub mod Begins
 pub mod Ends
 pub mod cross_forms
+pub mod groups

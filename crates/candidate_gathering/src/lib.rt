@@ -14,6 +14,7 @@ pub mod beginning;
 pub mod cross_forms;
 pub mod gathering;
 pub mod going;
+pub mod groups;
 pub mod known;
 pub mod lists;
 pub mod places;
