@@ -3,7 +3,7 @@ use Rattle.std.proofs.Common.{◌≡◌, ◌∙◌, sym, ap, refl, ℕ, Bool, tr
 use Rattle.std.specs.Prelude.{bytes_eq}
 use Rattle.std.proofs.lemmas.Slice.Eq.{bytes_eq-Decides}
 use Rattle.edge_traits.specs.Devices.{Device, is_name, pages_under, KeepsPages, ChangesOnly}
-use Rattle.key_commands.specs.Devices.{KeepsNamed, KeepsOthers}
+use Rattle.key_migrate.specs.Devices.{KeepsNamed, KeepsOthers}
 
 -- where no page of the device that is open changed
 pub none_changed : (told : Bool) (a b : Device) → KeepsPages a b → KeepsNamed told a b

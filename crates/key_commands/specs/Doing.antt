@@ -16,7 +16,7 @@ use Rattle.key_plain.specs.declared.faults.PlainFault.{PlainFault}
 use Rattle.key_plain.specs.declared.faults.PlainFault.TheVariants as plain_fault
 use Rattle.key_load.specs.Results as loads
 use Rattle.key_load.specs.declared.failures.LoadFailure.{LoadFailure}
-use Rattle.key_commands.specs.Devices.{KeepsOthers}
+use Rattle.key_migrate.specs.Devices.{KeepsOthers}
 use Rattle.key_commands.specs.local.Openings.{local_opening}
 use Rattle.key_commands.specs.local.Sessions as locals
 use Rattle.key_commands.specs.local.Results as locally

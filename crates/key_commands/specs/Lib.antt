@@ -1,4 +1,3 @@
-pub mod Devices
 pub mod query
 pub mod local
 pub mod generate

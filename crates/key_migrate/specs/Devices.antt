@@ -1,4 +1,4 @@
--- What a migration leaves of the devices of all names.
+-- What a command leaves of the devices of all names.
 use Rattle.std.specs.Prelude.{◌≡◌, ℕ, Bool, true, false, List, Some, bytes_eq}
 use Rattle.edge_traits.specs.Devices.{Device, pages_under}
 

@@ -12,7 +12,7 @@ mod line;
 mod opening;
 mod parts;
 mod preparing;
-mod public_pages;
+pub mod public_pages;
 mod reading;
 mod writing;
 

@@ -30,6 +30,7 @@ fn read_front<F: Flash>(flash: &mut F, bytes: &mut [u8; 18_432]) -> Result<(), F
     ensures bytes { OnOk result (F.told ≡ true → bytes.new ≡ front_bytes (F.state flash.new).page) }
     ensures kept { KeepsPages (F.state flash.old) (F.state flash.new) }
     ensures cause { HasCause (F.state flash.old).faults (F.state flash.new).faults result }
+    ensures deep_reads { (F.state flash.new).deep_reads ≡ (F.state flash.old).deep_reads }
     ensures calls_stay { min (F.state flash.old).calls last_count ≤ (F.state flash.new).calls }
     ensures at_most { (F.state flash.new).calls ≤ (F.state flash.old).calls + 9 }
 {
@@ -43,11 +44,12 @@ fn read_front<F: Flash>(flash: &mut F, bytes: &mut [u8; 18_432]) -> Result<(), F
 
 /// Reads the catalog with which the public pages of a flash begin, of whichever version it is, and answers `None` where they begin
 /// with none, or where the flash has no page. At most nine pages are read.
-pub(crate) fn read_public_pages<F: Flash>(flash: &mut F) -> Result<Option<Catalog>, Failed>
+pub fn read_public_pages<F: Flash>(flash: &mut F) -> Result<Option<Catalog>, Failed>
     ensures catalog { IfOk result (λ found. IfSome found (λ cat. F.told ≡ true → HasCatalog (F.state flash.new) cat)) }
     ensures none { IfOk result (λ found. IfNone found (F.told ≡ true → HasNoCatalog (F.state flash.new))) }
     ensures kept { KeepsPages (F.state flash.old) (F.state flash.new) }
     ensures cause { HasCause (F.state flash.old).faults (F.state flash.new).faults result }
+    ensures deep_reads { (F.state flash.new).deep_reads ≡ (F.state flash.old).deep_reads }
     ensures calls_stay { min (F.state flash.old).calls last_count ≤ (F.state flash.new).calls }
     ensures at_most { (F.state flash.new).calls ≤ (F.state flash.old).calls + 9 }
 {

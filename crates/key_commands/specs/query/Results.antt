@@ -19,7 +19,7 @@ use Rattle.key_session.specs.Telling.{SessionSide, session_side}
 use Rattle.key_session.specs.declared.tally.SessionStatus.{SessionStatus}
 use Rattle.key_session.specs.declared.tally.SessionStatus.TheVariants as status
 use Rattle.key_session.specs.declared.tally.Tally.{Tally}
-use Rattle.key_commands.specs.Devices.{KeepsNamed}
+use Rattle.key_migrate.specs.Devices.{KeepsNamed}
 use Rattle.key_commands.specs.query.Openings.{IsScript}
 use Rattle.key_commands.specs.query.PublicPages.{HasCatalog, HasNoCatalog}
 use Rattle.key_commands.specs.declared.query.failures.QueryFailure.{QueryFailure}

@@ -5,7 +5,7 @@ ghost use Rattle.ghost_model.specs.core.Causes.{Rose};
 ghost use Rattle.edge_traits.specs.Files.{Files};
 ghost use Rattle.key_words.specs.Views.{gen_view};
 ghost use Rattle.key_inputs.specs.Outside.{HasCauses, outside};
-ghost use Rattle.key_commands.specs.Devices.{KeepsOthers};
+ghost use Rattle.key_migrate.specs.Devices.{KeepsOthers};
 ghost use Rattle.key_commands.specs.generate.Results.{EndsGen, is_failure, is_faultless, told_by};
 
 use crate::generate::ends::{GenFailure, GenRun, end_of, failure_of};

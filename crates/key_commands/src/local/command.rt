@@ -7,7 +7,7 @@ ghost use Rattle.key_words.specs.Views.{local_view};
 ghost use Rattle.key_inputs.specs.Openings.{InputFault, Spelled, Broken};
 ghost use Rattle.key_inputs.specs.Outside.{HasCauses, outside};
 ghost use Rattle.key_inputs.specs.Whole.{WholeInput};
-ghost use Rattle.key_commands.specs.Devices.{KeepsOthers};
+ghost use Rattle.key_migrate.specs.Devices.{KeepsOthers};
 ghost use Rattle.key_commands.specs.local.Openings.{local_opening};
 ghost use Rattle.key_commands.specs.local.Sessions.{SameBesides};
 ghost use Rattle.key_commands.specs.local.Results.{EndsLocalCall, EndsSomeLocal, is_failure, is_faultless, leaves_files, leaves_flash, ShowsNames, told_by};

@@ -6,7 +6,7 @@ ghost use Rattle.ghost_model.specs.forms.Flash.{Holds, IsHidden};
 ghost use Rattle.ghost_model.specs.forms.Layout as layout;
 ghost use Rattle.flash_build.specs.Building.{load_calls};
 ghost use Rattle.edge_traits.specs.Devices.{Counts};
-ghost use Rattle.key_commands.specs.Devices.{KeepsOthers};
+ghost use Rattle.key_migrate.specs.Devices.{KeepsOthers};
 ghost use Rattle.key_commands.specs.local.Making.{IsOfMaking};
 ghost use Rattle.key_commands.specs.local.Sessions.{HasLines, SameBesides};
 ghost use Rattle.key_commands.specs.declared.local.ends.LocalFailure.TheVariants as failure;

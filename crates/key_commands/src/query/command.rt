@@ -8,7 +8,7 @@ ghost use Rattle.key_words.specs.Views.{query_view};
 ghost use Rattle.key_inputs.specs.Openings.{Spelled, Missing};
 ghost use Rattle.key_inputs.specs.Outside.{HasCauses, outside};
 ghost use Rattle.key_inputs.specs.Scripts.{script_opening};
-ghost use Rattle.key_commands.specs.Devices.{KeepsOthers};
+ghost use Rattle.key_migrate.specs.Devices.{KeepsOthers};
 ghost use Rattle.key_commands.specs.query.PublicPages.{HasCatalog};
 ghost use Rattle.key_commands.specs.query.Results.{Runs, IsUnbegun, TellsScript, TellsFlash, is_faultless, is_of_opened_flash, is_of_script, told_by};
 ghost use Rattle.key_commands.specs.declared.query.failures.QueryFailure.TheVariants as failure;

@@ -17,7 +17,7 @@ ghost use Rattle.key_commands.specs.query.Results.{KeepsDeep, TellsScript, Tells
 ghost use Rattle.key_commands.specs.declared.query.failures.QueryFailure.TheVariants as failure;
 
 use crate::query::failures::{QueryFailure, failure_of};
-use crate::query::public_pages::read_public_pages;
+use crate::query::public_pages::read_current_catalog;
 use edge_traits::depot::Depot;
 use edge_traits::flash::{AttachFault, Flash};
 use flash_layout::need;
@@ -53,7 +53,7 @@ fn catalog_of<F: Flash>(flash: &mut F) -> Result<Catalog, QueryFailure>
     ensures calls_stay { min (F.state flash.old).calls last_count ≤ (F.state flash.new).calls }
     ensures memory { result ≡ Err failure.NoMemory → ⊥ }
 {
-    match read_public_pages(flash) {
+    match read_current_catalog(flash) {
         Ok(Some(cat)) => {
             a_catalog_is_short(&cat);
             let need = need(&cat);

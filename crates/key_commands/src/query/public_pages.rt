@@ -1,64 +1,31 @@
-//! The catalog on the public pages.
+//! The catalog on the public pages, where it is of the version that is made.
 
-ghost use Rattle.std.specs.Prelude.{◌≡◌, ◌<◌, ◌≤◌, ◌+◌, ◌*◌, ◌++◌, true, min, take, drop, IfOk, IfSome, IfNone, OnOk};
+ghost use Rattle.std.specs.Prelude.{◌≡◌, ◌≤◌, true, min, Some, IfOk, IfSome, IfNone};
 ghost use Rattle.ghost_model.specs.core.Causes.{HasCause, last_count};
-ghost use Rattle.ghost_model.specs.core.Channel as channel;
-ghost use Rattle.ghost_model.specs.forms.Catalog.{BeginsWithCatalog, current_version};
+ghost use Rattle.ghost_model.specs.forms.Catalog.{current_version};
 ghost use Rattle.edge_traits.specs.Devices.{KeepsPages};
-ghost use Rattle.key_commands.specs.query.PublicPages.{HasCatalog, HasNoCatalog, front_bytes};
+ghost use Rattle.key_commands.specs.query.PublicPages.{HasCatalog, HasNoCatalog};
 
 use edge_traits::Failed;
-use edge_traits::flash::{BLOCK_PAGES, Flash, PAGE_BYTES};
-use tree_schema::{Catalog, read_catalog};
+use edge_traits::flash::Flash;
+use key_migrate::public_pages::read_public_pages;
+use tree_schema::Catalog;
 
-/// The pages from the first one on that can hold bytes of a catalog.
-const FRONT_PAGES: u32 = 9;
-
-/// The bytes of these pages.
-const FRONT_BYTES: usize = 18_432;
-
-/// Puts the bytes of a page into their place.
-fn put_page(bytes: &mut [u8; 18_432], place: u32, page: &[u8; 2048])
-    requires place { place < 9 }
-    ensures put { bytes.new ≡ take (place * 2048) bytes.old ++ (page.now ++ drop (place * 2048 + 2048) bytes.old) }
-{
-    let at = place as usize * PAGE_BYTES;
-    bytes[at..at + PAGE_BYTES].copy_from_slice(page);
-}
-
-/// Reads the pages that can hold bytes of a catalog.
-fn read_front<F: Flash>(flash: &mut F, bytes: &mut [u8; 18_432]) -> Result<(), Failed>
-    requires there { 64 ≤ (F.state flash.old).page_count }
-    ensures bytes { OnOk result (F.told ≡ true → bytes.new ≡ front_bytes (F.state flash.new).page) }
-    ensures kept { KeepsPages (F.state flash.old) (F.state flash.new) }
-    ensures deep_reads { (F.state flash.new).deep_reads ≡ (F.state flash.old).deep_reads }
-    ensures cause { HasCause (F.state flash.old).faults (F.state flash.new).faults result }
-    ensures calls_stay { min (F.state flash.old).calls last_count ≤ (F.state flash.new).calls }
-{
-    let mut page = [0; PAGE_BYTES];
-    for place in 0..FRONT_PAGES {
-        flash.read_page(place, &mut page)?;
-        put_page(bytes, place, &page);
-    }
-    Ok(())
-}
-
-/// The catalog with which bytes begin, where they begin with one and it is of the version that is made.
-fn current_catalog(bytes: &[u8]) -> Option<Catalog>
-    ensures begins { IfSome result (λ cat. BeginsWithCatalog bytes.now cat) }
+/// A catalog that was found, where it is of the version that is made.
+fn current(found: Option<Catalog>) -> Option<Catalog>
+    ensures found { IfSome result (λ cat. found ≡ Some cat) }
     ensures current { IfSome result (λ cat. cat.version ≡ current_version) }
-    ensures none { IfNone result ((cat : channel.Catalog) → BeginsWithCatalog bytes.now cat → cat.version ≡ current_version → ⊥) }
+    ensures none { IfNone result (IfSome found (λ cat. cat.version ≡ current_version → ⊥)) }
 {
-    ghost_model::catalogs::catalogs_have_one_spelling();
-    let Some(cat) = read_catalog(bytes) else {
-        return None;
-    };
-    if cat.is_current() { Some(cat) } else { None }
+    match found {
+        Some(cat) if cat.is_current() => Some(cat),
+        Some(_) | None => None,
+    }
 }
 
 /// Reads the catalog with which the public pages of a flash begin, and answers `None` where they begin with none of the version
 /// that is made, or where the flash has no page. No later page is read.
-pub(crate) fn read_public_pages<F: Flash>(flash: &mut F) -> Result<Option<Catalog>, Failed>
+pub(crate) fn read_current_catalog<F: Flash>(flash: &mut F) -> Result<Option<Catalog>, Failed>
     ensures catalog { IfOk result (λ found. IfSome found (λ cat. F.told ≡ true → HasCatalog (F.state flash.new) cat)) }
     ensures current { IfOk result (λ found. IfSome found (λ cat. cat.version ≡ current_version)) }
     ensures none { IfOk result (λ found. IfNone found (F.told ≡ true → HasNoCatalog (F.state flash.new))) }
@@ -67,11 +34,6 @@ pub(crate) fn read_public_pages<F: Flash>(flash: &mut F) -> Result<Option<Catalo
     ensures cause { HasCause (F.state flash.old).faults (F.state flash.new).faults result }
     ensures calls_stay { min (F.state flash.old).calls last_count ≤ (F.state flash.new).calls }
 {
-    ghost_model::catalogs::no_catalog_is_long();
-    if flash.pages() < BLOCK_PAGES {
-        return Ok(None);
-    }
-    let mut bytes = [0; FRONT_BYTES];
-    read_front(flash, &mut bytes)?;
-    Ok(current_catalog(&bytes))
+    ghost_model::catalogs::catalogs_have_one_spelling();
+    Ok(current(read_public_pages(flash)?))
 }

@@ -10,6 +10,7 @@ loop-place-init g c = record {
   bytes = λ told. none_before (g.F.Flash.state c.args.flash.now).page;
   size = c.told-bytes;
   kept = kept_same (g.F.Flash.state c.args.flash.now);
+  deep_reads = refl;
   faults = refl;
   calls = omega arith;
   most = omega arith;
@@ -32,6 +33,7 @@ loop-place-preserved g c =
           ∙ ap (λ (page : ℕ → List ℕ). bytes_before page (place + 1)) (sym read.kept.page)))));
       size = c.put_page.array_long;
       kept = kept_trans was.kept read.kept;
+      deep_reads = grind (arith, read.deep_reads, was.deep_reads, c.loop-place-test.true);
       faults = read.cause.other ∙ was.faults;
       calls = omega (arith, was.calls, read.calls);
       most = omega (arith, was.most, read.calls);
