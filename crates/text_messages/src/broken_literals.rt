@@ -5,7 +5,7 @@ use crate::meanings::meanings;
 use crate::parts::{Column, Literal, Part};
 use ghost_base::Kind;
 use std::alloc::AllocError;
-use text_places::names::{Field, KindOf, kind_of};
+use text_places::names::{Field, KindOf, kind_of, table_name};
 use tree_schema::Mark;
 
 /// A rule of literals.
@@ -87,17 +87,31 @@ fn other_kind(
         kind_of(schema, field).plain(),
         literal.token.mark == Mark::Quoted,
     ) {
-        (Kind::Integer, true) => {
-            format!(in text.alloc;
+        (Kind::Integer, true) => match schema.child(field.table, field.column) {
+            None => format!(in text.alloc;
                 "{column} is {kind}, and {literal} a text: write a whole number without quotes"
-            )?
-        }
+            )?,
+            Some(child) => a_text_for_a_key(text, child, column, literal)?,
+        },
         (Kind::Chars(_), false) => {
             format!(in text.alloc; "{column} is {kind}, and {literal} a number: write '{literal}'")?
         }
         _ => return Ok(None),
     };
     Ok(Some(told))
+}
+
+/// That a text stands beside a foreign key, which has the ids of a table.
+fn a_text_for_a_key(
+    text: &Read<'_>,
+    child: usize,
+    column: &Column<'_>,
+    literal: &Literal<'_>,
+) -> Result<String, AllocError> {
+    let table = table_name(text.schema, child);
+    format!(in text.alloc;
+        "{column} has the ids of {table}, and {literal} is a text: write an id, or AND {column} = {table}.id with {table} in FROM, and compare a column of {table}"
+    )
 }
 
 /// That a literal does not fit its column, where it does not.

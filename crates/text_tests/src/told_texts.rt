@@ -25,6 +25,7 @@ SELECT day FROM visit WHERE visits.day IS NULL|29: text 1: there is no table vis
 
 const LITERALS: &str =
     "SELECT day FROM visit WHERE day = '5'|35: text 1: day is INTEGER, and '5' a text: write a whole number without quotes
+SELECT day FROM visit WHERE doc = 'Ann'|35: text 1: doc has the ids of doctor, and 'Ann' is a text: write an id, or AND doc = doctor.id with doctor in FROM, and compare a column of doctor
 SELECT age FROM patient WHERE name = -5|38: text 1: name is CHAR(8), and -5 a number: write '-5'
 SELECT age FROM patient WHERE age IS NOT NULL AND name = 5|58: text 1: name is CHAR(8), and 5 a number: write '5'
 SELECT age FROM patient WHERE name BETWEEN 'a' AND 7|52: text 1: name is CHAR(8), and 7 a number: write '7'
