@@ -3,6 +3,7 @@ use Rattle.std.proofs.Common.{◌≤◌, ◌+◌, inl, inr, ℕ, Bool, Err, arit
 use Rattle.std.specs.Prelude.{min}
 use Rattle.ghost_model.specs.core.Causes.{last_count}
 use Rattle.ghost_model.specs.core.Channel.{Catalog}
+use Rattle.ghost_model.specs.core.Database.{IsDatabase}
 use Rattle.edge_traits.specs.Devices.{Device}
 use Rattle.flash_build.specs.Reading.{BlamesCell}
 use Rattle.key_inputs.specs.Outside.{Outside}
@@ -17,7 +18,7 @@ use Rattle.key_migrate.specs.declared.failures.MigrateFailure.TheVariants as fai
 pub unopened : (told : Bool) (words : Migrate) (before after : Outside) (fault : MigrateFailure) → MakesNothing told words before after
     → after.device.calls ≤ before.device.calls + 10 → TellsKey told words.flash before.device after.device fault
     → EndsMigrate {T = Unit {0}} told words (Err fault) before after
-unopened told words before after failure.NoMemory nothing early tells = inl nothing
+unopened told words before after failure.NoMemory nothing early tells = inl (record { nothing = nothing; closed = tells })
 unopened told words before after (failure.NullName item) nothing early tells = absurd tells
 unopened told words before after failure.Depot nothing early tells = absurd tells
 unopened told words before after failure.Flash nothing early tells = inl (record { nothing = nothing; early = early })
@@ -59,7 +60,8 @@ blamed_since since earlier device cat number slot found less blames = record {
 pub unread : (told : Bool) (words : Migrate) (before after : Outside) (cat : Catalog) (since : ℕ) (fault : MigrateFailure) → MakesNothing told words before after
     → min before.device.calls last_count ≤ since → IsWholeKey told words.flash before.device after.device cat
     → TellsParts told words before.files since after.device cat fault → EndsMigrate {T = Unit {0}} told words (Err fault) before after
-unread told words before after cat since failure.NoMemory nothing from key tells = inl nothing
+unread told words before after cat since failure.NoMemory nothing from key tells =
+    inr (inl (record { nothing = nothing; cat = cat; taken = record { key = key; taken = tells.taken }; some = tells.some }))
 unread told words before after cat since (failure.NullName item) nothing from key tells = record { cat = cat; key = key; refused = tells }
 unread told words before after cat since failure.Depot nothing from key tells =
     inl (record { nothing = nothing; cat = cat; taken = record { key = key; taken = tells } })
@@ -89,15 +91,17 @@ unread told words before after cat since failure.NotTheFile nothing from key tel
     record { cat = cat; taken = record { key = key; taken = tells.taken }; none = tells.none }
 
 pub unprepared : (told : Bool) (words : Migrate) (before after : Outside) (source : Source) (fault : MigrateFailure) → MakesNothing told words before after
-    → IsRead told words before.files before.device source → TellsPreparing (new_catalog words source) words.blocks fault
+    → IsRead told words before.files before.device source → IsDatabase (new_catalog words source).schema source.database
+    → TellsPreparing (new_catalog words source) words.blocks fault
     → EndsMigrate {T = Unit {0}} told words (Err fault) before after
-unprepared told words before after source failure.NoMemory nothing read tells = inl nothing
-unprepared told words before after source (failure.NullName item) nothing read tells = absurd tells
-unprepared told words before after source failure.Depot nothing read tells = absurd tells
-unprepared told words before after source failure.Flash nothing read tells = absurd tells
-unprepared told words before after source failure.Sink nothing read tells = absurd tells
-unprepared told words before after source (failure.OldTooSmall needed had) nothing read tells = absurd tells
-unprepared told words before after source (failure.TooSmall needed had) nothing read tells = record { source = source; read = read; small = tells }
-unprepared told words before after source failure.NotAKey nothing read tells = absurd tells
-unprepared told words before after source (failure.Damaged number slot found) nothing read tells = absurd tells
-unprepared told words before after source failure.NotTheFile nothing read tells = absurd tells
+unprepared told words before after source failure.NoMemory nothing read proper tells =
+    inr (inr (record { source = source; ready = record { read = read; proper = proper; enough = tells }; files = nothing.files }))
+unprepared told words before after source (failure.NullName item) nothing read proper tells = absurd tells
+unprepared told words before after source failure.Depot nothing read proper tells = absurd tells
+unprepared told words before after source failure.Flash nothing read proper tells = absurd tells
+unprepared told words before after source failure.Sink nothing read proper tells = absurd tells
+unprepared told words before after source (failure.OldTooSmall needed had) nothing read proper tells = absurd tells
+unprepared told words before after source (failure.TooSmall needed had) nothing read proper tells = record { source = source; read = read; small = tells }
+unprepared told words before after source failure.NotAKey nothing read proper tells = absurd tells
+unprepared told words before after source (failure.Damaged number slot found) nothing read proper tells = absurd tells
+unprepared told words before after source failure.NotTheFile nothing read proper tells = absurd tells

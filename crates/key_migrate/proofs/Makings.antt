@@ -113,7 +113,7 @@ pub unmade_ends : (told : Bool) (words : Migrate) (before after : Outside) (prep
     → EndsMigrate {T = Unit {0}} told words (Err result) before after
 unmade_ends told words before after prepared held load_failure.NoMemory result rows same is order left =
     subst (λ (fault : MigrateFailure). EndsMigrate {T = Unit {0}} told words (Err fault) before after) (sym is)
-    (inr (record { source = rows.source; ready = ready_of told words before prepared rows; files = left refl ∙ sym same }))
+    (inr (inr (record { source = rows.source; ready = ready_of told words before prepared rows; files = left refl ∙ sym same })))
 unmade_ends told words before after prepared held load_failure.Depot result rows same is order left =
     subst (λ (fault : MigrateFailure). EndsMigrate {T = Unit {0}} told words (Err fault) before after) (sym is)
     (inr (record {

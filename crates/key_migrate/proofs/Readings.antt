@@ -21,7 +21,7 @@ use Rattle.key_migrate.specs.declared.failures.MigrateFailure.{MigrateFailure}
 use Rattle.key_migrate.specs.declared.parts.Parts.{Parts}
 use Rattle.key_migrate.proofs.Endings.{unprepared}
 use Rattle.key_migrate.proofs.Named.{named_on}
-use Rattle.key_migrate.proofs.Sources.{is_of_source, is_read, source_of}
+use Rattle.key_migrate.proofs.Sources.{is_of_source, is_read, proper_of_source, source_of}
 
 -- the laws that are cited
 pub record Laws : Type 0 where
@@ -63,4 +63,5 @@ unprepared_ends laws told words before after opened cat now parts (Ok prepared) 
 unprepared_ends laws told words before after opened cat now parts (Err fault) rejoin key are is nothing tells =
     unprepared told words before after (source_of opened cat parts) fault nothing
     (is_read laws.one laws.split laws.goes told words before.files before.device opened cat parts rejoin key are)
+    (proper_of_source laws.widened words opened cat parts rejoin are.public.goes_with are.hidden.legal)
     (subst (λ (held : Catalog). TellsPreparing held words.blocks fault) is tells)

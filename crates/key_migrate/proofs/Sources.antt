@@ -2,6 +2,7 @@
 use Rattle.std.proofs.Common.{◌≡◌, ◌∙◌, ◌≤◌, ℕ, Bool, true, List, map, Option, Some, refl, ap, ap₂, sym, subst}
 use Rattle.std.specs.List.{fold}
 use Rattle.ghost_model.specs.core.Channel.{Catalog}
+use Rattle.ghost_model.specs.core.Database.{IsDatabase}
 use Rattle.ghost_model.specs.core.Query.{Field}
 use Rattle.ghost_model.specs.core.Split.{Public, Hidden, IsPublic, public_of, hidden_of, rejoined, image}
 use Rattle.ghost_model.specs.core.Values.{Database}
@@ -115,6 +116,14 @@ renewed_catalog cat wider now items fields held taken same wide is =
     ∙ (ap (λ (one : Catalog). catalog_of one.schema one.counts one.generation) (wide ∙ ap (catalog_with cat) same)
     ∙ ap (λ (named : List (Option Field)). catalog_of (fold with_field cat.schema named) cat.counts cat.generation) (sym taken.named))
 
+-- the rows are a database of the new schema too
+pub proper_of_source : WidenedSchemasKeepDatabases → (words : Migrate) (opened : Device) (cat : Catalog) (parts : Parts)
+    → LegalPartsRejoin cat → IsPublic cat parts.public → IsLegalPart cat parts.hidden
+    → IsDatabase (migrated cat words.null).schema (source_of opened cat parts).database
+proper_of_source widened words opened cat parts rejoin goes legal =
+    widened.databases cat.schema (with_items cat.schema words.null) (rejoined cat.schema parts.public parts.hidden)
+    (widened_all cat.schema (map (item_field cat.schema) words.null)) (rejoin parts.public parts.hidden goes legal).proper
+
 pub is_of_source : WidenedSchemasKeepDatabases → (words : Migrate) (opened : Device) (cat : Catalog) (parts : Parts) (prepared : Prepared)
     → LegalPartsRejoin cat → IsPublic cat parts.public → IsLegalPart cat parts.hidden
     → IsPrepared (migrated cat words.null) parts.public parts.hidden words.blocks prepared
@@ -141,5 +150,5 @@ is_of_source widened words opened cat parts prepared rejoin goes legal made =
       part =
           subst (λ (hidden : Hidden). IsHidden prepared.cat hidden) (sym made.hidden_is)
           (subst (λ (held : Catalog). IsHidden held parts.hidden) (sym made.cat_is) part);
-      proper = widened.databases cat.schema later database is both.proper;
+      proper = proper_of_source widened words opened cat parts rejoin goes legal;
     }

@@ -1,5 +1,5 @@
 -- What is to be written, in memory, and what it is of.
-use Rattle.std.specs.Prelude.{◌≡◌, ℕ, ◌*◌, ◌≤◌, Bool, Option, ⊤}
+use Rattle.std.specs.Prelude.{◌≡◌, ℕ, ◌*◌, ◌≤◌, Bool, Option}
 use Rattle.ghost_model.specs.core.Channel.{Catalog}
 use Rattle.ghost_model.specs.core.Database.{IsDatabase}
 use Rattle.ghost_model.specs.core.Split.{Public, Hidden, image}
@@ -25,9 +25,9 @@ pub record IsPrepared (cat : Catalog) (public : Public) (hidden : Hidden) (asked
   pub enough : need prepared.cat ≤ 64 * prepared.blocks
   pub most : prepared.blocks ≤ most_blocks
 
--- it was not prepared
+-- it was not prepared; memory is taken only where the new device is to be large enough
 abbrev pub TellsPreparing : Catalog → (asked : Option ℕ) → MigrateFailure → Type 0
-TellsPreparing cat asked failure.NoMemory = ⊤
+TellsPreparing cat asked failure.NoMemory = need cat ≤ pages_for cat asked
 TellsPreparing cat asked (failure.TooSmall needed had) = IsTooSmall needed had (need cat) (pages_for cat asked)
 TellsPreparing cat asked _ = ⊥
 

@@ -11,14 +11,14 @@ use Rattle.key_words.specs.Words.{Migrate}
 use Rattle.key_migrate.specs.Fields.{AreTaken}
 use Rattle.key_migrate.specs.Items.{refused_item}
 use Rattle.key_migrate.specs.Results.{IsNoKey, EndsEarly}
-use Rattle.key_migrate.specs.Stages.{HoldsNoPart, IsHiddenOn, IsImageIn}
+use Rattle.key_migrate.specs.Stages.{HoldsNoPart, IsHiddenOn, IsImageIn, IsSomeImageIn}
 use Rattle.key_migrate.specs.declared.failures.MigrateFailure.{MigrateFailure}
 use Rattle.key_migrate.specs.declared.failures.MigrateFailure.TheVariants as failure
 use Rattle.key_migrate.specs.declared.parts.Parts.{Parts}
 
--- the old flash was not opened, or is no key
+-- the old flash was not opened, or is no key; only its opening takes memory
 abbrev pub TellsKey : (told : Bool) → (flash : List ℕ) → (before after : Device) → MigrateFailure → Type 0
-TellsKey told flash before after failure.NoMemory = ⊤
+TellsKey told flash before after failure.NoMemory = after.name ≡ None
 TellsKey told flash before after failure.Flash = ⊤
 TellsKey told flash before after failure.NotAKey = IsNoKey told flash before after
 TellsKey told flash before after (failure.OldTooSmall needed had) = EndsEarly told flash before after needed had
@@ -33,9 +33,9 @@ pub record IsPublicIn (contents : Option Files) (name : List ℕ) (cat : Catalog
 abbrev pub IsNoImageIn : (contents : Option Files) → (name : List ℕ) → Catalog → Type 0
 IsNoImageIn contents name cat = (file : List ℕ) → file_of contents name ≡ Some file → IsNoImageOf cat file
 
--- the host's file was not read
+-- the host's file was not read; memory is taken only where it is an image
 abbrev pub TellsFile : (contents : Option Files) → (name : List ℕ) → Catalog → MigrateFailure → Type 0
-TellsFile contents name cat failure.NoMemory = ⊤
+TellsFile contents name cat failure.NoMemory = IsSomeImageIn contents name cat
 TellsFile contents name cat failure.Depot = ⊤
 TellsFile contents name cat failure.NotTheFile = IsNoImageIn contents name cat
 TellsFile contents name cat _ = ⊥
@@ -77,9 +77,13 @@ pub record FindsNoImage (words : Migrate) (contents : Option Files) (cat : Catal
   pub taken : refused_item cat.schema words.null ≡ None
   pub none : IsNoImageIn contents words.visible cat
 
--- not all of them was read
+pub record HasSomeImage (words : Migrate) (contents : Option Files) (cat : Catalog) : Type 0 where
+  pub taken : refused_item cat.schema words.null ≡ None
+  pub some : IsSomeImageIn contents words.visible cat
+
+-- not all of them was read; memory is taken only behind the items, and of a file that is an image
 abbrev pub TellsParts : (told : Bool) → Migrate → (contents : Option Files) → (since : ℕ) → Device → Catalog → MigrateFailure → Type 0
-TellsParts told words contents since device cat failure.NoMemory = ⊤
+TellsParts told words contents since device cat failure.NoMemory = HasSomeImage words contents cat
 TellsParts told words contents since device cat (failure.NullName item) = refused_item cat.schema words.null ≡ Some item
 TellsParts told words contents since device cat failure.Depot = refused_item cat.schema words.null ≡ None
 TellsParts told words contents since device cat failure.NotTheFile = FindsNoImage words contents cat

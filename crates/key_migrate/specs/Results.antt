@@ -1,7 +1,7 @@
 -- What a call of `migrate` did, by its result. What is met first decides, in this order: the old device is no key, or too small for
 -- its files; an item is refused; the host's file is not the device's; a slot is damaged; the new device would be too small. Only then is
 -- the new device made: first the files of the hidden part, then the host's file, then the public pages, page 0 last.
-use Rattle.std.specs.Prelude.{◌≡◌, ◌⊎◌, ℕ, ◌+◌, ◌≤◌, ◌<◌, min, Bool, true, false, List, [], ◌∷◌, ◌++◌, length, codes, decimal, Some, Result, Ok, Err}
+use Rattle.std.specs.Prelude.{◌≡◌, ◌⊎◌, ℕ, ◌+◌, ◌≤◌, ◌<◌, min, Bool, true, false, List, [], ◌∷◌, ◌++◌, length, codes, decimal, Some, None, Result, Ok, Err}
 use Rattle.std.specs.List.{sum}
 use Rattle.ghost_model.specs.core.Causes.{last_count}
 use Rattle.ghost_model.specs.core.Channel.{Catalog}
@@ -20,7 +20,7 @@ use Rattle.key_words.specs.Words.{Migrate}
 use Rattle.key_migrate.specs.Devices.{KeepsNamed, IsNoOther}
 use Rattle.key_migrate.specs.Items.{migrated, refused_item}
 use Rattle.key_migrate.specs.PublicPages.{HasNoCatalog}
-use Rattle.key_migrate.specs.Stages.{Source, HoldsNoPart, Opens, IsKey, IsWholeKey, TakesItems, HasImage, IsRead}
+use Rattle.key_migrate.specs.Stages.{Source, HoldsNoPart, Opens, IsKey, IsWholeKey, TakesItems, HasImage, IsSomeImageIn, IsRead}
 use Rattle.key_migrate.specs.declared.failures.MigrateFailure.{MigrateFailure}
 use Rattle.key_migrate.specs.declared.failures.MigrateFailure.TheVariants as failure
 
@@ -173,7 +173,19 @@ pub record FailsFile (told : Bool) (words : Migrate) (before after : Outside) : 
   pub cat : Catalog
   pub taken : TakesItems told words before.device after.device cat
 
--- memory was wanting: before the new device was made, or while it was
+-- memory was wanting for the opening of the old device, which is not open then
+pub record WantsOpening (told : Bool) (words : Migrate) (before after : Outside) : Type 0 where
+  pub nothing : MakesNothing told words before after
+  pub closed : after.device.name ≡ None
+
+-- or for its rows: all items are taken, and the host's file is no other than an image of some public part
+pub record WantsRows (told : Bool) (words : Migrate) (before after : Outside) : Type 0 where
+  pub nothing : MakesNothing told words before after
+  pub cat : Catalog
+  pub taken : TakesItems told words before.device after.device cat
+  pub some : IsSomeImageIn before.files words.visible cat
+
+-- or behind them, the new device being large enough: before it was made, or while it was
 pub record WantsMemory (told : Bool) (words : Migrate) (before after : Outside) : Type 0 where
   pub source : Source
   pub ready : IsReady told words before source
@@ -181,7 +193,8 @@ pub record WantsMemory (told : Bool) (words : Migrate) (before after : Outside) 
 
 abbrev pub EndsMigrate : {T : Type 0} → (told : Bool) → Migrate → Result T MigrateFailure → (before after : Outside) → Type 0
 EndsMigrate told words (Ok _) before after = Migrates told words before after
-EndsMigrate told words (Err failure.NoMemory) before after = MakesNothing told words before after ⊎ WantsMemory told words before after
+EndsMigrate told words (Err failure.NoMemory) before after =
+    WantsOpening told words before after ⊎ (WantsRows told words before after ⊎ WantsMemory told words before after)
 EndsMigrate told words (Err (failure.NullName item)) before after = RefusesItem told words before.device after.device item
 EndsMigrate told words (Err failure.Depot) before after = FailsFile told words before after ⊎ BuildsAlone told words before after
 EndsMigrate told words (Err failure.Flash) before after =

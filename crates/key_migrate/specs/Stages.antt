@@ -12,6 +12,7 @@ use Rattle.edge_traits.specs.Devices.{Device, pages_under}
 use Rattle.edge_traits.specs.Files.{Files, file_of}
 use Rattle.flash_build.specs.Reading.{HasPart}
 use Rattle.flash_build.specs.Sealing.{public_bytes}
+use Rattle.host_exec.specs.Checked.{IsNoImageOf}
 use Rattle.key_words.specs.Words.{Migrate}
 use Rattle.key_migrate.specs.Devices.{KeepsNamed}
 use Rattle.key_migrate.specs.Items.{refused_item}
@@ -42,6 +43,10 @@ pub record TakesItems (told : Bool) (words : Migrate) (before opened : Device) (
 -- the host's file, where the depot tells it, is the image of that public part
 abbrev pub IsImageIn : (contents : Option Files) → (name : List ℕ) → Catalog → Public → Type 0
 IsImageIn contents name cat public = (file : List ℕ) → file_of contents name ≡ Some file → SpellsImage cat public file
+
+-- it is no other file than an image of some public part
+abbrev pub IsSomeImageIn : (contents : Option Files) → (name : List ℕ) → Catalog → Type 0
+IsSomeImageIn contents name cat = (file : List ℕ) → file_of contents name ≡ Some file → IsNoImageOf cat file → ⊥
 
 pub record HasImage (told : Bool) (words : Migrate) (contents : Option Files) (before opened : Device) (cat : Catalog) (public : Public) : Type 0 where
   pub taken : TakesItems told words before opened cat
